@@ -1,0 +1,147 @@
+-- The bench cases A to F, with the box and the diamond of no move, as one table under one claim: from the bytes of a model
+-- and of its batches to the answers and the rooms. Two more rows have an equation that names one variable twice, and one
+-- that leans on an earlier block. Assumes nothing.
+use mathlib.Core.Path.{_≡_, refl}
+use mathlib.Core.List.{List, [], _∷_, _++_}
+use Prim.Native.Nat.{ℕ}
+use lib.IntN.{ℤ, pos, negsuc}
+use lib.ListN.{replicate}
+use Rattle.lists.specs.Lists.{over}
+use Rattle.lists.specs.Smallest.{smallest}
+use Rattle.rules.specs.Limits.{sizesOk}
+use Rattle.rules.specs.Moves.{stampOf}
+use Rattle.rules.specs.Model.{labelOk, moveOk, operandsOk, namesOk, wellFormed}
+use Rattle.rules.specs.Records.{Outcome, refused, accepted, widths, partsFrom, run}
+use Rattle.rules.specs.Rooms.{Rooms, roomsOk}
+use Rattle.rules.specs.Load.{blockFits, step, put, last, readModel}
+use Rattle.rules.specs.Spelling.{records}
+use Rattle.rules.specs.Batch.{stepBatch, putBatch, readBatch, edited, judge}
+use Rattle.rules.specs.Values.{termAt, blockOf, greatest, leanings, gives, settles, solveTo, solve}
+use Rattle.rules.specs.Update.{shifts, turnBlock, turnTo, turnAll, visitsOn}
+use Rattle.rules.specs.Session.{countsOk, restOk}
+use Rattle.rules.specs.Calls.{Left, load, judged, batch, write}
+use Rattle.rules.specs.declared.Session.{Session}
+use Rattle.rules.specs.declared.Report.{Report}
+
+-- What is seen of a load: the values, the stamp, and the bytes that a writing gives back.
+-- What is seen of a batch: the values, the marks, the net change, the visits and the stamp.
+pub data Seen : Type 0 where
+  loaded : List ℕ → ℕ → List ℕ → Seen
+  moved : List ℕ → List ℕ → ℤ → ℕ → ℕ → ℕ → Seen
+  no : ℕ → ℕ → Seen
+
+-- Rooms with places to spare, filled with 9.
+abbrev lent : Rooms
+lent = record {
+  labels = replicate 3 9;
+  equations = replicate 4 9;
+  values = replicate 7 9;
+  marks = replicate 7 9;
+  moves = replicate 4 9;
+}
+
+abbrev afterBatch : Left Report Rooms → Outcome Report → (Session → Rooms → List Seen) → List Seen
+afterBatch c (refused n p) k = no n p ∷ []
+afterBatch c (accepted r) k =
+    moved (c .rooms .values) (c .rooms .marks) (r .net) (r .visits .shift) (r .visits .settle) (r .session .stamp)
+    ∷ k (r .session) (c .rooms)
+
+abbrev batches : Session → Rooms → List (List ℕ) → List Seen
+batches s l [] = []
+batches s l (b ∷ bs) = let c = batch s l b in afterBatch c (c .answer) (λ s′ l′. batches s′ l′ bs)
+
+abbrev afterLoad : Left Session Rooms → Outcome Session → List (List ℕ) → List Seen
+afterLoad c (refused n p) bs = no n p ∷ []
+afterLoad c (accepted s) bs =
+    loaded (c .rooms .values) (s .stamp) (write s (c .rooms) (replicate 44 9) .rooms) ∷ batches s (c .rooms) bs
+
+-- A model loaded, and then its batches.
+abbrev see : List ℕ → List (List ℕ) → List Seen
+see m bs = let c = load lent m in afterLoad c (c .answer) bs
+
+-- Two states, one action, one greatest block, X = o 0 X, no moves. Where o is 6, diamond, this is model G.
+abbrev one : ℕ → List ℕ
+one o = 1 ∷ 2 ∷ 0 ∷ 1 ∷ 0 ∷ 1 ∷ 1 ∷ 3 ∷ 1 ∷ 1 ∷ 4 ∷ o ∷ 0 ∷ 0 ∷ 6 ∷ []
+
+-- One least block, X0 = X1 or X2, X1 = proposition 0 (true at state 1 only), X2 = diamond 0 X0, moves (0,0,0) and (0,0,1).
+abbrev e : List ℕ
+e =
+    1 ∷ 2 ∷ 0 ∷ 1 ∷ 1 ∷ 3 ∷ 1
+    ∷ 2 ∷ 1 ∷ 0 ∷ 1 ∷ 0 ∷ 0 ∷ 0
+    ∷ 3 ∷ 0 ∷ 3 ∷ 4 ∷ 4 ∷ 1 ∷ 2 ∷ 4 ∷ 2 ∷ 0 ∷ 0 ∷ 4 ∷ 6 ∷ 0 ∷ 0
+    ∷ 5 ∷ 0 ∷ 0 ∷ 0 ∷ 0 ∷ 0 ∷ 5 ∷ 0 ∷ 0 ∷ 0 ∷ 1 ∷ 0 ∷ 6 ∷ []
+
+-- X0 = diamond 0 X0 and X1 = X0 and X0, both greatest: in one block, and in two.
+abbrev twice : List ℕ
+twice =
+    1 ∷ 2 ∷ 0 ∷ 1 ∷ 0 ∷ 2 ∷ 1 ∷ 3 ∷ 1 ∷ 2 ∷ 4 ∷ 6 ∷ 0 ∷ 0 ∷ 4 ∷ 5 ∷ 0 ∷ 0 ∷ 6 ∷ []
+
+abbrev later : List ℕ
+later =
+    1 ∷ 2 ∷ 0 ∷ 1 ∷ 0 ∷ 2 ∷ 2 ∷ 3 ∷ 1 ∷ 1 ∷ 4 ∷ 6 ∷ 0 ∷ 0 ∷ 3 ∷ 1 ∷ 1 ∷ 4 ∷ 5 ∷ 0 ∷ 0 ∷ 6 ∷ []
+
+-- A batch of one change, an insert (8) or a delete (9) of the move (s, 0, t), against the stamp a + 256 b + 65,536 c.
+abbrev change : ℕ → ℕ → ℕ → ℕ → ℕ → ℕ → List ℕ
+change a b c kind s t = 7 ∷ a ∷ b ∷ c ∷ 0 ∷ kind ∷ s ∷ 0 ∷ 0 ∷ t ∷ 0 ∷ 6 ∷ []
+
+-- The batches A to F. F changes nothing, against the stamp that E leaves.
+abbrev A : List ℕ
+A = change 0 0 0 8 0 0
+
+abbrev B : List ℕ
+B = change 1 0 0 8 1 0
+
+abbrev C : List ℕ
+C = change 3 0 1 9 0 0
+
+abbrev D : List ℕ
+D = change 0 0 0 8 0 1
+
+abbrev E : List ℕ
+E = change 3 1 0 9 0 1
+
+abbrev F : List ℕ
+F = 7 ∷ 1 ∷ 0 ∷ 0 ∷ 0 ∷ 6 ∷ []
+
+-- A room of n places, filled with 9 past what was written.
+abbrev room : ℕ → List ℕ → List ℕ
+room n l = over l (replicate n 9)
+
+abbrev cases : List (List Seen)
+cases =
+    see (one 6) (A ∷ B ∷ C ∷ [])
+    ∷ see (one 6) (D ∷ [])
+    ∷ see e (E ∷ F ∷ [])
+    ∷ see (one 7) []
+    ∷ see twice (A ∷ [])
+    ∷ see later (A ∷ [])
+    ∷ []
+
+-- Values, stamp and bytes of each load; values, marks, net change, visits and stamp of each batch.
+pub bench :
+    cases
+    ≡ (loaded (room 7 (0 ∷ 0 ∷ [])) 0 (room 44 (one 6))
+    ∷ moved (room 7 (1 ∷ 0 ∷ [])) (room 7 (1 ∷ 0 ∷ [])) (pos 1) 1 0 1
+    ∷ moved (room 7 (1 ∷ 1 ∷ [])) (room 7 (0 ∷ 1 ∷ [])) (pos 1) 0 0 65539
+    ∷ moved (room 7 (0 ∷ 0 ∷ [])) (room 7 (3 ∷ 3 ∷ [])) (negsuc 1) 0 1 65538
+    ∷ [])
+    ∷ (loaded (room 7 (0 ∷ 0 ∷ [])) 0 (room 44 (one 6))
+    ∷ moved (room 7 (0 ∷ 0 ∷ [])) (room 7 (2 ∷ 0 ∷ [])) (pos 0) 0 0 258
+    ∷ [])
+    ∷ (loaded (room 7 (1 ∷ 1 ∷ 0 ∷ 1 ∷ 1 ∷ 0 ∷ [])) 259 (room 44 e)
+    ∷ moved (room 7 (0 ∷ 1 ∷ 0 ∷ 1 ∷ 0 ∷ 0 ∷ [])) (room 7 (1 ∷ 0 ∷ 0 ∷ 0 ∷ 1 ∷ 0 ∷ [])) (negsuc 1) 2 0 1
+    ∷ moved (room 7 (0 ∷ 1 ∷ 0 ∷ 1 ∷ 0 ∷ 0 ∷ [])) (room 7 (0 ∷ 0 ∷ 0 ∷ 0 ∷ 0 ∷ 0 ∷ [])) (pos 0) 0 0 1
+    ∷ [])
+    ∷ (loaded (room 7 (1 ∷ 1 ∷ [])) 0 (room 44 (one 7)) ∷ [])
+    ∷ (loaded (room 7 (0 ∷ 0 ∷ 0 ∷ 0 ∷ [])) 0 (room 44 twice)
+    ∷ moved (room 7 (1 ∷ 0 ∷ 1 ∷ 0 ∷ [])) (room 7 (1 ∷ 0 ∷ 1 ∷ 0 ∷ [])) (pos 2) 3 0 1
+    ∷ [])
+    ∷ (loaded (room 7 (0 ∷ 0 ∷ 0 ∷ 0 ∷ [])) 0 (room 44 later)
+    ∷ moved (room 7 (1 ∷ 0 ∷ 1 ∷ 0 ∷ [])) (room 7 (1 ∷ 0 ∷ 1 ∷ 0 ∷ [])) (pos 2) 1 0 1
+    ∷ [])
+    ∷ []
+unfolding
+  load readModel run partsFrom widths step put last sizesOk roomsOk blockFits labelOk moveOk operandsOk namesOk solve solveTo settles smallest
+  blockOf greatest termAt gives leanings write countsOk restOk wellFormed stampOf records batch judged readBatch stepBatch putBatch judge edited
+  turnAll turnTo turnBlock shifts visitsOn
+bench = refl

@@ -1,0 +1,14 @@
+pub mod Limits
+pub mod Moves
+pub mod Model
+pub mod Records
+pub mod Rooms
+pub mod Load
+pub mod Spelling
+pub mod Batch
+pub mod Values
+pub mod Update
+pub mod Session
+pub mod Calls
+pub mod Answers
+pub mod Bench

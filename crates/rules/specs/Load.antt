@@ -1,0 +1,175 @@
+-- How a model is read, record by record: every refusal of a load, with its number and its place. Definitions only.
+use mathlib.Core.Bool.{Bool, true, false, cond, _&&_, _||_}
+use mathlib.Core.List.{List, [], _∷_, _++_}
+use Prim.Native.Nat.{ℕ, suc, _+_, _-_, min}
+use lib.ListN.{replicate}
+use lib.Dec.{eqb, ltb, leb}
+use Rattle.rules.specs.Limits.{most-moves, sizesOk}
+use Rattle.rules.specs.Moves.{pack}
+use Rattle.rules.specs.Model.{Equation, Model, labelOk, moveOk, operandsOk, namesOk}
+use Rattle.rules.specs.Records.{Rec, field, Turn, no, next, over, demand, Outcome, run, parts}
+use Rattle.rules.specs.Rooms.{Lengths, roomsOk}
+use Rattle.rules.specs.declared.Sizes.{Sizes}
+
+-- Of the blocks so far: how many records, the kind of the last, how many of its equations are still due, and how many
+-- equations there were in all.
+pub record Blocks : Type 0 where
+  pub count : ℕ
+  pub kind : ℕ
+  pub due : ℕ
+  pub equations : ℕ
+
+-- Of the moves so far: how many, and the least number that the next may have.
+pub record Moves : Type 0 where
+  pub count : ℕ
+  pub least : ℕ
+
+-- What has been read so far, in numbers. Labels have passed the states below `labels`.
+pub record Sofar : Type 0 where
+  pub sizes : Sizes
+  pub labels : ℕ
+  pub blocks : Blocks
+  pub moves : Moves
+
+-- Before the sizes record, and after it.
+pub data State : Type 0 where
+  before : State
+  inside : Sofar → State
+
+-- The sizes: one record of kind 1, each size inside its limits, and the rooms as long as the sizes need.
+abbrev pub sizesOf : Rec → Sizes
+sizesOf r =
+    record { states = field r 0; actions = field r 1; propositions = field r 2; variables = field r 3; blocks = field r 4 }
+
+abbrev pub sizesDemands : Lengths → Rec → List (ℕ × Bool)
+sizesDemands l r = (2, eqb (r .kind) 1) ∷ (3, sizesOk (sizesOf r)) ∷ (13, roomsOk l (sizesOf r)) ∷ []
+
+abbrev pub started : Sizes → Sofar
+started z =
+    record {
+      sizes = z;
+      labels = 0;
+      blocks = record { count = 0; kind = 0; due = 0; equations = 0 };
+      moves = record { count = 0; least = 0 };
+    }
+
+-- A label of state s with the set v: due before the first block; a state, a set that is not empty and not too high; in
+-- order.
+abbrev pub labelDemands : Sofar → ℕ → ℕ → List (ℕ × Bool)
+labelDemands x s v =
+    (2, eqb (x .blocks .count) 0)
+    ∷ (4, ltb s (x .sizes .states) && ltb 0 v && labelOk (x .sizes) v)
+    ∷ (6, leb (x .labels) s)
+    ∷ []
+
+abbrev pub afterLabel : Sofar → ℕ → Sofar
+afterLabel x s = record { sizes = x .sizes; labels = suc s; blocks = x .blocks; moves = x .moves }
+
+-- A block of kind k with n variables: due where no equation is and blocks are left; it takes 1 to all of the variables
+-- that remain, and the last block all; its kind is 0 or 1.
+unfoldable pub blockFits : Sofar → ℕ → Bool
+blockFits x n =
+    ltb 0 n && leb (x .blocks .equations + n) (x .sizes .variables)
+    && (ltb (suc (x .blocks .count)) (x .sizes .blocks) || eqb (x .blocks .equations + n) (x .sizes .variables))
+
+abbrev pub blockDemands : Sofar → ℕ → ℕ → List (ℕ × Bool)
+blockDemands x k n =
+    (2, eqb (x .blocks .due) 0 && ltb (x .blocks .count) (x .sizes .blocks)) ∷ (3, blockFits x n) ∷ (4, leb k 1) ∷ []
+
+abbrev pub afterBlock : Sofar → ℕ → ℕ → Sofar
+afterBlock x k n =
+    record {
+      sizes = x .sizes;
+      labels = x .sizes .states;
+      blocks = record { count = suc (x .blocks .count); kind = k; due = n; equations = x .blocks .equations };
+      moves = x .moves;
+    }
+
+-- An equation: due inside a block; its numbers in range; it names no variable of a later block.
+abbrev pub equationDemands : Sofar → ℕ → ℕ → ℕ → List (ℕ × Bool)
+equationDemands x o a b =
+    (2, ltb 0 (x .blocks .due))
+    ∷ (4, operandsOk (x .sizes) o a b)
+    ∷ (5, namesOk (x .blocks .equations + x .blocks .due) o a b)
+    ∷ []
+
+abbrev pub afterEquation : Sofar → Sofar
+afterEquation x =
+    record {
+      sizes = x .sizes;
+      labels = x .labels;
+      blocks = record { count = x .blocks .count; kind = x .blocks .kind; due = x .blocks .due - 1; equations = suc (x .blocks .equations) };
+      moves = x .moves;
+    }
+
+-- A move: due after the last equation; in range; in order; and there is room for it. The end record is due there too.
+abbrev pub movesDue : Sofar → Bool
+movesDue x = eqb (x .blocks .due) 0 && eqb (x .blocks .count) (x .sizes .blocks)
+
+abbrev pub moveDemands : Lengths → Sofar → ℕ → ℕ → ℕ → List (ℕ × Bool)
+moveDemands l x s a t =
+    (2, movesDue x)
+    ∷ (4, moveOk (x .sizes) s a t)
+    ∷ (6, leb (x .moves .least) (pack s a t))
+    ∷ (10, ltb (x .moves .count) (min most-moves (l .moves)))
+    ∷ []
+
+abbrev pub afterMove : Sofar → ℕ → Sofar
+afterMove x q =
+    record { sizes = x .sizes; labels = x .labels; blocks = x .blocks; moves = record { count = suc (x .moves .count); least = suc q } }
+
+abbrev pub endDemands : Sofar → List (ℕ × Bool)
+endDemands x = (2, movesDue x) ∷ []
+
+-- One record after the sizes, by its kind k and its numbers a, b, c. The kinds 1, 7, 8 and 9 are never due there.
+abbrev pub go : List (ℕ × Bool) → Sofar → Turn State
+go ds x = demand ds (next (inside x))
+
+abbrev pub stepIn : Lengths → Sofar → ℕ → ℕ → ℕ → ℕ → Turn State
+stepIn l x k a b c =
+    cond (eqb k 2) (go (labelDemands x a b) (afterLabel x a))
+    (cond (eqb k 3) (go (blockDemands x a b) (afterBlock x a b))
+    (cond (eqb k 4) (go (equationDemands x a b c) (afterEquation x))
+    (cond (eqb k 5) (go (moveDemands l x a b c) (afterMove x (pack a b c)))
+    (cond (eqb k 6) (demand (endDemands x) over)
+    (no 2)))))
+
+unfoldable pub step : Lengths → State → Rec → Turn State
+step l before r = go (sizesDemands l r) (started (sizesOf r))
+step l (inside x) r = stepIn l x (r .kind) (field r 0) (field r 1) (field r 2)
+
+-- What a record says, in front of what the later ones say. States without a label have the empty set.
+abbrev pub putLabels : List ℕ → Model → Model
+putLabels l m = record { sizes = m .sizes; labels = l ++ m .labels; equations = m .equations; moves = m .moves }
+
+abbrev pub putEquation : Equation → Model → Model
+putEquation e m = record { sizes = m .sizes; labels = m .labels; equations = e ∷ m .equations; moves = m .moves }
+
+abbrev pub putMove : ℕ → Model → Model
+putMove q m = record { sizes = m .sizes; labels = m .labels; equations = m .equations; moves = q ∷ m .moves }
+
+abbrev pub equationOf : Sofar → ℕ → ℕ → ℕ → Equation
+equationOf x o a b = record { operator = o; first = a; second = b; block = x .blocks .count - 1; kind = x .blocks .kind }
+
+abbrev pub sayIn : Sofar → ℕ → ℕ → ℕ → ℕ → Model → Model
+sayIn x k a b c m =
+    cond (eqb k 2) (putLabels (replicate (a - x .labels) 0 ++ (b ∷ [])) m)
+    (cond (eqb k 3) (putLabels (replicate (x .sizes .states - x .labels) 0) m)
+    (cond (eqb k 4) (putEquation (equationOf x a b c) m)
+    (cond (eqb k 5) (putMove (pack a b c) m)
+    m)))
+
+unfoldable pub put : State → Rec → Model → Model
+put before r m = m
+put (inside x) r m = sayIn x (r .kind) (field r 0) (field r 1) (field r 2) m
+
+abbrev pub lastOf : Sizes → Model
+lastOf z = record { sizes = z; labels = []; equations = []; moves = [] }
+
+unfoldable pub last : State → Model
+last before = lastOf (record { states = 0; actions = 0; propositions = 0; variables = 0; blocks = 0 })
+last (inside x) = lastOf (x .sizes)
+
+-- The model that the bytes spell, or the refusal, where the rooms lent have these lengths.
+unfoldable pub readModel : Lengths → List ℕ → Outcome Model
+readModel l s = run (step l) put last before (parts s)

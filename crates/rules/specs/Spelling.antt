@@ -1,0 +1,50 @@
+-- The one spelling of a model: the sizes, labels by ascending state, each block with its equations, moves, the end.
+-- Definitions only.
+use mathlib.Core.Bool.{cond}
+use mathlib.Core.List.{List, [], _∷_, _++_}
+use Prim.Native.Nat.{ℕ, zero, suc}
+use lib.Dec.{eqb}
+use Rattle.rules.specs.Moves.{source, action, target}
+use Rattle.rules.specs.Model.{Equation, Model, runOf}
+use Rattle.rules.specs.Records.{Rec, bytesOf}
+use Rattle.rules.specs.declared.Sizes.{Sizes}
+
+abbrev pub sizesRec : Sizes → Rec
+sizesRec z = record { kind = 1; body = z .states ∷ z .actions ∷ z .propositions ∷ z .variables ∷ z .blocks ∷ [] }
+
+-- From state s on. A state with the empty set has no record.
+abbrev pub labelRecs : ℕ → List ℕ → List Rec
+labelRecs s [] = []
+labelRecs s (zero ∷ l) = labelRecs (suc s) l
+labelRecs s (suc v ∷ l) = record { kind = 2; body = s ∷ suc v ∷ [] } ∷ labelRecs (suc s) l
+
+abbrev pub blockRec : ℕ → ℕ → Rec
+blockRec k n = record { kind = 3; body = k ∷ n ∷ [] }
+
+abbrev pub equationRec : Equation → Rec
+equationRec e = record { kind = 4; body = e .operator ∷ e .first ∷ e .second ∷ [] }
+
+-- Where b block records stand before.
+abbrev pub equationRecs : ℕ → List Equation → List Rec
+equationRecs b [] = []
+equationRecs b (e ∷ l) =
+    cond (eqb (suc (e .block)) b) (equationRec e ∷ equationRecs b l)
+    (blockRec (e .kind) (suc (runOf (suc (e .block)) l)) ∷ equationRec e ∷ equationRecs (suc (e .block)) l)
+
+abbrev pub moveRec : ℕ → Rec
+moveRec q = record { kind = 5; body = source q ∷ action q ∷ target q ∷ [] }
+
+abbrev pub endRec : Rec
+endRec = record { kind = 6; body = [] }
+
+abbrev pub moveRecs : List ℕ → List Rec
+moveRecs [] = endRec ∷ []
+moveRecs (q ∷ l) = moveRec q ∷ moveRecs l
+
+unfoldable pub records : Model → List Rec
+records m =
+    sizesRec (m .sizes) ∷ (labelRecs 0 (m .labels) ++ (equationRecs 0 (m .equations) ++ moveRecs (m .moves)))
+
+-- The bytes of a model.
+abbrev pub encode : Model → List ℕ
+encode m = bytesOf (records m)

@@ -1,0 +1,97 @@
+// What every layer speaks of: the numbers of states, actions and variables, moves, sizes, sessions, refusals, and the
+// answers of the four calls. What all of it means stands in specs/.
+
+// A state, an action and a variable: three kinds of number that do not mix.
+pub struct State(pub u16);
+
+pub struct Action(pub u8);
+
+pub struct Variable(pub u8);
+
+pub struct Move {
+    pub source: State,
+    pub action: Action,
+    pub target: State,
+}
+
+// How many of each a model has.
+pub struct Sizes {
+    pub states: u16,
+    pub actions: u8,
+    pub propositions: u8,
+    pub variables: u8,
+    pub blocks: u8,
+}
+
+// The small part of a session, kept by value: how many moves lie in the room lent for them, and their stamp.
+pub struct Session {
+    pub sizes: Sizes,
+    pub moves: u32,
+    pub stamp: u32,
+}
+
+// Why the checker says no, in the order of the paper's numbers 1 to 13.
+pub enum Refusal {
+    Broken,
+    NotDue,
+    BadSize,
+    BadNumber,
+    LaterBlock,
+    OutOfOrder,
+    Present,
+    Absent,
+    NamedTwice,
+    Full,
+    WrongStamp,
+    NotAModel,
+    ShortRoom,
+}
+
+// What a load answers: a refusal with its place, or the session.
+pub enum Loaded {
+    Refused(Refusal, usize),
+    Accepted(Session),
+}
+
+// Leanings, inside one block, on shifted pairs and on settled pairs.
+pub struct Visits {
+    pub shift: u32,
+    pub settle: u32,
+}
+
+// What an accepted batch reports: the session after it, the visits, and the change in the number of true pairs.
+pub struct Report {
+    pub session: Session,
+    pub visits: Visits,
+    pub net: i32,
+}
+
+pub enum Updated {
+    Refused(Refusal, usize),
+    Accepted(Report),
+}
+
+// What a writing answers: a refusal, or the number of bytes written.
+pub enum Written {
+    Refused(Refusal, usize),
+    Accepted(usize),
+}
+
+// What a question about one pair answers: a refusal, or its value.
+pub enum Asked {
+    Refused(Refusal, usize),
+    Accepted(bool),
+}
+
+// One record of the wire.
+pub enum Record {
+    Sizes(Sizes),
+    Label(State, u32),
+    Block(u8, u8),
+    Equation(u8, u8, u8),
+    Move(Move),
+    End,
+    Stamp(u32),
+    Insert(Move),
+    Delete(Move),
+}
