@@ -50,5 +50,5 @@ listed i zero f = []
 listed i (suc n) f = f i ∷ listed (suc i) n f
 
 -- The room with its first places filled; the places past these are as they were.
-abbrev pub over : List ℕ → List ℕ → List ℕ
-over new room = new ++ drop (length new) room
+abbrev pub fill : List ℕ → List ℕ → List ℕ
+fill new room = new ++ drop (length new) room

@@ -1,5 +1,5 @@
 -- What a batch is, how it is read and judged, and what it makes of the moves. Definitions only.
-use mathlib.Core.Bool.{Bool, true, false, cond, _||_}
+use mathlib.Core.Bool.{Bool, true, false, cond, _&&_, _||_}
 use mathlib.Core.List.{List, [], _∷_}
 use mathlib.Core.Option.{Option, none, some}
 use Prim.Native.Nat.{ℕ, suc, _+_, min}
@@ -7,9 +7,10 @@ use lib.ListN.{length}
 use lib.Dec.{eqb, ltb, leb}
 use Rattle.lists.specs.Lists.{is, elem}
 use Rattle.rules.specs.Limits.{most-moves, most-changes}
-use Rattle.rules.specs.Moves.{pack, stampOf}
+use Rattle.rules.specs.Moves.{pack, source, action, target, stampOf}
 use Rattle.rules.specs.Model.{moveOk}
-use Rattle.rules.specs.Records.{Rec, field, Turn, next, over, demand, Outcome, refused, accepted, run, parts}
+use Rattle.rules.specs.Records.{Rec, field, bytesOf, Turn, next, over, demand, Outcome, refused, accepted, run, parts}
+use Rattle.rules.specs.Spelling.{endRec}
 use Rattle.rules.specs.declared.Sizes.{Sizes}
 
 -- An insert or a delete of a move.
@@ -20,6 +21,26 @@ pub record Change : Type 0 where
 pub record Batch : Type 0 where
   pub stamp : ℕ
   pub changes : List Change
+
+-- A batch inside the limits: a stamp of four bytes, at most 64 changes, each in range.
+abbrev pub changesOk : Sizes → List Change → Bool
+changesOk z [] = true
+changesOk z (c ∷ cs) = moveOk z (source (c .move)) (action (c .move)) (target (c .move)) && changesOk z cs
+
+abbrev pub batchOk : Sizes → Batch → Bool
+batchOk z b = ltb (b .stamp) 4294967296 && leb (length (b .changes)) most-changes && changesOk z (b .changes)
+
+-- The spelling of a batch: its stamp, the changes, the end.
+abbrev pub changeRec : Change → Rec
+changeRec c =
+    record { kind = cond (c .insert) 8 9; body = source (c .move) ∷ action (c .move) ∷ target (c .move) ∷ [] }
+
+abbrev pub changeRecs : List Change → List Rec
+changeRecs [] = endRec ∷ []
+changeRecs (c ∷ cs) = changeRec c ∷ changeRecs cs
+
+abbrev pub encodeBatch : Batch → List ℕ
+encodeBatch b = bytesOf (record { kind = 7; body = b .stamp ∷ [] } ∷ changeRecs (b .changes))
 
 -- Reading, record by record: kind 7 first, then changes, of which `after` counts those that have been read.
 pub data Place : Type 0 where

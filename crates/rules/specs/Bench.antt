@@ -6,7 +6,7 @@ use mathlib.Core.List.{List, [], _∷_, _++_}
 use Prim.Native.Nat.{ℕ}
 use lib.IntN.{ℤ, pos, negsuc}
 use lib.ListN.{replicate}
-use Rattle.lists.specs.Lists.{over}
+use Rattle.lists.specs.Lists.{fill}
 use Rattle.lists.specs.Smallest.{smallest}
 use Rattle.rules.specs.Limits.{sizesOk}
 use Rattle.rules.specs.Moves.{stampOf}
@@ -105,7 +105,7 @@ F = 7 ∷ 1 ∷ 0 ∷ 0 ∷ 0 ∷ 6 ∷ []
 
 -- A room of n places, filled with 9 past what was written.
 abbrev room : ℕ → List ℕ → List ℕ
-room n l = over l (replicate n 9)
+room n l = fill l (replicate n 9)
 
 abbrev cases : List (List Seen)
 cases =

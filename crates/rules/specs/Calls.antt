@@ -5,7 +5,7 @@ use mathlib.Core.List.{List, [], _∷_, _++_, map}
 use Prim.Native.Nat.{ℕ, _+_, _-_}
 use lib.ListN.{length, getD, take, replicate}
 use lib.Dec.{eqb, ltb, leb}
-use Rattle.lists.specs.Lists.{bit, listed, over}
+use Rattle.lists.specs.Lists.{bit, listed, fill}
 use Rattle.lists.specs.Smallest.{at}
 use Rattle.rules.specs.Limits.{sizesOk}
 use Rattle.rules.specs.Model.{Model}
@@ -50,11 +50,11 @@ loadBy l (refused n p) = record { answer = refused n p; rooms = l }
 loadBy l (accepted m) = record {
   answer = accepted (sessionOf m);
   rooms = record {
-    labels = over (m .labels) (l .labels);
-    equations = over (map word (m .equations)) (l .equations);
-    values = over (bits (pairsOf (m .sizes)) (at (solve m))) (l .values);
-    marks = over (replicate (pairsOf (m .sizes)) 0) (l .marks);
-    moves = over (m .moves) (l .moves);
+    labels = fill (m .labels) (l .labels);
+    equations = fill (map word (m .equations)) (l .equations);
+    values = fill (bits (pairsOf (m .sizes)) (at (solve m))) (l .values);
+    marks = fill (replicate (pairsOf (m .sizes)) 0) (l .marks);
+    moves = fill (m .moves) (l .moves);
   };
 }
 
@@ -81,9 +81,9 @@ abbrev pub roomsAfter : Session → Rooms → Model → Turned → Rooms
 roomsAfter s l m t = record {
   labels = l .labels;
   equations = l .equations;
-  values = over (bits (pairsOf (m .sizes)) (at (t .values))) (l .values);
-  marks = over (marksOf (pairsOf (m .sizes)) t) (l .marks);
-  moves = over (m .moves ++ replicate (s .moves - length (m .moves)) 0) (l .moves);
+  values = fill (bits (pairsOf (m .sizes)) (at (t .values))) (l .values);
+  marks = fill (marksOf (pairsOf (m .sizes)) t) (l .marks);
+  moves = fill (m .moves ++ replicate (s .moves - length (m .moves)) 0) (l .moves);
 }
 
 abbrev pub batchBy : Session → Rooms → Outcome Batch → Left Report Rooms
@@ -99,7 +99,7 @@ batch s l bytes = batchBy s l (judged s l bytes)
 -- Write: asked of the session 12, 13 and 12, then 13 for the room of the output. The answer is the length.
 abbrev pub writeBy : Model → List ℕ → Outcome ℕ → Left ℕ (List ℕ)
 writeBy m out (refused n p) = record { answer = refused n p; rooms = out }
-writeBy m out (accepted n) = record { answer = accepted n; rooms = over (encode m) out }
+writeBy m out (accepted n) = record { answer = accepted n; rooms = fill (encode m) out }
 
 unfoldable pub write : Session → Rooms → List ℕ → Left ℕ (List ℕ)
 write s l out =

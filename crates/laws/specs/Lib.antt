@@ -1,0 +1,9 @@
+pub mod RecordLaws
+pub mod Walks
+pub mod LoadAccepts
+pub mod LoadSpells
+pub mod SpellingLength
+pub mod BatchReads
+pub mod Edits
+pub mod Named
+pub mod SessionHolds

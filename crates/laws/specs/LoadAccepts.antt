@@ -1,0 +1,94 @@
+-- Every model inside the limits is accepted, from its spelling. Assumes nothing.
+use mathlib.Core.Path.{_≡_, refl, sym, ap, ap₂, _∙_, subst}
+use mathlib.Core.Logic.{_⊎_, inl, inr}
+use mathlib.Core.Bool.{Bool, true, false, cond, _&&_, _||_, true≢false, false≢true}
+use mathlib.Core.List.{List, [], _∷_, _++_}
+use Prim.Native.Nat.{ℕ, zero, suc, _+_, _-_, _*_, _/_, _%_, _^_, _≤_, _<_}
+use native.Mathlib.Nat.{pow-le-pow-right}
+use native.Mathlib.Omega.{arith}
+use lib.ListN.{length}
+use lib.Dec.{eqb, ltb, leb}
+use Rattle.lists.specs.Lists.{all}
+use Rattle.lists.specs.Tests.{tests, tell, and-is, ltb-is, leb-is, eqb-is}
+use Rattle.rules.specs.Limits.{sizesOk}
+use Rattle.rules.specs.Moves.{source, action, target}
+use Rattle.rules.specs.Model.{Equation, Model, labelOk, moveOk, operandsOk, namesOk, runOf, equationsOk, movesOk, wellFormed, WellFormed}
+use Rattle.rules.specs.Records.{Rec, widths, Outcome, accepted, bytesOf}
+use Rattle.rules.specs.Rooms.{Lengths, roomsOk}
+use Rattle.rules.specs.Load.{before, step, put, last, readModel}
+use Rattle.rules.specs.Spelling.{labelRecs, equationRec, blockRec, equationRecs, moveRec, moveRecs, records, encode}
+use Rattle.rules.specs.declared.Sizes.{Sizes}
+use Rattle.laws.specs.RecordLaws.{AllWritable, run-written}
+use Rattle.laws.specs.Walks.{small, eq-count, run-le, walks-records}
+
+append : (rs ts : List Rec) → AllWritable rs → AllWritable ts → AllWritable (rs ++ ts)
+append [] ts h k = k
+append (r ∷ rs) ts h k = (h .0, append rs ts (h .1) k)
+
+module _ (z : Sizes) (ok : sizesOk z ≡ true) where
+  labels-w : (s : ℕ) (ls : List ℕ) → s + length ls ≤ z .states → all (labelOk z) ls ≡ true → AllWritable (labelRecs s ls)
+  unfolding widths labelOk
+  labels-w s [] h a = tt
+  labels-w s (zero ∷ ls) h a = let p = simp and-is at a in labels-w (suc s) ls (omega arith) (p .1)
+  labels-w s (suc v ∷ ls) h a =
+      let p = simp tests at a in
+      let k = small z ok in
+      let b : 2 ^ z .propositions ≤ 2 ^ 32 = pow-le-pow-right (omega arith) {i = z .propositions} {j = 32} (omega arith) in
+      ((refl, omega arith), labels-w (suc s) ls (omega arith) (simp and-is at a .1))
+
+  pub operands-small : (o a b : ℕ) → operandsOk z o a b ≡ true → (o < 256) × (a < 256) × (b < 256)
+  unfolding operandsOk
+  operands-small o a b h =
+      let s = small z ok in
+      elim (tell true (ltb o 2)) [
+        | inl t ↦ let u = ltb-is o 2 .0 t in let k = simp tests at (rw t at h) in omega arith
+        | inr t ↦ elim (tell true (ltb o 4)) [
+          | inl v ↦ let u = ltb-is o 4 .0 v in let k = simp tests at (rw (t, v) at h) in omega arith
+          | inr v ↦ elim (tell true (ltb o 6)) [
+            | inl w ↦ let u = ltb-is o 6 .0 w in let k = simp tests at (rw (t, v, w) at h) in omega arith
+            | inr w ↦ let k = simp tests at (rw (t, v, w) at h) in omega arith
+          ]
+        ]
+      ]
+
+  moves-w : (least : ℕ) (ms : List ℕ) → movesOk z least ms ≡ true → AllWritable (moveRecs ms)
+  unfolding widths moveOk
+  moves-w least [] h = ((refl, tt), tt)
+  moves-w least (p ∷ ms) h =
+      let q = simp tests at h in
+      let k = small z ok in
+      ((refl, omega arith), moves-w (suc p) ms (simp and-is at h .1))
+
+  equations-w : (i b k : ℕ) (es : List Equation) → equationsOk z i b k es ≡ true → AllWritable (equationRecs b es)
+  unfolding widths
+  equations-w i b k [] h = tt
+  equations-w i b k (e ∷ es) h =
+      let f = simp and-is at h in
+      let o = operands-small (e .operator) (e .first) (e .second) (f .0 .0 .1) in
+      let ih = equations-w (suc i) (suc (e .block)) (e .kind) es (f .1) in
+      elim (tell true (eqb (suc (e .block)) b)) [
+        | inl t ↦ rw t ((refl, omega arith), rw (eqb-is (suc (e .block)) b .0 t) at ih)
+        | inr t ↦
+            let g = simp tests at (rw t at (f .0 .0 .0)) in
+            let n = eq-count z i b k (e ∷ es) h in
+            let r = run-le (suc (e .block)) es in
+            let s = small z ok in
+            rw t ((refl, omega arith), ((refl, omega arith), ih))
+      ]
+
+pub records-w : (m : Model) → WellFormed m → AllWritable (records m)
+unfolding records wellFormed widths
+records-w m h =
+    let k = simp and-is at h in
+    let z = k .0 .0 .0 .0 .0 in
+    let s = small (m .sizes) z in
+    let e = eqb-is (length (m .labels)) (m .sizes .states) .0 (k .0 .0 .0 .0 .1) in (
+      (refl, omega arith),
+      append (labelRecs 0 (m .labels)) _ (labels-w (m .sizes) z 0 (m .labels) (omega arith) (k .0 .0 .0 .1))
+          (append (equationRecs 0 (m .equations)) _ (equations-w (m .sizes) z 0 0 0 (m .equations) (k .0 .0 .1)) (moves-w (m .sizes) z 0 (m .moves) (k .0 .1))),
+    )
+
+-- (a) every model inside the limits is accepted where the rooms suffice
+pub load-accepts : (l : Lengths) (m : Model) → WellFormed m → roomsOk l (m .sizes) ≡ true → length (m .moves) ≤ l .moves → readModel l (encode m) ≡ accepted m
+unfolding readModel
+load-accepts l m h r n = run-written (step l) put last 0 (walks-records l m h r n) (records-w m h)
