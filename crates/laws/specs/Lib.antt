@@ -7,3 +7,7 @@ pub mod BatchReads
 pub mod Edits
 pub mod Named
 pub mod SessionHolds
+pub mod ModelSystem
+pub mod ValuesSolve
+pub mod Seeds
+pub mod UpdateMoves

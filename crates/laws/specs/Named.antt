@@ -1,22 +1,21 @@
--- What the tests on equations say, variable by variable. Assumes nothing.
+-- What the tests on equations and moves say, one by one. Assumes nothing.
 use mathlib.Core.Path.{_≡_, refl, sym, ap, _∙_, subst}
 use mathlib.Core.Logic.{_⊎_, inl, inr}
 use mathlib.Core.Bool.{Bool, true, false, cond, _&&_, true≢false, false≢true}
-use mathlib.Core.List.{List, [], _∷_}
+use mathlib.Core.List.{List, [], _∷_, List·Memᴰ, List·Memᴰ·head, List·Memᴰ·tail}
 use Prim.Native.Nat.{ℕ, zero, suc, _+_, _-_, _≤_, _<_}
 use native.Mathlib.Nat.{not-suc-le-zero, le-of-suc-le-suc}
 use native.Mathlib.Decide.{decLe}
 use native.Mathlib.Omega.{arith}
-use lib.ListN.{length, getD, drop}
+use lib.ListN.{length, getD, drop, length-drop}
 use lib.Seq.{getD-drop}
 use lib.Dec.{eqb, ltb, leb}
-use Rattle.lists.specs.Tests.{tests, tell, ltb-is, leb-is, eqb-is, and-is, ltb-no}
+use Rattle.lists.specs.Tests.{_∈_, tests, tell, ltb-is, leb-is, eqb-is, and-is, ltb-no}
 use Rattle.rules.specs.Moves.{source, action, target}
 use Rattle.rules.specs.Model.{Equation, namesOk, operandsOk, runOf, equationsOk, movesOk, moveOk}
+use Rattle.rules.specs.Values.{nothing}
 use Rattle.rules.specs.declared.Sizes.{Sizes}
-
-abbrev pub nothing : Equation
-nothing = record { operator = 0; first = 0; second = 0; block = 0; kind = 0 }
+use Rattle.laws.specs.Walks.{eq-count, run-le}
 
 abbrev pub equationAt : List Equation → ℕ → Equation
 equationAt es i = getD es i nothing
@@ -98,24 +97,41 @@ names-earlier z es j x h l n =
           let q : blockAt es x ≡ blockAt es (suc j + (x - suc j)) = ap (blockAt es) d in omega arith
     ]
 
--- The moves ascend, and each is in range.
-move-in : (z : Sizes) (n : ℕ) (l : List ℕ) (j : ℕ) → movesOk z n l ≡ true → j < length l
-    → (n ≤ getD l j 0) × (moveOk z (source (getD l j 0)) (action (getD l j 0)) (target (getD l j 0)) ≡ true)
-move-in z n [] j h k = absurd (not-suc-le-zero k)
-move-in z n (p ∷ l) zero h k = let f = simp and-is at h in (leb-is _ _ .0 (f .0 .0), f .0 .1)
-move-in z n (p ∷ l) (suc j) h k =
+-- A variable that an equation names is a variable.
+pub names-variable : (z : Sizes) (es : List Equation) (j x : ℕ) → equationsOk z 0 0 0 es ≡ true → j < length es → Names (equationAt es j) x → x < z .variables
+names-variable z es j x h l n =
+    let u = named-end z 0 0 0 es j x h l n in
+    let r = run-le (suc (blockAt es j)) (drop (suc j) es) in
+    let d = length-drop (suc j) es in
+    let c = eq-count z 0 0 0 es h in
+    omega arith
+
+-- A variable's block is below the count of blocks.
+first-below : (z : Sizes) (i b k : ℕ) (e : Equation) (es : List Equation) → equationsOk z i b k (e ∷ es) ≡ true → b ≤ z .blocks → e .block < z .blocks
+first-below z i b k e es h o =
     let f = simp and-is at h in
-    let g = leb-is n p .0 (f .0 .0) in
-    let ih = move-in z (suc p) l j (f .1) (le-of-suc-le-suc k) in (omega arith, ih .1)
+    elim (tell true (eqb (suc (e .block)) b)) [
+      | inl t ↦ let c = eqb-is (suc (e .block)) b .0 t in omega arith
+      | inr t ↦
+          let g = simp and-is at (rw t at (f .0 .0 .0)) in
+          let c = eqb-is (e .block) b .0 (g .0 .0) in
+          let d = ltb-is b (z .blocks) .0 (g .0 .1) in
+          omega arith
+    ]
 
-pub moves-range : (z : Sizes) (l : List ℕ) (j : ℕ) → movesOk z 0 l ≡ true → j < length l
-    → moveOk z (source (getD l j 0)) (action (getD l j 0)) (target (getD l j 0)) ≡ true
-moves-range z l j h k = move-in z 0 l j h k .1
+block-below : (z : Sizes) (i b k : ℕ) (es : List Equation) (j : ℕ) → equationsOk z i b k es ≡ true → b ≤ z .blocks → j < length es → blockAt es j < z .blocks
+block-below z i b k [] j h o l = absurd (not-suc-le-zero l)
+block-below z i b k (e ∷ es) zero h o l = first-below z i b k e es h o
+block-below z i b k (e ∷ es) (suc j) h o l =
+    block-below z (suc i) (suc (e .block)) (e .kind) es j (simp and-is at h .1) (first-below z i b k e es h o) (le-of-suc-le-suc l)
 
-pub moves-ascend : (z : Sizes) (n : ℕ) (l : List ℕ) (i j : ℕ) → movesOk z n l ≡ true → i < j → j < length l → getD l i 0 < getD l j 0
-moves-ascend z n [] i j h o k = absurd (not-suc-le-zero k)
-moves-ascend z n (p ∷ l) zero zero h o k = absurd (not-suc-le-zero o)
-moves-ascend z n (p ∷ l) zero (suc j) h o k = let f = simp and-is at h in move-in z (suc p) l j (f .1) (le-of-suc-le-suc k) .0
-moves-ascend z n (p ∷ l) (suc i) zero h o k = absurd (not-suc-le-zero o)
-moves-ascend z n (p ∷ l) (suc i) (suc j) h o k =
-    let f = simp and-is at h in moves-ascend z (suc p) l i j (f .1) (le-of-suc-le-suc o) (le-of-suc-le-suc k)
+pub variable-block : (z : Sizes) (es : List Equation) (j : ℕ) → equationsOk z 0 0 0 es ≡ true → j < length es → blockAt es j < z .blocks
+variable-block z es j h l = block-below z 0 0 0 es j h (omega arith) l
+
+-- Each move is in range.
+pub move-range : (z : Sizes) (n : ℕ) {q : ℕ} {l : List ℕ} → movesOk z n l ≡ true → q ∈ l → moveOk z (source q) (action q) (target q) ≡ true
+move-range z n {q} {l} h m = go n m h
+  where
+    go : (n : ℕ) {l : List ℕ} → q ∈ l → movesOk z n l ≡ true → moveOk z (source q) (action q) (target q) ≡ true
+    go n (List·Memᴰ·head {x = x} e) h = let f = simp and-is at h in subst (λ (r : ℕ). moveOk z (source r) (action r) (target r) ≡ true) (sym e) (f .0 .1)
+    go n (List·Memᴰ·tail {x = x} m) h = go (suc x) m (simp and-is at h .1)

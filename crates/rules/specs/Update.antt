@@ -36,6 +36,13 @@ loses b m dels old s (join k x y) = false
 loses b m dels old s (step k a x) =
     is b k && any (λ q. own s a q && is (not b) (old (pair (m .sizes) (state (target q)) x))) dels
 
+-- A batch touches a diamond or box pair's own moves by inserting or deleting one.
+abbrev pub touches : List Change → State → Term → Bool
+touches cs s (constant c) = false
+touches cs s (proposition c q) = false
+touches cs s (join k x y) = false
+touches cs s (step k a x) = any (own s a) (inserts cs) || any (own s a) (deletes cs)
+
 -- A pair of an earlier block that went from not b to b.
 abbrev pub went : Model → ℕ → Bool → Values → Values → ℕ → Bool
 went m i b old v q = ltb (blockOf m q) i && (is (not b) (old q) && is b (v q))

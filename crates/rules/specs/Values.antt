@@ -82,9 +82,9 @@ greatestIn i (e ∷ l) = (eqb (e .block) i && eqb (e .kind) 1) || greatestIn i l
 unfoldable pub greatest : Model → ℕ → Bool
 greatest m i = greatestIn i (m .equations)
 
--- Does the proposition hold at the state?
-abbrev pub holds : Model → State → ℕ → Bool
-holds m s q = eqb (getD (m .labels) (s .0) 0 / 2 ^ q % 2) 1
+-- Does the proposition hold at the state, by the labels?
+abbrev pub holds : List ℕ → State → ℕ → Bool
+holds labels s q = eqb (getD labels (s .0) 0 / 2 ^ q % 2) 1
 
 -- Is the move one of the state's moves with the action? And where these go.
 abbrev pub own : State → Action → ℕ → Bool
@@ -107,7 +107,7 @@ leanings m p = cond (ltb p (pairsOf (m .sizes))) (leaningsBy m (stateOf (m .size
 -- What the equation of a pair gives, where the pairs have the values v.
 abbrev pub givesBy : Model → Values → State → Term → Bool
 givesBy m v s (constant c) = c
-givesBy m v s (proposition c q) = is c (holds m s q)
+givesBy m v s (proposition c q) = is c (holds (m .labels) s q)
 givesBy m v s (join false x y) = v (pair (m .sizes) s x) || v (pair (m .sizes) s y)
 givesBy m v s (join true x y) = v (pair (m .sizes) s x) && v (pair (m .sizes) s y)
 givesBy m v s (step false a x) = any (λ t. v (pair (m .sizes) (state t) x)) (targets s a (m .moves))
