@@ -17,7 +17,7 @@ use Rattle.rules.specs.Batch.{Change, Batch, Place, first, after, changeDemands
 use Rattle.rules.specs.declared.Sizes.{Sizes}
 use Rattle.laws.specs.RecordLaws.{Walks, done, more, Met, met, judged, Writable, AllWritable, AreBytes, run-written, run-read}
 use Rattle.laws.specs.Walks.{small, packed}
-use Rattle.laws.specs.LoadSpells.{rec-is, unpacked}
+use Rattle.laws.specs.ReadSpells.{rec-is, unpacked}
 
 kind-is : (b : Bool) → (eqb (cond b 8 9) 6 ≡ false) × ((eqb (cond b 8 9) 8 || eqb (cond b 8 9) 9) ≡ true) × (eqb (cond b 8 9) 8 ≡ b)
 kind-is true = (refl, refl, refl)

@@ -1,7 +1,7 @@
 pub mod RecordLaws
 pub mod Walks
-pub mod LoadAccepts
-pub mod LoadSpells
+pub mod ReadAccepts
+pub mod ReadSpells
 pub mod SpellingLength
 pub mod BatchReads
 pub mod Edits
@@ -11,3 +11,10 @@ pub mod ModelSystem
 pub mod ValuesSolve
 pub mod Seeds
 pub mod UpdateMoves
+pub mod Accepted
+pub mod BatchSolved
+pub mod LoadSolves
+pub mod BatchReload
+pub mod BatchTurns
+pub mod Refusals
+pub mod OneOutcome

@@ -19,7 +19,7 @@ use Rattle.rules.specs.Session.{word, unword, held, sessionOf, countsOk, restOk
 use Rattle.rules.specs.declared.Sizes.{Sizes}
 use Rattle.rules.specs.declared.Session.{Session}
 use Rattle.laws.specs.Walks.{small, eq-count}
-use Rattle.laws.specs.LoadAccepts.{operands-small}
+use Rattle.laws.specs.ReadAccepts.{operands-small}
 
 -- All that a batch and a writing ask of a session.
 abbrev pub sessionOk : Session → Rooms → Bool

@@ -15,12 +15,12 @@ use Rattle.rules.specs.Load.{readModel}
 use Rattle.rules.specs.Spelling.{labelRecs, equationRecs, moveRecs, records, encode}
 use Rattle.rules.specs.declared.Sizes.{Sizes}
 use Rattle.laws.specs.RecordLaws.{AreBytes, Fits, Writable, AllWritable, len-writes}
-use Rattle.laws.specs.LoadAccepts.{load-accepts, records-w}
-use Rattle.laws.specs.LoadSpells.{load-spelling}
+use Rattle.laws.specs.ReadAccepts.{read-accepts, records-w}
+use Rattle.laws.specs.ReadSpells.{read-spelling}
 
-pub load-exact : (l : Lengths) (s : List ℕ) (m : Model) → AreBytes s
+pub read-exact : (l : Lengths) (s : List ℕ) (m : Model) → AreBytes s
     → (readModel l s ≡ accepted m) ↔ (WellFormed m × (encode m ≡ s) × (roomsOk l (m .sizes) ≡ true) × (length (m .moves) ≤ l .moves))
-load-exact l s m b = (load-spelling l s m b, λ h. ap (readModel l) (sym (h .1)) ∙ load-accepts l m (h .0) (h .2) (h .3))
+read-exact l s m b = (read-spelling l s m b, λ h. ap (readModel l) (sym (h .1)) ∙ read-accepts l m (h .0) (h .2) (h .3))
 
 -- A spelling is bytes.
 bytes-append : (s t : List ℕ) → AreBytes s → AreBytes t → AreBytes (s ++ t)

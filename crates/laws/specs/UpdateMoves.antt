@@ -22,8 +22,8 @@ use Rattle.rules.specs.Moves.{source, action, target}
 use Rattle.rules.specs.Model.{Model, moveOk}
 use Rattle.rules.specs.Rooms.{pairsOf}
 use Rattle.rules.specs.Batch.{Change, inserts, deletes}
-use Rattle.rules.specs.Values.{Values, state, pair, stateOf, termAt, blockOf, greatest, leanings, put, settles}
-use Rattle.rules.specs.Update.{changed, gains, loses, went, shifts, Turned, turnBlock, turnTo, turnAll, markOf, visitsOn}
+use Rattle.rules.specs.Values.{Values, state, pair, stateOf, termAt, blockOf, greatest, leanings, put, settles, settledSet}
+use Rattle.rules.specs.Update.{changed, gains, loses, went, shifts, shiftedSet, turnedTo, Turned, turnBlock, turnTo, turnAll, markOf, visitsOn}
 use Rattle.rules.specs.declared.Variable.{Variable}
 use Rattle.laws.specs.Edits.{Judged}
 use Rattle.laws.specs.Named.{move-range}
@@ -34,6 +34,20 @@ use Rattle.laws.specs.Seeds.{delete-old, seeds-same}
 any-same : (f g : ℕ → Bool) (l : List ℕ) → ((q : ℕ) → f q ≡ g q) → any f l ≡ any g l
 any-same f g [] h = refl
 any-same f g (q ∷ l) h = ap₂ _||_ (h q) (any-same f g l h)
+
+-- In the model m with its new moves: the values that block i begins with, its shifted set, the values once these pairs have
+-- turned, and its settled set.
+abbrev pub begun : Model → List Change → Values → ℕ → Values
+begun m cs old i = at (turnTo m cs old i .values)
+
+abbrev pub shiftedIn : Model → List Change → Values → ℕ → List Bool
+shiftedIn m cs old i = shiftedSet m cs i old (begun m cs old i)
+
+abbrev pub raised : Model → List Change → Values → ℕ → Values
+raised m cs old i = turnedTo m (greatest m i) (begun m cs old i) (shiftedIn m cs old i)
+
+abbrev pub settledIn : Model → List Change → Values → ℕ → List Bool
+settledIn m cs old i = settledSet m i (raised m cs old i)
 
 -- Moves do not change what the equations are, nor where they stand.
 pub frame-same : (m : Model) (cs : List Change) → frame (changed cs m) ≡ frame m
@@ -101,7 +115,7 @@ module _ (m : Model) (cs : List Change) (j : Judged (m .moves) cs) (ok : Sound m
       ∙ ap (λ (x : Bool). here && (is (not b) (was p) && (S.seeds L M was b (is b (F .kind p)) p || x)))
       (any-same f g (M p) (λ q. ap (λ (x : Bool). s q || x) (went-rose i lt v q)))
 
-  shifts-same : (i : ℕ) → i < m .sizes .blocks → (v : Values) → _≡_ {A = Rule} (shifts (changed cs m) cs i old v) (S.shifts F L M i was v)
+  pub shifts-same : (i : ℕ) → i < m .sizes .blocks → (v : Values) → _≡_ {A = Rule} (shifts (changed cs m) cs i old v) (S.shifts F L M i was v)
   unfolding shifts S.shifts
   shifts-same i lt v = fun-ext (λ s. fun-ext (λ p. elim (tell true (eqb (blockOf (changed cs m) p) i)) [
     | inl e ↦ shifts-at i lt v s p (let k = eqb-out (blockOf (changed cs m) p) i e in block-inside (changed cs m) p (omega arith))
@@ -115,40 +129,51 @@ module _ (m : Model) (cs : List Change) (j : Judged (m .moves) cs) (ok : Sound m
     pub shifted : (p : ℕ) → p < pairsOf (m .sizes) → at (turnTo (changed cs m) cs old i .shifted) p ≡ upTo F (shiftOf F L M was) i p
     pub settled : (p : ℕ) → p < pairsOf (m .sizes) → at (turnTo (changed cs m) cs old i .settled) p ≡ upTo F (settleOf F L M was) i p
 
-  same-suc : (i : ℕ) → i < m .sizes .blocks → Same i → Same (suc i)
-  unfolding turnTo turnBlock moveTo S.shifted S.settled shiftSet settleSet base
-  same-suc i lt h =
-      let n = pairsOf (m .sizes) in
-      let b = greatest (changed cs m) i in
-      let v : Values = at (turnTo (changed cs m) cs old i .values) in
-      let up = smallest n (shifts (changed cs m) cs i old v) in
-      let w : Values = put b v (at up) in
-      let down = smallest n (settles (changed cs m) i (at (table n w))) in
-      let u : Values = put (not b) (at (table n w)) (at down) in
-      let shifts-is : _≡_ {A = Rule} (shifts (changed cs m) cs i old v) (S.shifts F L M i was (moveTo F L M was i)) =
-      shifts-same i lt v ∙ ap (λ (y : Values). S.shifts F L M i was y) (h .values) in
-      let up-is : _≡_ {A = Values} (at up) (shiftSet F L M was i) = ap (λ (r : Rule). at (smallest n r)) shifts-is in
-      let w-past : (p : ℕ) → n ≤ p → w p ≡ false = λ p k. rw (smallest-past n (shifts (changed cs m) cs i old v) p k) (h .past p k) in
-      let w-is : _≡_ {A = Values} (at (table n w)) (base F L M was true i) =
-      fun-ext (table-is n w w-past) ∙ ap (λ (y : Values). put b y (at up)) (h .values) ∙ ap (λ (y : Values). put b (moveTo F L M was i) y) up-is in
-      let settles-is : _≡_ {A = Rule} (settles (changed cs m) i (at (table n w))) (S.drops F M i (base F L M was true i)) =
-      settles-drops (changed cs m) i lt (at (table n w)) ∙ ap (λ (y : Values). S.drops F M i y) w-is in
-      let down-is : _≡_ {A = Values} (at down) (settleSet F L M was fits-old fits-new i) = ap (λ (r : Rule). at (smallest n r)) settles-is in
-      let u-past : (p : ℕ) → n ≤ p → u p ≡ false = λ p k. rw (smallest-past n (settles (changed cs m) i (at (table n w))) p k) (table-past n w p k) in
-      record {
-        values =
-            fun-ext (table-is n u u-past) ∙ ap (λ (y : Values). put (not b) y (at down)) w-is
-            ∙ ap (λ (y : Values). put (not b) (base F L M was true i) y) down-is;
-        past = λ p k. table-past n u p k;
-        shifted = λ p k.
-            table-at n (λ p. at (turnTo (changed cs m) cs old i .shifted) p || at up p) p k
-            ∙ ap₂ _||_ (h .shifted p k) (ap (λ (y : Values). y p) up-is)
-            ∙ up-suc F (shiftOf F L M was) (shiftSet F L M was i) i (shift-at F L M was fits-old fits-new i) (shift-no F L M was fits-old fits-new i lt) p;
-        settled = λ p k.
-            table-at n (λ p. at (turnTo (changed cs m) cs old i .settled) p || at down p) p k
-            ∙ ap₂ _||_ (h .settled p k) (ap (λ (y : Values). y p) down-is)
-            ∙ up-suc F (settleOf F L M was) (settleSet F L M was fits-old fits-new i) i (settle-at F L M was fits-old fits-new i) (settle-no F L M was fits-old fits-new i lt) p;
-      }
+  module _ (i : ℕ) (lt : i < m .sizes .blocks) (h : Same i) where
+    shifted-is : _≡_ {A = Values} (at (shiftedIn (changed cs m) cs old i)) (shiftSet F L M was i)
+    unfolding S.shifted shiftSet
+    shifted-is =
+        ap (λ (r : Rule). at (smallest (pairsOf (m .sizes)) r)) (shifts-same i lt (begun (changed cs m) cs old i) ∙ ap (λ (y : Values). S.shifts F L M i was y) (h .values))
+
+    raised-past : (p : ℕ) → pairsOf (m .sizes) ≤ p → put (greatest (changed cs m) i) (begun (changed cs m) cs old i) (at (shiftedIn (changed cs m) cs old i)) p ≡ false
+    raised-past p k = rw (smallest-past (pairsOf (m .sizes)) (shifts (changed cs m) cs i old (begun (changed cs m) cs old i)) p k) (h .past p k)
+
+    raised-is : _≡_ {A = Values} (raised (changed cs m) cs old i) (base F L M was true i)
+    unfolding base
+    raised-is =
+        let b = greatest (changed cs m) i in
+        fun-ext (table-is (pairsOf (m .sizes)) (put b (begun (changed cs m) cs old i) (at (shiftedIn (changed cs m) cs old i))) raised-past)
+        ∙ ap (λ (y : Values). put b y (at (shiftedIn (changed cs m) cs old i))) (h .values) ∙ ap (λ (y : Values). put b (moveTo F L M was i) y) shifted-is
+
+    settled-is : _≡_ {A = Values} (at (settledIn (changed cs m) cs old i)) (settleSet F L M was fits-old fits-new i)
+    unfolding S.settled settleSet
+    settled-is =
+        ap (λ (r : Rule). at (smallest (pairsOf (m .sizes)) r)) (settles-drops (changed cs m) i lt (raised (changed cs m) cs old i) ∙ ap (λ (y : Values). S.drops F M i y) raised-is)
+
+    after-past : (p : ℕ) → pairsOf (m .sizes) ≤ p → put (not (greatest (changed cs m) i)) (raised (changed cs m) cs old i) (at (settledIn (changed cs m) cs old i)) p ≡ false
+    after-past p k =
+        rw (smallest-past (pairsOf (m .sizes)) (settles (changed cs m) i (raised (changed cs m) cs old i)) p k)
+        (table-past (pairsOf (m .sizes)) (put (greatest (changed cs m) i) (begun (changed cs m) cs old i) (at (shiftedIn (changed cs m) cs old i))) p k)
+
+    same-suc : Same (suc i)
+    unfolding turnTo turnBlock moveTo S.settled settleSet base shiftSet
+    same-suc =
+        let n = pairsOf (m .sizes) in
+        let c = not (greatest (changed cs m) i) in
+        record {
+          values =
+              fun-ext (table-is n (put c (raised (changed cs m) cs old i) (at (settledIn (changed cs m) cs old i))) after-past) ∙ ap (λ (y : Values). put c y (at (settledIn (changed cs m) cs old i))) raised-is
+              ∙ ap (λ (y : Values). put c (base F L M was true i) y) settled-is;
+          past = λ p k. table-past n (put c (raised (changed cs m) cs old i) (at (settledIn (changed cs m) cs old i))) p k;
+          shifted = λ p k.
+              table-at n (λ p. at (turnTo (changed cs m) cs old i .shifted) p || at (shiftedIn (changed cs m) cs old i) p) p k
+              ∙ ap₂ _||_ (h .shifted p k) (ap (λ (y : Values). y p) shifted-is)
+              ∙ up-suc F (shiftOf F L M was) (shiftSet F L M was i) i (shift-at F L M was fits-old fits-new i) (shift-no F L M was fits-old fits-new i lt) p;
+          settled = λ p k.
+              table-at n (λ p. at (turnTo (changed cs m) cs old i .settled) p || at (settledIn (changed cs m) cs old i) p) p k
+              ∙ ap₂ _||_ (h .settled p k) (ap (λ (y : Values). y p) settled-is)
+              ∙ up-suc F (settleOf F L M was) (settleSet F L M was fits-old fits-new i) i (settle-at F L M was fits-old fits-new i) (settle-no F L M was fits-old fits-new i lt) p;
+        }
 
   same-to : (i : ℕ) → i ≤ m .sizes .blocks → Same i
   unfolding turnTo moveTo
@@ -175,3 +200,16 @@ module _ (m : Model) (cs : List Change) (j : Judged (m .moves) cs) (ok : Sound m
   pub update-settled : (p : ℕ) → p < pairsOf (m .sizes) → at (turnAll (changed cs m) cs old .settled) p ≡ settleOf F L M was p
   unfolding turnAll
   update-settled p h = same-to (m .sizes .blocks) (le-refl (m .sizes .blocks)) .settled p h ∙ up-all (settleOf F L M was) p h
+
+  -- Each pair that shifted, or settled, did so in its own block.
+  pub shifted-own : (p : ℕ) → p < pairsOf (m .sizes) → at (turnAll (changed cs m) cs old .shifted) p ≡ at (shiftedIn (changed cs m) cs old (blockOf (changed cs m) p)) p
+  shifted-own p h =
+      let i = blockOf (changed cs m) p in
+      let lt = pairs-full (changed cs m) ok′ p h in
+      update-shifted p h ∙ shift-at F L M was fits-old fits-new i p refl ∙ sym (ap (λ (y : Values). y p) (shifted-is i lt (same-to i (omega arith))))
+
+  pub settled-own : (p : ℕ) → p < pairsOf (m .sizes) → at (turnAll (changed cs m) cs old .settled) p ≡ at (settledIn (changed cs m) cs old (blockOf (changed cs m) p)) p
+  settled-own p h =
+      let i = blockOf (changed cs m) p in
+      let lt = pairs-full (changed cs m) ok′ p h in
+      update-settled p h ∙ settle-at F L M was fits-old fits-new i p refl ∙ sym (ap (λ (y : Values). y p) (settled-is i lt (same-to i (omega arith))))

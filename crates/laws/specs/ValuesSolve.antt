@@ -3,14 +3,14 @@
 use mathlib.Core.Path.{_≡_, refl, sym, ap, ap₂, _∙_, subst, fun-ext}
 use mathlib.Core.Logic.{_⊎_, inl, inr}
 use mathlib.Core.Bool.{Bool, true, false, not, cond, _&&_, _||_}
-use mathlib.Core.List.{List, [], _∷_}
+use mathlib.Core.List.{List, [], _∷_, List·Memᴰ·head, List·Memᴰ·tail}
 use Prim.Native.Nat.{ℕ, zero, suc, _+_, _*_, _≤_, _<_}
 use native.Mathlib.Nat.{le-refl}
 use native.Mathlib.Omega.{arith}
 use lib.Dec.{eqb, ltb}
 use Rattle.lists.specs.Lists.{is}
 use Rattle.lists.specs.Smallest.{Rule, table, at, smallest}
-use Rattle.lists.specs.Tests.{tell, clash, eqb-out, eqb-no}
+use Rattle.lists.specs.Tests.{_∈_, tell, clash, eqb-out, eqb-no}
 use Rattle.lists.specs.TableLaws.{table-is, table-past}
 use Rattle.systems.specs.System.{Frame, Leans, Fits, ev, eval, drops, settled}
 use Rattle.systems.specs.System as S
@@ -76,6 +76,11 @@ module _ (m : Model) where
   unfolding solve S.solve
   solve-same = solve-to (m .sizes .blocks) (le-refl (m .sizes .blocks))
 
+  -- Past the pairs there is nothing.
+  pub solve-none : (p : ℕ) → pairsOf (m .sizes) ≤ p → at (solve m) p ≡ false
+  unfolding solve
+  solve-none p h = solve-past (m .sizes .blocks) p h
+
   -- A solution of the system is one of the model, and the other way round.
   pub solution-in : (v : Values) → S.Solution (frame m) (leanings m) v → Solution m v
   solution-in v s = record {
@@ -109,6 +114,28 @@ module _ (m : Model) where
     -- The values found are a solution.
     pub solve-solves : Solution m (at (solve m))
     solve-solves = subst (Solution m) (sym solve-same) (solution-in _ (solve-solution (frame m) (leanings m) (model-fits m ok)))
+
+    -- Only the values of the pairs matter.
+    gives-agree : (v w : Values) → ((p : ℕ) → p < pairsOf (m .sizes) → v p ≡ w p) → (p : ℕ) → p < pairsOf (m .sizes) → gives m v p ≡ gives m w p
+    unfolding ev
+    gives-agree v w e p h =
+        gives-eval m v p h
+        ∙ ev-agree (frame m .kind p) (leanings m p) (λ q k. e q (block-inside m q (let a = model-fits m ok .earlier p q k in let b = pairs-full m ok p h in omega arith)))
+        ∙ sym (gives-eval m w p h)
+      where
+        ev-agree : (k : Bool) (l : List ℕ) → ((q : ℕ) → q ∈ l → v q ≡ w q) → ev k v l ≡ ev k w l
+        ev-agree k [] f = refl
+        ev-agree k (q ∷ l) f = ap₂ (S.op k) (f q (List·Memᴰ·head refl)) (ev-agree k l (λ r n. f r (List·Memᴰ·tail n)))
+
+    pub solution-agree : (v w : Values) → ((p : ℕ) → p < pairsOf (m .sizes) → v p ≡ w p) → Solution m v → Solution m w
+    solution-agree v w e s = record {
+      solves = λ i h p k. let l = block-inside m p (omega arith) in sym (e p l) ∙ s .solves i h p k ∙ gives-agree v w e p l;
+      smallest = λ i h g u a k p b t. s .smallest i h g u (agree i h u a) k p b (e p (block-inside m p (omega arith)) ∙ t);
+      largest = λ i h g u a k p b t. sym (e p (block-inside m p (omega arith))) ∙ s .largest i h g u (agree i h u a) k p b t;
+    }
+      where
+        agree : (i : ℕ) → i < m .sizes .blocks → (u : Values) → Agree m i u w → Agree m i u v
+        agree i h u a p k = a p k ∙ sym (e p (block-inside m p (omega arith)))
 
     -- Two solutions agree on every pair.
     pub solution-one : (v w : Values) → Solution m v → Solution m w → (p : ℕ) → p < pairsOf (m .sizes) → v p ≡ w p

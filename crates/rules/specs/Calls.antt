@@ -108,13 +108,13 @@ write s l out =
 
 -- A question about one pair: 12 for the sizes, 13 for the room of the values, 4 for a state or a variable not below its
 -- count, and 12 for the one byte read.
-unfoldable pub ask : Session → List ℕ → State → Variable → Outcome Bool
-ask s values here x =
-    let v = getD values (pair (s .sizes) here x) 0 in
-    asked
-    ((12, sizesOk (s .sizes))
+abbrev pub askDemands : Session → List ℕ → State → Variable → List (ℕ × Bool)
+askDemands s values here x =
+    (12, sizesOk (s .sizes))
     ∷ (13, leb (pairsOf (s .sizes)) (length values))
     ∷ (4, ltb (here .0) (s .sizes .states) && ltb (x .0) (s .sizes .variables))
-    ∷ (12, leb v 1)
-    ∷ [])
-    (accepted (eqb v 1))
+    ∷ (12, leb (getD values (pair (s .sizes) here x) 0) 1)
+    ∷ []
+
+unfoldable pub ask : Session → List ℕ → State → Variable → Outcome Bool
+ask s values here x = asked (askDemands s values here x) (accepted (valueAt values (pair (s .sizes) here x)))

@@ -11,7 +11,7 @@ use Rattle.rules.specs.Moves.{target}
 use Rattle.rules.specs.Model.{Model}
 use Rattle.rules.specs.Rooms.{pairsOf}
 use Rattle.rules.specs.Batch.{Change, inserts, deletes, edited}
-use Rattle.rules.specs.Values.{Values, Term, constant, proposition, join, step, state, pair, stateOf, termAt, blockOf, greatest, own, leanings, put, settles}
+use Rattle.rules.specs.Values.{Values, Term, constant, proposition, join, step, state, pair, stateOf, termAt, blockOf, greatest, own, leanings, put, settledSet}
 use Rattle.rules.specs.declared.State.{State}
 
 -- The model with the moves that a batch makes of its own.
@@ -57,23 +57,31 @@ shifts m cs i old v s p =
     && ((gains b (inserts cs) here (termAt m p) || loses b m (deletes cs) old here (termAt m p))
     || any (λ q. s q || went m i b old v q) (leanings m p)))
 
+-- The shifted set of block i: the smallest set that the rule asks for.
+abbrev pub shiftedSet : Model → List Change → ℕ → Values → Values → List Bool
+shiftedSet m cs i old v = smallest (pairsOf (m .sizes)) (shifts m cs i old v)
+
+-- The values once the pairs of a set have turned to b, kept as a table.
+abbrev pub turnedTo : Model → Bool → Values → List Bool → Values
+turnedTo m b v s = at (table (pairsOf (m .sizes)) (put b v (at s)))
+
 -- The values after some blocks, and the pairs that shifted and that settled in these.
 pub record Turned : Type 0 where
   pub values : List Bool
   pub shifted : List Bool
   pub settled : List Bool
 
--- One block: the shifted set is the smallest that the rule asks for, and its pairs become b; from there any pair that is b
--- while its equation gives not b becomes not b, until none is left.
+-- One block: shifted pairs become b; from there any pair that is b while its equation gives not b becomes not b, until none
+-- is left.
 unfoldable pub turnBlock : Model → List Change → Values → ℕ → Turned → Turned
 turnBlock m cs old i t =
     let n = pairsOf (m .sizes) in
     let b = greatest m i in
-    let up = smallest n (shifts m cs i old (at (t .values))) in
-    let w = table n (put b (at (t .values)) (at up)) in
-    let down = smallest n (settles m i (at w)) in
+    let up = shiftedSet m cs i old (at (t .values)) in
+    let w = turnedTo m b (at (t .values)) up in
+    let down = settledSet m i w in
     record {
-      values = table n (put (not b) (at w) (at down));
+      values = table n (put (not b) w (at down));
       shifted = table n (λ p. at (t .shifted) p || at up p);
       settled = table n (λ p. at (t .settled) p || at down p);
     }

@@ -144,6 +144,10 @@ settles m i v s p =
     let b = greatest m i in
     eqb (blockOf m p) i && (is b (v p) && is (not b) (gives m (put (not b) v s) p))
 
+-- The pairs of block i that settle from the values v: turned one after the other until none is left.
+abbrev pub settledSet : Model → ℕ → Values → List Bool
+settledSet m i v = smallest (pairsOf (m .sizes)) (settles m i v)
+
 -- Block i at its starting value: all true for a greatest block, all false for a least one.
 abbrev pub fresh : Model → ℕ → Values → Values
 fresh m i v p = cond (eqb (blockOf m p) i) (greatest m i) (v p)
@@ -154,8 +158,7 @@ solveTo m zero = []
 solveTo m (suc i) =
     let n = pairsOf (m .sizes) in
     let v = table n (fresh m i (at (solveTo m i))) in
-    let s = smallest n (settles m i (at v)) in
-    table n (put (not (greatest m i)) (at v) (at s))
+    table n (put (not (greatest m i)) (at v) (at (settledSet m i (at v))))
 
 unfoldable pub solve : Model → List Bool
 solve m = solveTo m (m .sizes .blocks)

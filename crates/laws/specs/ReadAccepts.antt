@@ -89,6 +89,6 @@ records-w m h =
     )
 
 -- (a) every model inside the limits is accepted where the rooms suffice
-pub load-accepts : (l : Lengths) (m : Model) → WellFormed m → roomsOk l (m .sizes) ≡ true → length (m .moves) ≤ l .moves → readModel l (encode m) ≡ accepted m
+pub read-accepts : (l : Lengths) (m : Model) → WellFormed m → roomsOk l (m .sizes) ≡ true → length (m .moves) ≤ l .moves → readModel l (encode m) ≡ accepted m
 unfolding readModel
-load-accepts l m h r n = run-written (step l) put last 0 (walks-records l m h r n) (records-w m h)
+read-accepts l m h r n = run-written (step l) put last 0 (walks-records l m h r n) (records-w m h)

@@ -322,13 +322,13 @@ module _ (l : Lengths) where
       ]
 
   -- (b) what loads is inside the limits, fits the rooms, and its spelling is the bytes
-  pub load-spelling : (s : List ℕ) (m : Model) → AreBytes s → readModel l s ≡ accepted m → WellFormed m × (encode m ≡ s) × (roomsOk l (m .sizes) ≡ true) × (length (m .moves) ≤ l .moves)
+  pub read-spelling : (s : List ℕ) (m : Model) → AreBytes s → readModel l s ≡ accepted m → WellFormed m × (encode m ≡ s) × (roomsOk l (m .sizes) ≡ true) × (length (m .moves) ≤ l .moves)
   unfolding readModel Good
-  load-spelling s m b e =
+  read-spelling s m b e =
       let w = run-read (step l) put last (length s) 0 s before m (omega arith) b e in
       let g = first (w .3) (w .2) in
       (g .1, ap bytesOf (sym (g .0)) ∙ w .1, g .2, g .3)
 
 -- two byte strings that readModel to the same model are equal
 pub one-spelling : (l k : Lengths) (s t : List ℕ) (m : Model) → AreBytes s → AreBytes t → readModel l s ≡ accepted m → readModel k t ≡ accepted m → s ≡ t
-one-spelling l k s t m b c e f = sym (load-spelling l s m b e .1) ∙ load-spelling k t m c f .1
+one-spelling l k s t m b c e f = sym (read-spelling l s m b e .1) ∙ read-spelling k t m c f .1

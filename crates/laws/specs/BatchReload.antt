@@ -1,0 +1,154 @@
+-- Demand 3: after any sequence of accepted and refused batches, moves, stamp and values equal a fresh load's. And demand 2,
+-- of writing: the bytes come back, and loading what was written gives the session back with its marks cleared.
+-- Assumes nothing.
+use mathlib.Core.Path.{_≡_, refl, sym, ap, ap₂, _∙_, subst}
+use mathlib.Core.Logic.{_⊎_, inl, inr}
+use mathlib.Core.Bool.{Bool, true, false, cond}
+use mathlib.Core.List.{List, [], _∷_, _++_}
+use Prim.Native.Nat.{ℕ, _+_, _≤_, _<_}
+use native.Mathlib.Omega.{arith}
+use lib.ListN.{length, take, drop, replicate, length-replicate}
+use lib.Seq.{take-at}
+use lib.Dec.{leb}
+use Rattle.lists.specs.Lists.{fill}
+use Rattle.lists.specs.Smallest.{at}
+use Rattle.lists.specs.Tests.{tell, and-is, leb-is}
+use Rattle.rules.specs.Model.{Model}
+use Rattle.rules.specs.Records.{Outcome, refused, accepted}
+use Rattle.rules.specs.Rooms.{Rooms, lengthsOf, pairsOf, roomsOk}
+use Rattle.rules.specs.Spelling.{encode}
+use Rattle.rules.specs.Batch.{Batch}
+use Rattle.rules.specs.Values.{solve}
+use Rattle.rules.specs.Update.{changed}
+use Rattle.rules.specs.Session.{held, sessionOf, sessionDemands}
+use Rattle.rules.specs.Calls.{Left, asked, bits, loadBy, load, judged, batchBy, batch, writeBy, write}
+use Rattle.rules.specs.declared.Session.{Session}
+use Rattle.rules.specs.declared.Report.{Report}
+use Rattle.laws.specs.RecordLaws.{AreBytes}
+use Rattle.laws.specs.SessionHolds.{sessionOk, holds-session}
+use Rattle.laws.specs.Accepted.{asked-in, asked-out, Solved, WasBatch, load-solved, batch-out}
+use Rattle.laws.specs.BatchSolved.{batch-solved}
+use Rattle.laws.specs.LoadSolves.{Solves, solved-solves, loaded-solved, load-accepts}
+
+-- The sessions that a load and then any sequence of batches, accepted and refused, lead to.
+pub data Reached : Session → Rooms → Type 0 where
+  loaded : (l : Rooms) (bytes : List ℕ) (s : Session) → AreBytes bytes → load l bytes .answer ≡ accepted s → Reached s (load l bytes .rooms)
+  moved : (s : Session) (l : Rooms) (bytes : List ℕ) (r : Report) → Reached s l → AreBytes bytes → batch s l bytes .answer ≡ accepted r
+      → Reached (r .session) (batch s l bytes .rooms)
+  passed : (s : Session) (l : Rooms) (bytes : List ℕ) (n p : ℕ) → Reached s l → AreBytes bytes → batch s l bytes .answer ≡ refused n p
+      → Reached s (batch s l bytes .rooms)
+
+-- A refused batch changes no room.
+batch-kept : (s : Session) (l : Rooms) (bytes : List ℕ) (n p : ℕ) → batch s l bytes .answer ≡ refused n p → batch s l bytes .rooms ≡ l
+unfolding batch
+batch-kept s l bytes n p e = go (judged s l bytes) e
+  where
+    go : (o : Outcome Batch) → batchBy s l o .answer ≡ refused n p → batchBy s l o .rooms ≡ l
+    go (refused k q) h = refl
+    go (accepted b) h = let z : _≡_ {A = ℕ} 0 1 = cc in absurd (omega arith)
+
+batch-moved : (s : Session) (l : Rooms) (bytes : List ℕ) (r : Report) → AreBytes bytes → batch s l bytes .answer ≡ accepted r → Solved s l (held s l)
+    → Solved (r .session) (batch s l bytes .rooms) (held (r .session) (batch s l bytes .rooms))
+batch-moved s l bytes r y e h =
+    let k = batch-out s l bytes r y e in
+    let b = k .0 in
+    let w = k .1 in
+    let n = changed (b .changes) (held s l) in
+    let t = batch-solved s l bytes b h w in
+    let q : r .session ≡ sessionOf n = said (sym e ∙ ap (λ (c : Left Report Rooms). c .answer) (w .is)) in
+    let rooms : batch s l bytes .rooms ≡ batchBy s l (accepted b) .rooms = ap (λ (c : Left Report Rooms). c .rooms) (w .is) in
+    let u : Solved (r .session) (batch s l bytes .rooms) n =
+    subst (λ (x : Session). Solved x (batch s l bytes .rooms) n) (sym q) (subst (λ (x : Rooms). Solved (sessionOf n) x n) (sym rooms) t) in
+    subst (Solved (r .session) (batch s l bytes .rooms)) (sym (holds-session (r .session) (batch s l bytes .rooms) n (u .model) (u .holds) .0)) u
+  where
+    said : {a b : Report} → accepted a ≡ accepted b → a .session ≡ b .session
+    said {a} {b} e = let f : a ≡ b = cc in ap (λ (x : Report). x .session) f
+
+-- Every session so reached is as a load leaves it, its marks aside.
+pub reached-solved : {s : Session} {l : Rooms} → Reached s l → Solved s l (held s l)
+reached-solved (loaded l bytes s y e) = loaded-solved l bytes s y e .0
+reached-solved (moved s l bytes r h y e) = batch-moved s l bytes r y e (reached-solved h)
+reached-solved (passed s l bytes n p h y e) =
+    subst (λ (x : Rooms). Solved s x (held s x)) (sym (batch-kept s l bytes n p e)) (reached-solved h)
+
+-- The values of every session so reached are its model's.
+pub reached-solves : {s : Session} {l : Rooms} → Reached s l → Solves s l
+reached-solves {s} {l} h = solved-solves s l (reached-solved h)
+
+-- A fresh load of the bytes of a session's model, into rooms that suffice, gives that session: the same small part (sizes,
+-- move count, stamp), the same model (labels, equations, moves) and the same values. All marks are 0.
+pub record Reloads (s : Session) (l fresh : Rooms) (left : Left Session Rooms) : Type 0 where
+  pub answer : left .answer ≡ accepted s
+  pub model : held s (left .rooms) ≡ held s l
+  pub values : take (pairsOf (s .sizes)) (left .rooms .values) ≡ take (pairsOf (s .sizes)) (l .values)
+  pub marks : take (pairsOf (s .sizes)) (left .rooms .marks) ≡ replicate (pairsOf (s .sizes)) 0
+
+solved-reloads : (s : Session) (l fresh : Rooms) → Solved s l (held s l) → roomsOk (lengthsOf fresh) (s .sizes) ≡ true → s .moves ≤ length (fresh .moves)
+    → Reloads s l fresh (load fresh (encode (held s l)))
+solved-reloads s l fresh h r c =
+    let m = held s l in
+    let n = h .holds .count in
+    let room : length (m .moves) ≤ length (fresh .moves) = omega arith in
+    let e = load-accepts fresh m (h .model) r room in
+    let t = load-solved fresh m (h .model) r room in
+    let q = holds-session (sessionOf m) (loadBy fresh (accepted m) .rooms) m (t .model) (t .holds) .0 in
+    subst (Reloads s l fresh) (sym e) (record {
+      answer = ap accepted (sym (h .small));
+      model = ap (λ (x : Session). held x (loadBy fresh (accepted m) .rooms)) (h .small) ∙ q;
+      values = t .values ∙ sym (h .values);
+      marks = take-at (replicate (pairsOf (s .sizes)) 0) (drop (length (replicate (pairsOf (s .sizes)) 0)) (fresh .marks)) (pairsOf (s .sizes)) (length-replicate (pairsOf (s .sizes)) 0);
+    })
+
+-- After any sequence of accepted and refused batches from a load, a fresh load gives the same session.
+pub batch-as-reload : (s : Session) (l fresh : Rooms) → Reached s l → roomsOk (lengthsOf fresh) (s .sizes) ≡ true → s .moves ≤ length (fresh .moves)
+    → Reloads s l fresh (load fresh (encode (held s l)))
+batch-as-reload s l fresh h = solved-reloads s l fresh (reached-solved h)
+
+-- Writing a session that passes its check gives the bytes of its model, where the output has room for them.
+pub write-is : (s : Session) (l : Rooms) (out : List ℕ) → sessionOk s l ≡ true → length (encode (held s l)) ≤ length out
+    → write s l out ≡ record { answer = accepted (length (encode (held s l))); rooms = fill (encode (held s l)) out }
+unfolding write
+write-is s l out ok c =
+    let k = simp and-is at ok in
+    let o = asked-in ((13, leb (length (encode (held s l))) (length out)) ∷ []) (accepted (length (encode (held s l)))) (leb-is _ _ .1 c, tt) in
+    let a = asked-in (sessionDemands s l) (asked ((13, leb (length (encode (held s l))) (length out)) ∷ []) (accepted (length (encode (held s l))))) (k .0 .0, (k .0 .1, (k .1, tt))) in
+    ap (writeBy (held s l) out) (a ∙ o)
+
+-- An accepted writing answers the length of those bytes, and there was room for them.
+write-out : (s : Session) (l : Rooms) (out : List ℕ) (n : ℕ) → write s l out .answer ≡ accepted n
+    → (n ≡ length (encode (held s l))) × (length (encode (held s l)) ≤ length out)
+unfolding write
+write-out s l out n e =
+    let d : List (ℕ × Bool) = (13, leb (length (encode (held s l))) (length out)) ∷ [] in
+    let o = go (asked (sessionDemands s l) (asked d (accepted (length (encode (held s l)))))) e in
+    let a = asked-out (sessionDemands s l) (asked d (accepted (length (encode (held s l))))) n o in
+    let b = asked-out d (accepted (length (encode (held s l)))) n (a .1) in
+    (same (b .1), leb-is _ _ .0 (b .0 .0))
+  where
+    go : (o : Outcome ℕ) → writeBy (held s l) out o .answer ≡ accepted n → o ≡ accepted n
+    go (refused k p) h = h
+    go (accepted k) h = h
+
+    same : {k : ℕ} → accepted k ≡ accepted n → n ≡ k
+    same e = cc
+
+-- After a load, writing gives the bytes back.
+pub write-load : (l : Rooms) (bytes : List ℕ) (s : Session) (out : List ℕ) → AreBytes bytes → load l bytes .answer ≡ accepted s → length bytes ≤ length out
+    → write s (load l bytes .rooms) out ≡ record { answer = accepted (length bytes); rooms = fill bytes out }
+write-load l bytes s out y e c =
+    let h = loaded-solved l bytes s y e in
+    let ok = holds-session s (load l bytes .rooms) (held s (load l bytes .rooms)) (h .0 .model) (h .0 .holds) .1 in
+    subst (λ (x : List ℕ). write s (load l bytes .rooms) out ≡ record { answer = accepted (length x); rooms = fill x out }) (h .1)
+    (write-is s (load l bytes .rooms) out ok (subst (λ (x : List ℕ). length x ≤ length out) (sym (h .1)) c))
+
+-- Loading what was written of a session reached from a load gives that session back, with its marks cleared.
+pub load-write : (s : Session) (l fresh : Rooms) (out : List ℕ) (n : ℕ) → Reached s l → write s l out .answer ≡ accepted n
+    → roomsOk (lengthsOf fresh) (s .sizes) ≡ true → s .moves ≤ length (fresh .moves) → Reloads s l fresh (load fresh (take n (write s l out .rooms)))
+load-write s l fresh out n h e r c =
+    let t = reached-solved h in
+    let ok = holds-session s l (held s l) (t .model) (t .holds) .1 in
+    let k = write-out s l out n e in
+    let w = write-is s l out ok (k .1) in
+    let q : take n (write s l out .rooms) ≡ encode (held s l) =
+    ap (λ (x : Left ℕ (List ℕ)). take n (x .rooms)) w ∙ take-at (encode (held s l)) (drop (length (encode (held s l))) out) n (sym (k .0)) in
+    subst (λ (x : List ℕ). Reloads s l fresh (load fresh x)) (sym q) (solved-reloads s l fresh t r c)
