@@ -21,7 +21,7 @@ use Rattle.rules.specs.Batch.{Batch}
 use Rattle.rules.specs.Values.{solve}
 use Rattle.rules.specs.Update.{changed}
 use Rattle.rules.specs.Session.{held, sessionOf, sessionDemands}
-use Rattle.rules.specs.Calls.{Left, asked, bits, loadBy, load, judged, batchBy, batch, writeBy, write}
+use Rattle.rules.specs.Calls.{Left, asked, bits, loadBy, load, judged, batchBy, batch, writeBy, writable, write}
 use Rattle.rules.specs.declared.Session.{Session}
 use Rattle.rules.specs.declared.Report.{Report}
 use Rattle.laws.specs.RecordLaws.{AreBytes}
@@ -107,7 +107,7 @@ batch-as-reload s l fresh h = solved-reloads s l fresh (reached-solved h)
 -- Writing a session that passes its check gives the bytes of its model, where the output has room for them.
 pub write-is : (s : Session) (l : Rooms) (out : List ℕ) → sessionOk s l ≡ true → length (encode (held s l)) ≤ length out
     → write s l out ≡ record { answer = accepted (length (encode (held s l))); rooms = fill (encode (held s l)) out }
-unfolding write
+unfolding write writable
 write-is s l out ok c =
     let k = simp and-is at ok in
     let o = asked-in ((13, leb (length (encode (held s l))) (length out)) ∷ []) (accepted (length (encode (held s l)))) (leb-is _ _ .1 c, tt) in
@@ -117,10 +117,10 @@ write-is s l out ok c =
 -- An accepted writing answers the length of those bytes, and there was room for them.
 write-out : (s : Session) (l : Rooms) (out : List ℕ) (n : ℕ) → write s l out .answer ≡ accepted n
     → (n ≡ length (encode (held s l))) × (length (encode (held s l)) ≤ length out)
-unfolding write
+unfolding write writable
 write-out s l out n e =
     let d : List (ℕ × Bool) = (13, leb (length (encode (held s l))) (length out)) ∷ [] in
-    let o = go (asked (sessionDemands s l) (asked d (accepted (length (encode (held s l)))))) e in
+    let o = go (writable s l out) e in
     let a = asked-out (sessionDemands s l) (asked d (accepted (length (encode (held s l))))) n o in
     let b = asked-out d (accepted (length (encode (held s l)))) n (a .1) in
     (same (b .1), leb-is _ _ .0 (b .0 .0))

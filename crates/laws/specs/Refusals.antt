@@ -21,7 +21,7 @@ use Rattle.rules.specs.Batch.{Change, Batch, Place, first, after, changeDemands
 use Rattle.rules.specs.Spelling.{encode}
 use Rattle.rules.specs.Values.{pair}
 use Rattle.rules.specs.Session.{held, sessionDemands}
-use Rattle.rules.specs.Calls.{Left, asked, andThen, loadBy, load, judged, batchBy, batch, writeBy, write, valueAt, askDemands, ask}
+use Rattle.rules.specs.Calls.{Left, asked, andThen, loadBy, load, judged, batchBy, batch, writeBy, writable, write, valueAt, askDemands, ask}
 use Rattle.rules.specs.declared.State as Code
 use Rattle.rules.specs.declared.Variable.{Variable}
 use Rattle.rules.specs.declared.Sizes.{Sizes}
@@ -42,7 +42,7 @@ unfolding load batch write
 refusal-keeps = record {
   load = λ l bytes n p e. by-load l n p (readModel (lengthsOf l) bytes) e;
   batch = λ s l bytes n p e. by-batch s l n p (judged s l bytes) e;
-  write = λ s l out n p e. by-write (held s l) out n p _ e;
+  write = λ s l out n p e. by-write (held s l) out n p (writable s l out) e;
 }
   where
     by-load : (l : Rooms) (n p : ℕ) (o : Outcome Model) → loadBy l o .answer ≡ refused n p → loadBy l o .rooms ≡ l
@@ -201,12 +201,11 @@ batch-told s l bytes =
     go (accepted b) h = tt
 
 pub write-told : (s : Session) (l : Rooms) (out : List ℕ) → Told (write s l out .answer)
-unfolding write
+unfolding write writable
 write-told s l out =
     let n = length (encode (held s l)) in
     let room : List (ℕ × Bool) = (13, leb n (length out)) ∷ [] in
-    go (asked (sessionDemands s l) (asked room (accepted n)))
-    (asked-told (sessionDemands s l) (asked room (accepted n)) refl (asked-told room (accepted n) refl tt))
+    go (writable s l out) (asked-told (sessionDemands s l) (asked room (accepted n)) refl (asked-told room (accepted n) refl tt))
   where
     go : (o : Outcome ℕ) → Told o → Told (writeBy (held s l) out o .answer)
     go (refused n p) h = h

@@ -19,7 +19,7 @@ use Rattle.rules.specs.Batch.{stepBatch, putBatch, readBatch, edited, ju
 use Rattle.rules.specs.Values.{termAt, blockOf, greatest, leanings, gives, settles, solveTo, solve}
 use Rattle.rules.specs.Update.{shifts, turnBlock, turnTo, turnAll, visitsOn}
 use Rattle.rules.specs.Session.{countsOk, restOk}
-use Rattle.rules.specs.Calls.{Left, load, judged, batch, write}
+use Rattle.rules.specs.Calls.{Left, load, judged, batch, writable, write}
 use Rattle.rules.specs.declared.Session.{Session}
 use Rattle.rules.specs.declared.Report.{Report}
 
@@ -141,7 +141,7 @@ pub bench :
     ∷ [])
     ∷ []
 unfolding
-  load readModel run partsFrom widths step put last sizesOk roomsOk blockFits labelOk moveOk operandsOk namesOk solve solveTo settles smallest
-  blockOf greatest termAt gives leanings write countsOk restOk wellFormed stampOf records batch judged readBatch stepBatch putBatch judge edited
-  turnAll turnTo turnBlock shifts visitsOn
+    load readModel run partsFrom widths step put last sizesOk roomsOk blockFits labelOk moveOk operandsOk namesOk solve solveTo settles smallest
+    blockOf greatest termAt gives leanings write writable countsOk restOk wellFormed stampOf records batch judged readBatch stepBatch putBatch judge edited
+    turnAll turnTo turnBlock shifts visitsOn
 bench = refl

@@ -101,10 +101,13 @@ abbrev pub writeBy : Model → List ℕ → Outcome ℕ → Left ℕ (List ℕ)
 writeBy m out (refused n p) = record { answer = refused n p; rooms = out }
 writeBy m out (accepted n) = record { answer = accepted n; rooms = fill (encode m) out }
 
-unfoldable pub write : Session → Rooms → List ℕ → Left ℕ (List ℕ)
-write s l out =
+unfoldable pub writable : Session → Rooms → List ℕ → Outcome ℕ
+writable s l out =
     let n = length (encode (held s l)) in
-    writeBy (held s l) out (asked (sessionDemands s l) (asked ((13, leb n (length out)) ∷ []) (accepted n)))
+    asked (sessionDemands s l) (asked ((13, leb n (length out)) ∷ []) (accepted n))
+
+unfoldable pub write : Session → Rooms → List ℕ → Left ℕ (List ℕ)
+write s l out = writeBy (held s l) out (writable s l out)
 
 -- A question about one pair: 12 for the sizes, 13 for the room of the values, 4 for a state or a variable not below its
 -- count, and 12 for the one byte read.
