@@ -1,0 +1,18 @@
+//! The least and most of everything a session holds.
+
+/// The most states; the least is 1.
+pub const MOST_STATES: u16 = 256;
+/// The most actions; the least is 1.
+pub const MOST_ACTIONS: u8 = 16;
+/// The most propositions; the least is 0.
+pub const MOST_PROPOSITIONS: u8 = 32;
+/// The most variables; the least is 1.
+pub const MOST_VARIABLES: u8 = 32;
+/// The most blocks; the least is 1.
+pub const MOST_BLOCKS: u8 = 8;
+/// The most moves, where the lent room isn't smaller.
+pub const MOST_MOVES: usize = 1_024;
+/// The most changes in one batch.
+pub const MOST_CHANGES: usize = 64;
+/// The most pairs of a state and a variable.
+pub const MOST_PAIRS: usize = MOST_STATES as usize * MOST_VARIABLES as usize;

@@ -1,0 +1,252 @@
+//! A model: how it is read record by record, and how it is loaded into a session.
+
+use crate::limits::MOST_MOVES;
+use crate::records::{Block, Equation, Reader, Record, Sizes};
+use crate::refusal::{demand, refuse, Refusal};
+use crate::session::{Rooms, Session};
+use crate::solve::solve;
+use crate::table::{stamp, Action, Move, State, Variable};
+
+/// A model that load accepts. Its vectors are exactly as long as its sizes say, and a state
+/// without a label has the empty set.
+#[derive(Clone, Debug, Default, PartialEq, Eq)]
+pub struct Model {
+    pub sizes: Sizes,
+    pub labels: Vec<u32>,
+    pub blocks: Vec<Block>,
+    pub equations: Vec<Equation>,
+    pub moves: Vec<Move>,
+}
+
+/// Whether a block has its smallest or its largest solution.
+#[derive(Clone, Copy, Debug, PartialEq, Eq)]
+pub enum Kind {
+    Least,
+    Greatest,
+}
+
+/// A block as a run of variables: from `first` on, up to but without `end`.
+#[derive(Clone, Copy, Debug, PartialEq, Eq)]
+pub struct Span {
+    pub kind: Kind,
+    pub first: u8,
+    pub end: u8,
+}
+
+/// The right side of an equation.
+#[derive(Clone, Copy, Debug, PartialEq, Eq)]
+pub enum Formula {
+    False,
+    True,
+    Proposition(u8),
+    NotProposition(u8),
+    Or(Variable, Variable),
+    And(Variable, Variable),
+    Diamond(Action, Variable),
+    Box(Action, Variable),
+}
+
+impl Span {
+    /// Whether a variable belongs to the block.
+    pub fn holds(&self, variable: Variable) -> bool {
+        self.first <= variable.0 && variable.0 < self.end
+    }
+}
+
+impl Model {
+    /// The blocks in order, each with the variables that it covers.
+    pub fn spans(&self) -> Vec<Span> {
+        let mut first = 0;
+        let mut spans = Vec::new();
+        for block in &self.blocks {
+            let kind = if block.kind == 0 {
+                Kind::Least
+            } else {
+                Kind::Greatest
+            };
+            let end = first + block.variables;
+            spans.push(Span { kind, first, end });
+            first = end;
+        }
+        spans
+    }
+
+    /// The right side of a variable's equation.
+    pub fn formula(&self, variable: Variable) -> Formula {
+        let Equation {
+            operator,
+            first,
+            second,
+        } = self.equations[usize::from(variable.0)];
+        match operator {
+            0 => Formula::False,
+            1 => Formula::True,
+            2 => Formula::Proposition(first),
+            3 => Formula::NotProposition(first),
+            4 => Formula::Or(Variable(first), Variable(second)),
+            5 => Formula::And(Variable(first), Variable(second)),
+            6 => Formula::Diamond(Action(first), Variable(second)),
+            _ => Formula::Box(Action(first), Variable(second)),
+        }
+    }
+
+    /// Whether a proposition is true at a state.
+    pub fn labelled(&self, state: State, proposition: u8) -> bool {
+        self.labels[usize::from(state.0)] >> proposition & 1 == 1
+    }
+
+    /// The indices of all pairs of a block, states in order.
+    pub fn pairs_of(&self, span: Span) -> Vec<usize> {
+        let mut pairs = Vec::new();
+        for state in 0..self.sizes.states {
+            for variable in span.first..span.end {
+                pairs.push(self.sizes.pair(State(state), Variable(variable)));
+            }
+        }
+        pairs
+    }
+}
+
+/// Which kinds of record may come next in a model.
+#[derive(Clone, Copy, Debug, PartialEq, Eq)]
+enum Due {
+    Sizes,
+    LabelOrBlock,
+    Equation,
+    Block,
+    MoveOrEnd,
+    Nothing,
+}
+
+/// A model in the middle of being read.
+struct Reading<'a> {
+    rooms: &'a Rooms,
+    due: Due,
+    last_label: Option<State>,
+    model: Model,
+}
+
+/// Reads a whole model, record by record, or gives the first refusal.
+pub fn read_model(bytes: &[u8], rooms: &Rooms) -> Result<Model, Refusal> {
+    let mut reader = Reader::new(bytes);
+    let mut reading = Reading {
+        rooms,
+        due: Due::Sizes,
+        last_label: None,
+        model: Model::default(),
+    };
+    while reading.due != Due::Nothing {
+        let (place, record) = reader.record()?;
+        reading.take(place, record)?;
+    }
+    reader.nothing_left()?;
+    Ok(reading.model)
+}
+
+impl Reading<'_> {
+    /// Takes one whole record in, refusing with 2 where its kind isn't due.
+    fn take(&mut self, place: usize, record: Record) -> Result<(), Refusal> {
+        match (self.due, record) {
+            (Due::Sizes, Record::Sizes(sizes)) => self.take_sizes(place, sizes),
+            (Due::LabelOrBlock, Record::Label { state, set }) => self.take_label(place, state, set),
+            (Due::LabelOrBlock | Due::Block, Record::Block(block)) => self.take_block(place, block),
+            (Due::Equation, Record::Equation(equation)) => self.take_equation(place, equation),
+            (Due::MoveOrEnd, Record::Move(m)) => self.take_move(place, m),
+            (Due::MoveOrEnd, Record::End) => {
+                self.due = Due::Nothing;
+                Ok(())
+            }
+            _ => refuse(2, place),
+        }
+    }
+
+    /// Takes the sizes: 3 where one lies outside the table, then 13 where a room is too short.
+    fn take_sizes(&mut self, place: usize, sizes: Sizes) -> Result<(), Refusal> {
+        demand(sizes.in_table(), 3, place)?;
+        demand(self.rooms.hold(&sizes), 13, 0)?;
+        self.model.sizes = sizes;
+        self.model.labels = vec![0; usize::from(sizes.states)];
+        self.due = Due::LabelOrBlock;
+        Ok(())
+    }
+
+    /// Takes a label: 4 for its numbers, then 6 where its state isn't after the last one's.
+    fn take_label(&mut self, place: usize, state: State, set: u32) -> Result<(), Refusal> {
+        demand(self.model.sizes.holds_label(state, set), 4, place)?;
+        demand(self.last_label.is_none_or(|last| last < state), 6, place)?;
+        self.last_label = Some(state);
+        self.model.labels[usize::from(state.0)] = set;
+        Ok(())
+    }
+
+    /// How many variables the blocks read so far cover.
+    fn covered(&self) -> u8 {
+        self.model.blocks.iter().map(|block| block.variables).sum()
+    }
+
+    /// Takes a block: 3 for its number of variables, then 4 for its kind.
+    fn take_block(&mut self, place: usize, block: Block) -> Result<(), Refusal> {
+        let remain = self.model.sizes.variables - self.covered();
+        let is_last = self.model.blocks.len() + 1 == usize::from(self.model.sizes.blocks);
+        demand((1..=remain).contains(&block.variables), 3, place)?;
+        demand(!is_last || block.variables == remain, 3, place)?;
+        demand(block.kind <= 1, 4, place)?;
+        self.model.blocks.push(block);
+        self.due = Due::Equation;
+        Ok(())
+    }
+
+    /// Takes an equation: 4 for its numbers, then 5 where it names a later block's variable.
+    fn take_equation(&mut self, place: usize, equation: Equation) -> Result<(), Refusal> {
+        let covered = self.covered();
+        demand(self.model.sizes.holds_equation(equation), 4, place)?;
+        let not_later = equation.named().iter().all(|named| named.0 < covered);
+        demand(not_later, 5, place)?;
+        self.model.equations.push(equation);
+        if self.model.equations.len() == usize::from(covered) {
+            let more = self.model.blocks.len() < usize::from(self.model.sizes.blocks);
+            self.due = if more { Due::Block } else { Due::MoveOrEnd };
+        }
+        Ok(())
+    }
+
+    /// Takes a move: 4 for its numbers, 6 where it isn't after the last one, then 10 where it is
+    /// one too many.
+    fn take_move(&mut self, place: usize, m: Move) -> Result<(), Refusal> {
+        demand(self.model.sizes.holds_move(m), 4, place)?;
+        let ascending = self.model.moves.last().is_none_or(|last| *last < m);
+        demand(ascending, 6, place)?;
+        let most = MOST_MOVES.min(self.rooms.moves);
+        demand(self.model.moves.len() < most, 10, place)?;
+        self.model.moves.push(m);
+        Ok(())
+    }
+}
+
+/// The answer to an accepted load.
+#[derive(Clone, Copy, Debug, PartialEq, Eq)]
+pub struct Loaded {
+    /// How many pairs are true.
+    pub true_pairs: usize,
+    /// How many pairs there are.
+    pub pairs: usize,
+    /// The stamp of the loaded moves.
+    pub stamp: u32,
+}
+
+/// Loads a model into the session's rooms with its values solved and all marks 0. A refusal
+/// changes nothing.
+pub fn load(session: &mut Session, bytes: &[u8]) -> Result<Loaded, Refusal> {
+    let model = read_model(bytes, &session.rooms())?;
+    let values = solve(&model);
+    let loaded = Loaded {
+        true_pairs: values.iter().filter(|value| **value).count(),
+        pairs: values.len(),
+        stamp: stamp(&model.moves),
+    };
+    session.store_model(&model);
+    session.store_values(&values, &vec![0; values.len()]);
+    session.store_moves(&model.moves);
+    session.stamp = Some(loaded.stamp);
+    Ok(loaded)
+}

@@ -1,0 +1,176 @@
+//! A session: the rooms it lends, whether it holds together, and the questions about a pair.
+
+use crate::limits::*;
+use crate::model::{read_model, Model};
+use crate::records::{Block, Equation, Sizes};
+use crate::refusal::{demand, Refusal};
+use crate::table::{stamp, Move, State, Variable};
+use crate::write::spell_session;
+
+/// Everything a session holds. The vectors are rooms: they may be longer than the sizes need,
+/// and all fields are open so that a damaged session can be built and judged.
+#[derive(Clone, Debug, PartialEq, Eq)]
+pub struct Session {
+    pub sizes: Sizes,
+    /// The blocks; only the first `sizes.blocks` of them count.
+    pub blocks: [Block; MOST_BLOCKS as usize],
+    /// For each state its set of propositions.
+    pub labels: Vec<u32>,
+    /// For each variable its equation.
+    pub equations: Vec<Equation>,
+    /// The room for moves; the first `move_count` of them are the table.
+    pub moves: Vec<Move>,
+    pub move_count: usize,
+    /// For each pair its value, at `sizes.pair(state, variable)`.
+    pub values: Vec<u8>,
+    /// For each pair its mark, at the same index as its value.
+    pub marks: Vec<u8>,
+    /// The stamp, if one is kept. A load keeps one; a batch renews it where one is kept.
+    pub stamp: Option<u32>,
+}
+
+/// How many places each lent room has.
+#[derive(Clone, Copy, Debug, PartialEq, Eq)]
+pub struct Rooms {
+    pub labels: usize,
+    pub equations: usize,
+    pub values: usize,
+    pub marks: usize,
+    pub moves: usize,
+}
+
+impl Rooms {
+    /// Rooms large enough for every model.
+    pub fn most() -> Rooms {
+        Rooms {
+            labels: usize::from(MOST_STATES),
+            equations: usize::from(MOST_VARIABLES),
+            values: MOST_PAIRS,
+            marks: MOST_PAIRS,
+            moves: MOST_MOVES,
+        }
+    }
+
+    /// Whether the rooms for labels, equations, values and marks are as long as the sizes need.
+    pub fn hold(&self, sizes: &Sizes) -> bool {
+        self.labels >= usize::from(sizes.states)
+            && self.equations >= usize::from(sizes.variables)
+            && self.values >= sizes.pairs()
+            && self.marks >= sizes.pairs()
+    }
+}
+
+impl Session {
+    /// A session with nothing loaded and all its rooms filled with 0.
+    pub fn new(rooms: Rooms) -> Session {
+        Session {
+            sizes: Sizes::default(),
+            blocks: Default::default(),
+            labels: vec![0; rooms.labels],
+            equations: vec![Equation::default(); rooms.equations],
+            moves: vec![Move::default(); rooms.moves],
+            move_count: 0,
+            values: vec![0; rooms.values],
+            marks: vec![0; rooms.marks],
+            stamp: None,
+        }
+    }
+
+    /// An empty session with room for every model.
+    pub fn roomy() -> Session {
+        Session::new(Rooms::most())
+    }
+
+    /// The lengths of the session's rooms.
+    pub fn rooms(&self) -> Rooms {
+        Rooms {
+            labels: self.labels.len(),
+            equations: self.equations.len(),
+            values: self.values.len(),
+            marks: self.marks.len(),
+            moves: self.moves.len(),
+        }
+    }
+
+    /// The moves of the table, as far as the room goes.
+    pub fn table(&self) -> &[Move] {
+        &self.moves[..self.move_count.min(self.moves.len())]
+    }
+
+    /// How many pairs are true.
+    pub fn true_pairs(&self) -> usize {
+        let values = self.values.iter().take(self.sizes.pairs());
+        values.filter(|value| **value == 1).count()
+    }
+
+    /// Stores a model's sizes, labels, blocks and equations; places past them keep what they had.
+    pub(crate) fn store_model(&mut self, model: &Model) {
+        self.sizes = model.sizes;
+        self.labels[..model.labels.len()].copy_from_slice(&model.labels);
+        self.blocks[..model.blocks.len()].copy_from_slice(&model.blocks);
+        self.equations[..model.equations.len()].copy_from_slice(&model.equations);
+    }
+
+    /// Stores the values and marks of all pairs; places past them keep what they had.
+    pub(crate) fn store_values(&mut self, values: &[bool], marks: &[u8]) {
+        for (place, value) in self.values.iter_mut().zip(values) {
+            *place = u8::from(*value);
+        }
+        self.marks[..marks.len()].copy_from_slice(marks);
+    }
+
+    /// Stores the table of moves; places past it keep what they had.
+    pub(crate) fn store_moves(&mut self, moves: &[Move]) {
+        self.moves[..moves.len()].copy_from_slice(moves);
+        self.move_count = moves.len();
+    }
+}
+
+/// Asks 12 for the sizes and the move count, then 13 for the rooms.
+fn check_sizes_and_rooms(session: &Session) -> Result<(), Refusal> {
+    let most = MOST_MOVES.min(session.moves.len());
+    demand(session.sizes.in_table(), 12, 0)?;
+    demand(session.move_count <= most, 12, 0)?;
+    demand(session.rooms().hold(&session.sizes), 13, 0)
+}
+
+/// Asks 12 for the rest: whether load accepts what the session holds, and whether its values,
+/// its marks and the stamp it keeps are good. Gives the model.
+fn check_rest(session: &Session) -> Result<Model, Refusal> {
+    let pairs = session.sizes.pairs();
+    let read = read_model(&spell_session(session), &session.rooms());
+    demand(read.is_ok(), 12, 0)?;
+    demand(session.values[..pairs].iter().all(|v| *v <= 1), 12, 0)?;
+    demand(session.marks[..pairs].iter().all(|m| *m <= 3), 12, 0)?;
+    let right = stamp(session.table());
+    demand(session.stamp.is_none_or(|kept| kept == right), 12, 0)?;
+    read
+}
+
+/// Asks 12 for the sizes, 13 for the rooms and 12 for the rest, and gives the model held.
+pub fn check(session: &Session) -> Result<Model, Refusal> {
+    check_sizes_and_rooms(session)?;
+    check_rest(session)
+}
+
+/// Where a pair is kept: asks 12 for the sizes, 13 for the rooms, and 4 for the pair's numbers.
+fn locate(session: &Session, state: State, variable: Variable) -> Result<usize, Refusal> {
+    check_sizes_and_rooms(session)?;
+    demand(state.0 < session.sizes.states, 4, 0)?;
+    demand(variable.0 < session.sizes.variables, 4, 0)?;
+    Ok(session.sizes.pair(state, variable))
+}
+
+/// The value of one pair, with 12 where the byte read is over 1.
+pub fn ask_value(session: &Session, state: State, variable: Variable) -> Result<bool, Refusal> {
+    let value = session.values[locate(session, state, variable)?];
+    demand(value <= 1, 12, 0)?;
+    Ok(value == 1)
+}
+
+/// The mark of one pair, with 12 where the byte read is over 3.
+pub fn ask_mark(session: &Session, state: State, variable: Variable) -> Result<u8, Refusal> {
+    let mark = session.marks[locate(session, state, variable)?];
+    demand(mark <= 3, 12, 0)?;
+    Ok(mark)
+}

@@ -1,0 +1,98 @@
+//! The generator does what it means to, and covers every outcome.
+
+use std::collections::BTreeMap;
+
+use reference::census::Census;
+use reference::generate::{family_named, generate, generate_family, Family, Intent, FAMILIES};
+use reference::program::{walk, Line, MOST_BYTES};
+
+/// Whether a line is what was meant to become of a part.
+fn fits(intent: Intent, line: Line) -> bool {
+    match (intent, line) {
+        (Intent::Loaded, Line::Loaded(_)) => true,
+        (Intent::Updated, Line::Updated(_)) => true,
+        (Intent::Refused(number), Line::Refused(refusal)) => refusal.number == number,
+        _ => false,
+    }
+}
+
+/// The same seed gives the same stream, and other seeds give others.
+#[test]
+fn the_seed_decides() {
+    for seed in 0..20 {
+        assert_eq!(generate(seed).bytes, generate(seed).bytes);
+    }
+    assert_ne!(
+        generate_family(1, Family::Small).bytes,
+        generate_family(2, Family::Small).bytes
+    );
+}
+
+/// The shares of the families add up to a hundred, and every family has a name.
+#[test]
+fn the_families_are_whole() {
+    assert_eq!(FAMILIES.iter().map(|(_, share)| share).sum::<usize>(), 100);
+    for (family, _) in FAMILIES {
+        let name = format!("{family:?}").to_lowercase();
+        assert_eq!(family_named(&name), Some(family));
+    }
+    assert_eq!(family_named("nothing"), None);
+}
+
+/// Every part whose outcome the generator knows has that outcome.
+#[test]
+fn parts_become_what_was_meant() {
+    let mut checked = 0;
+    for seed in 0..300 {
+        let stream = generate(seed);
+        let intents: BTreeMap<usize, _> = stream
+            .intents
+            .iter()
+            .map(|(part, intent)| (part.start, (part.end, *intent)))
+            .collect();
+        walk(&stream.bytes, |part, line, _| {
+            if let Some((end, intent)) = intents.get(&part.start) {
+                let seen_whole = *end <= MOST_BYTES;
+                assert!(
+                    !seen_whole || fits(*intent, line),
+                    "seed {seed} at {part:?}"
+                );
+                checked += 1;
+            }
+        });
+    }
+    assert!(checked > 5_000);
+}
+
+/// A census of not too many seeds meets every outcome that the program can reach.
+#[test]
+fn the_census_meets_everything() {
+    let mut census = Census::default();
+    for seed in 0..300 {
+        census.take(&generate(seed));
+    }
+    for number in [1, 2, 3, 4, 5, 6, 10] {
+        assert!(census.count(&format!("model refused {number:2}")) > 0);
+    }
+    for number in [1, 2, 3, 4, 7, 8, 9, 10, 11] {
+        assert!(census.count(&format!("batch refused {number:2}")) > 10);
+    }
+    for mark in 0..4 {
+        assert!(census.count(&format!("marks {mark}")) > 1_000);
+    }
+    let names = [
+        "streams over the limit",
+        "streams without a byte",
+        "batches accepted, no change",
+        "batches accepted, 64 changes",
+        "batches accepted, net above 0",
+        "batches accepted, net below 0",
+        "batches accepted, 1,024 moves after",
+        "models with 256 states",
+        "models with 32 variables",
+        "models with 8 blocks",
+    ];
+    for name in names {
+        assert!(census.count(name) > 0, "{name}");
+    }
+}
