@@ -18,3 +18,4 @@ pub mod BatchReload
 pub mod BatchTurns
 pub mod Refusals
 pub mod OneOutcome
+pub mod ModelLeaners
