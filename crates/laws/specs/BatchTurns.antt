@@ -11,7 +11,8 @@ use lib.ListN.{length, getD}
 use lib.Dec.{eqb, ltb}
 use Rattle.lists.specs.Lists.{any, bit, count, fill}
 use Rattle.lists.specs.Smallest.{Rule, at, table, smallest}
-use Rattle.lists.specs.SmallestLaws.{Sub, grow-closed, grow-least}
+use Rattle.lists.specs.Sets.{Sub}
+use Rattle.lists.specs.SmallestLaws.{Monotone, smallest-closed, smallest-least}
 use Rattle.lists.specs.Sums.{sum-ext}
 use Rattle.lists.specs.Tests.{_∈_, tell, clash, or-no, eqb-out}
 use Rattle.lists.specs.TableLaws.{table-at, listed-is, listed-length}
@@ -22,9 +23,8 @@ use Rattle.systems.specs.MarkTurns.{flip, odd, mark-turns}
 use Rattle.systems.specs.TurnsLead.{shift-leads, settle-leads}
 use Rattle.systems.specs.TurnsLead as T
 use Rattle.systems.specs.Visits.{visits-le}
-use Rattle.systems.specs.ShiftRule.{shifts-mono, shifts-inside}
-use Rattle.systems.specs.Top.{drops-mono}
-use Rattle.systems.specs.SolveSolution.{drops-inside}
+use Rattle.systems.specs.ShiftRule.{shifts-monotone}
+use Rattle.systems.specs.SettleRule.{drops-monotone}
 use Rattle.rules.specs.Moves.{target}
 use Rattle.rules.specs.Model.{Model, WellFormed}
 use Rattle.rules.specs.Records.{accepted}
@@ -131,8 +131,8 @@ module _ (m : Model) (cs : List Change) (j : Judged (m .moves) cs) (ok : Sound m
       let w : Values = at (table n old) in
       let fits = fits-old m cs j ok ok′ old in
       subst (λ (r : Rule). Smallest r (at (smallest n r))) (sym (shifts-same m cs j ok ok′ old i h v)) (record {
-        holds = grow-closed n (S.shifts F L M i w v) (shifts-mono F L M i w v) (shifts-inside F L M i w v fits h);
-        least = grow-least n (S.shifts F L M i w v) (shifts-mono F L M i w v) (shifts-inside F L M i w v fits h);
+        holds = smallest-closed (shifts-monotone fits M h w v);
+        least = smallest-least (shifts-monotone fits M h w v);
       })
 
   -- The settled set of a block is the smallest that the rule of settling asks for, from any values.
@@ -141,8 +141,8 @@ module _ (m : Model) (cs : List Change) (j : Judged (m .moves) cs) (ok : Sound m
       let n = pairsOf (m .sizes) in
       let fits = fits-new m cs j ok ok′ old in
       subst (λ (r : Rule). Smallest r (at (smallest n r))) (sym (settles-drops (changed cs m) i h v)) (record {
-        holds = grow-closed n (S.drops F M i v) (drops-mono F M i v) (drops-inside F M fits i h v);
-        least = grow-least n (S.drops F M i v) (drops-mono F M i v) (drops-inside F M fits i h v);
+        holds = smallest-closed (drops-monotone fits h v);
+        least = smallest-least (drops-monotone fits h v);
       })
 
   -- The value after the update is the one before, turned where the mark is 1 or 3.

@@ -12,7 +12,7 @@ use lib.Dec.{eqb, ltb}
 use lib.Arith.{digits-div, digits-mod}
 use Rattle.lists.specs.Lists.{bit, count}
 use Rattle.lists.specs.Tests.{tests, tell, clash, and-in, and-is, and-left, and-right, eqb-in, eqb-out, eqb-no, ltb-in, ltb-no}
-use Rattle.lists.specs.Sums.{times, times-append}
+use Rattle.lists.specs.Counts.{times, times-append}
 use Rattle.systems.specs.Machine.{Finds}
 use Rattle.systems.specs.Leaners.{has-count}
 use Rattle.rules.specs.Moves.{source, action, target}
@@ -237,7 +237,7 @@ module _ (m : Model) (s t : State) (z x : Variable) (h : s .0 < m .sizes .states
 -- The list is what the machine asks for: each leaning inside the block once.
 pub model-finds : (m : Model) → Sound m → Finds (frame m) (leanings m) (leanersOf m)
 unfolding leanersOf termAt
-model-finds m ok = record { counted = λ q p lt. listed q p lt ∙ sym (has-count (frame m) (leanings m) q p (leanings m p)) }
+model-finds m ok = record { counted = λ q p lt. listed q p lt ∙ sym (has-count (frame m) q p (leanings m p)) }
   where
     split : (p : ℕ) → pair (m .sizes) (stateOf (m .sizes) p) (variableOf (m .sizes) p) ≡ p
     split p = let e = mod-add-div' p (m .sizes .states) in omega arith

@@ -10,14 +10,12 @@ use native.Mathlib.Omega.{arith}
 use lib.Dec.{eqb, ltb}
 use Rattle.lists.specs.Lists.{is, any, count, sum}
 use Rattle.lists.specs.Smallest.{Rule, table, at, smallest}
-use Rattle.lists.specs.Tests.{_∈_, tests, tell, clash, eqb-out, eqb-no, ltb-out, ltb-in}
+use Rattle.lists.specs.Tests.{_∈_, tests, tell, clash, eqb-out, eqb-no, ltb-out}
 use Rattle.lists.specs.TableLaws.{table-is, table-at, table-past}
-use Rattle.systems.specs.System.{Frame, Leans, Fits, settled, shifted, moveTo, move}
+use Rattle.systems.specs.System.{Frame, Leans, Fits, settled, shifted, moveTo, lifted, move}
 use Rattle.systems.specs.System as S
 use Rattle.systems.specs.Marks.{shiftOf, settleOf, mark, visits}
-use Rattle.systems.specs.PhaseKeeps.{shiftSet, base, shift-no}
-use Rattle.systems.specs.BlockEnds.{upTo, up-suc, settleSet, settle-no, shift-at, settle-at}
-use Rattle.systems.specs.MachineMoves.{up-zero}
+use Rattle.systems.specs.UpTo.{upTo, up-in, up-off, shift-at, settle-at, shift-suc, settle-suc}
 use Rattle.rules.specs.Moves.{source, action, target}
 use Rattle.rules.specs.Model.{Model, moveOk}
 use Rattle.rules.specs.Rooms.{pairsOf}
@@ -130,23 +128,22 @@ module _ (m : Model) (cs : List Change) (j : Judged (m .moves) cs) (ok : Sound m
     pub settled : (p : ℕ) → p < pairsOf (m .sizes) → at (turnTo (changed cs m) cs old i .settled) p ≡ upTo F (settleOf F L M was) i p
 
   module _ (i : ℕ) (lt : i < m .sizes .blocks) (h : Same i) where
-    shifted-is : _≡_ {A = Values} (at (shiftedIn (changed cs m) cs old i)) (shiftSet F L M was i)
-    unfolding S.shifted shiftSet
+    shifted-is : _≡_ {A = Values} (at (shiftedIn (changed cs m) cs old i)) (shifted F L M i was (moveTo F L M was i))
+    unfolding S.shifted
     shifted-is =
         ap (λ (r : Rule). at (smallest (pairsOf (m .sizes)) r)) (shifts-same i lt (begun (changed cs m) cs old i) ∙ ap (λ (y : Values). S.shifts F L M i was y) (h .values))
 
     raised-past : (p : ℕ) → pairsOf (m .sizes) ≤ p → put (greatest (changed cs m) i) (begun (changed cs m) cs old i) (at (shiftedIn (changed cs m) cs old i)) p ≡ false
     raised-past p k = rw (smallest-past (pairsOf (m .sizes)) (shifts (changed cs m) cs i old (begun (changed cs m) cs old i)) p k) (h .past p k)
 
-    raised-is : _≡_ {A = Values} (raised (changed cs m) cs old i) (base F L M was true i)
-    unfolding base
+    raised-is : _≡_ {A = Values} (raised (changed cs m) cs old i) (lifted F L M was i)
     raised-is =
         let b = greatest (changed cs m) i in
         fun-ext (table-is (pairsOf (m .sizes)) (put b (begun (changed cs m) cs old i) (at (shiftedIn (changed cs m) cs old i))) raised-past)
         ∙ ap (λ (y : Values). put b y (at (shiftedIn (changed cs m) cs old i))) (h .values) ∙ ap (λ (y : Values). put b (moveTo F L M was i) y) shifted-is
 
-    settled-is : _≡_ {A = Values} (at (settledIn (changed cs m) cs old i)) (settleSet F L M was fits-old fits-new i)
-    unfolding S.settled settleSet
+    settled-is : _≡_ {A = Values} (at (settledIn (changed cs m) cs old i)) (settled F M i (lifted F L M was i))
+    unfolding S.settled
     settled-is =
         ap (λ (r : Rule). at (smallest (pairsOf (m .sizes)) r)) (settles-drops (changed cs m) i lt (raised (changed cs m) cs old i) ∙ ap (λ (y : Values). S.drops F M i y) raised-is)
 
@@ -156,23 +153,23 @@ module _ (m : Model) (cs : List Change) (j : Judged (m .moves) cs) (ok : Sound m
         (table-past (pairsOf (m .sizes)) (put (greatest (changed cs m) i) (begun (changed cs m) cs old i) (at (shiftedIn (changed cs m) cs old i))) p k)
 
     same-suc : Same (suc i)
-    unfolding turnTo turnBlock moveTo S.settled settleSet base shiftSet
+    unfolding turnTo turnBlock moveTo
     same-suc =
         let n = pairsOf (m .sizes) in
         let c = not (greatest (changed cs m) i) in
         record {
           values =
               fun-ext (table-is n (put c (raised (changed cs m) cs old i) (at (settledIn (changed cs m) cs old i))) after-past) ∙ ap (λ (y : Values). put c y (at (settledIn (changed cs m) cs old i))) raised-is
-              ∙ ap (λ (y : Values). put c (base F L M was true i) y) settled-is;
+              ∙ ap (λ (y : Values). put c (lifted F L M was i) y) settled-is;
           past = λ p k. table-past n (put c (raised (changed cs m) cs old i) (at (settledIn (changed cs m) cs old i))) p k;
           shifted = λ p k.
               table-at n (λ p. at (turnTo (changed cs m) cs old i .shifted) p || at (shiftedIn (changed cs m) cs old i) p) p k
               ∙ ap₂ _||_ (h .shifted p k) (ap (λ (y : Values). y p) shifted-is)
-              ∙ up-suc F (shiftOf F L M was) (shiftSet F L M was i) i (shift-at F L M was fits-old fits-new i) (shift-no F L M was fits-old fits-new i lt) p;
+              ∙ shift-suc F L M was fits-old lt p;
           settled = λ p k.
               table-at n (λ p. at (turnTo (changed cs m) cs old i .settled) p || at (settledIn (changed cs m) cs old i) p) p k
               ∙ ap₂ _||_ (h .settled p k) (ap (λ (y : Values). y p) settled-is)
-              ∙ up-suc F (settleOf F L M was) (settleSet F L M was fits-old fits-new i) i (settle-at F L M was fits-old fits-new i) (settle-no F L M was fits-old fits-new i lt) p;
+              ∙ settle-suc F L M was fits-new lt p;
         }
 
   same-to : (i : ℕ) → i ≤ m .sizes .blocks → Same i
@@ -180,8 +177,8 @@ module _ (m : Model) (cs : List Change) (j : Judged (m .moves) cs) (ok : Sound m
   same-to zero h = record {
     values = refl;
     past = λ p k. table-past (pairsOf (m .sizes)) old p k;
-    shifted = λ p k. sym (up-zero F (shiftOf F L M was) p);
-    settled = λ p k. sym (up-zero F (settleOf F L M was) p);
+    shifted = λ p k. sym (up-off F (shiftOf F L M was) 0 p (omega arith));
+    settled = λ p k. sym (up-off F (settleOf F L M was) 0 p (omega arith));
   }
   same-to (suc i) h = same-suc i h (same-to i (omega arith))
 
@@ -191,7 +188,7 @@ module _ (m : Model) (cs : List Change) (j : Judged (m .moves) cs) (ok : Sound m
   update-values = same-to (m .sizes .blocks) (le-refl (m .sizes .blocks)) .values
 
   up-all : (d : ℕ → Bool) (p : ℕ) → p < pairsOf (m .sizes) → upTo F d (m .sizes .blocks) p ≡ d p
-  up-all d p h = ap (λ (x : Bool). x && d p) (ltb-in (blockOf (changed cs m) p) (m .sizes .blocks) (pairs-full (changed cs m) ok′ p h))
+  up-all d p h = up-in F d (m .sizes .blocks) p (pairs-full (changed cs m) ok′ p h)
 
   pub update-shifted : (p : ℕ) → p < pairsOf (m .sizes) → at (turnAll (changed cs m) cs old .shifted) p ≡ shiftOf F L M was p
   unfolding turnAll
@@ -206,10 +203,10 @@ module _ (m : Model) (cs : List Change) (j : Judged (m .moves) cs) (ok : Sound m
   shifted-own p h =
       let i = blockOf (changed cs m) p in
       let lt = pairs-full (changed cs m) ok′ p h in
-      update-shifted p h ∙ shift-at F L M was fits-old fits-new i p refl ∙ sym (ap (λ (y : Values). y p) (shifted-is i lt (same-to i (omega arith))))
+      update-shifted p h ∙ shift-at F L M was i p refl ∙ sym (ap (λ (y : Values). y p) (shifted-is i lt (same-to i (omega arith))))
 
   pub settled-own : (p : ℕ) → p < pairsOf (m .sizes) → at (turnAll (changed cs m) cs old .settled) p ≡ at (settledIn (changed cs m) cs old (blockOf (changed cs m) p)) p
   settled-own p h =
       let i = blockOf (changed cs m) p in
       let lt = pairs-full (changed cs m) ok′ p h in
-      update-settled p h ∙ settle-at F L M was fits-old fits-new i p refl ∙ sym (ap (λ (y : Values). y p) (settled-is i lt (same-to i (omega arith))))
+      update-settled p h ∙ settle-at F L M was i p refl ∙ sym (ap (λ (y : Values). y p) (settled-is i lt (same-to i (omega arith))))

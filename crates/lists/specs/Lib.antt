@@ -1,6 +1,9 @@
 pub mod Lists
 pub mod Smallest
 pub mod Tests
-pub mod SmallestLaws
-pub mod Sums
 pub mod TableLaws
+pub mod Sums
+pub mod Sets
+pub mod Counts
+pub mod SmallestLaws
+pub mod Entries

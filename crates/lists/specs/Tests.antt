@@ -97,6 +97,18 @@ pub or-other : (x y : Bool) → (x || y) ≡ true → x ≡ false → y ≡ true
 or-other true y h e = absurd (true≢false e)
 or-other false y h e = h
 
+pub or-false : (x : Bool) → (x || false) ≡ x
+or-false true = refl
+or-false false = refl
+
+pub and-true : (x : Bool) → (x && true) ≡ x
+and-true true = refl
+and-true false = refl
+
+pub and-no : (x : Bool) {y : Bool} → y ≡ false → (x && y) ≡ false
+and-no true e = e
+and-no false e = refl
+
 pub or-no : (x y : Bool) → ((x || y) ≡ false) ↔ ((x ≡ false) × (y ≡ false))
 or-no true y = (λ e. absurd (true≢false e), λ e. e .0)
 or-no false y = (λ e. (refl, e), λ e. e .1)
@@ -116,6 +128,9 @@ eqb-out m n = eqb-is m n .0
 
 pub eqb-in : (m n : ℕ) → m ≡ n → eqb m n ≡ true
 eqb-in m n = eqb-is m n .1
+
+pub eqb-same : (m : ℕ) → eqb m m ≡ true
+eqb-same m = eqb-in m m refl
 
 pub ltb-out : (m n : ℕ) → ltb m n ≡ true → m < n
 ltb-out m n = ltb-is m n .0

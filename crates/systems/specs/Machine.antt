@@ -1,54 +1,63 @@
--- The step machine that moves the values: units of looking and of turning. Definitions only.
+-- The step machine that moves the values. Block after block it shifts and then settles; in each of these two phases it
+-- looks at every pair of the block, and turns the pairs that wait. A unit is one look or one turn. Definitions only.
 use mathlib.Core.Path.{_≡_}
-use mathlib.Core.Bool.{Bool, true, false, not, _&&_, cond}
+use mathlib.Core.Bool.{Bool, true, false, not, cond, _&&_}
 use mathlib.Core.List.{List, [], _∷_, _++_, map}
 use Prim.Native.Nat.{ℕ, zero, suc, _+_, _<_}
 use lib.Dec.{eqb, ltb}
 use lib.ListN.{length}
 use Rattle.lists.specs.Lists.{is, count}
-use Rattle.lists.specs.Sums.{times}
+use Rattle.lists.specs.Sets.{none}
+use Rattle.lists.specs.Counts.{times}
 use Rattle.systems.specs.System.{Frame, Leans, Values, ev, eval, shifts}
-use Rattle.systems.specs.Worklist.{Waiting, upd, push, spread, none}
+use Rattle.systems.specs.Worklist.{Waiting, upd, push, spread}
 
--- the value that a pair's block shifts towards
+-- The own value of the block that p is in.
 abbrev pub own : Frame → ℕ → Bool
 own F p = F .great (F .block p)
 
--- the value before the batch, from a block's value, a value and a mark
+-- The value before the update, told from the own value of the block, the value and the mark: a pair that has no mark has
+-- its value still, one with mark 1 or 2 had the other value, and one with mark 3 had the block's own.
 abbrev pub pastOf : Bool → Bool → ℕ → Bool
 pastOf b x zero = x
 pastOf b x (suc zero) = not b
 pastOf b x (suc (suc zero)) = not b
 pastOf b x (suc (suc (suc m))) = b
 
+-- The values before the update, told from the values and the marks.
 abbrev pub past : Frame → Values → (ℕ → ℕ) → Values
 past F v m p = pastOf (own F p) (v p) (m p)
 
--- In the phase of shifting (false) a pair waits by the mark 1; in the phase of settling (true) by 2 where it has shifted, else by 3.
+-- The marks that leave a pair free to wait, while shifting (false) and while settling (true).
 abbrev pub free : Bool → ℕ → Bool
 free false m = eqb m 0
 free true m = ltb m 2
 
+-- The mark by which a pair waits: 1 to shift; 2 to settle where it has shifted, else 3.
 abbrev pub nextMark : Bool → ℕ → ℕ
 nextMark false m = 1
 nextMark true m = cond (eqb m 0) 3 2
 
--- r must turn, now that a pair which it leans on has
+-- A pair r that leans on one that has just turned must turn too: while shifting, if it has the other value; while
+-- settling, if it has the block's own value and its equation gives the other.
 unfoldable pub asks : Frame → Leans → Bool → Values → ℕ → Bool
 unfolding ev
 asks F M false v r = is (not (own F r)) (v r)
 asks F M true v r = is (own F r) (v r) && is (not (own F r)) (eval F M v r)
 
--- p must turn, when it is looked at
+-- A pair p must turn when it is looked at: while shifting, if the rule asks for it before any pair of the block has
+-- shifted; while settling, if its equation gives the other value.
 unfoldable pub looks : Frame → Leans → Leans → Bool → Values → (ℕ → ℕ) → ℕ → Bool
 unfolding asks shifts
 looks F L M false v m p = shifts F L M (F .block p) (past F v m) v none p
 looks F L M true v m p = asks F M true v p
 
+-- A look at a pair, while shifting or while settling.
 pub record Look : Type 0 where
   pub settling : Bool
   pub pair : ℕ
 
+-- The state of an update: the looks that are left, the values, the marks and the pairs that wait, and the visits so far.
 pub record State : Type 0 where
   pub todo : List Look
   pub val : Values
@@ -56,22 +65,24 @@ pub record State : Type 0 where
   pub shiftVisits : ℕ
   pub settleVisits : ℕ
 
--- `lean q` lists the pairs of q's block that lean on q, once for each leaning, in any order
-pub record Finds (F : Frame) (M : Leans) (lean : ℕ → List ℕ) : Type 0 where
-  pub counted : (q p : ℕ) → F .block q < F .blocks → times p (lean q) ≡ count (λ r. eqb r q && eqb (F .block r) (F .block p)) (M p)
+-- `on q` lists the pairs of q's block that lean on q, once for each leaning, in any order.
+pub record Finds (F : Frame) (M : Leans) (on : ℕ → List ℕ) : Type 0 where
+  pub counted : (q p : ℕ) → F .block q < F .blocks → times p (on q) ≡ count (λ r. eqb r q && eqb (F .block r) (F .block p)) (M p)
 
+-- The pair q turns; the pairs that lean on it are visited, and those that must turn too wait.
 unfoldable pub turn : Frame → Leans → (ℕ → List ℕ) → Bool → ℕ → List ℕ → State → State
 unfolding asks
-turn F M lean ph q queue s =
+turn F M on ph q queue s =
     let v : Values = upd (s .val) q (not (s .val q)) in
     record {
       todo = s .todo;
       val = v;
-      held = spread (free ph) (nextMark ph) (asks F M ph v) (lean q) (record { marks = s .held .marks; queue = queue });
-      shiftVisits = s .shiftVisits + cond ph 0 (length (lean q));
-      settleVisits = s .settleVisits + cond ph (length (lean q)) 0;
+      held = spread (free ph) (nextMark ph) (asks F M ph v) (on q) (record { marks = s .held .marks; queue = queue });
+      shiftVisits = s .shiftVisits + cond ph 0 (length (on q));
+      settleVisits = s .settleVisits + cond ph (length (on q)) 0;
     }
 
+-- A pair is looked at, and waits if it must turn.
 unfoldable pub look : Frame → Leans → Leans → Look → List Look → State → State
 unfolding looks
 look F L M a todo s =
@@ -84,42 +95,48 @@ look F L M a todo s =
       settleVisits = s .settleVisits;
     }
 
--- one unit; a pair that waits to shift is told by its mark
+-- What one unit does, by the pairs that wait and the looks that are left. A pair that waits to shift is told by its mark.
 abbrev pub next : Frame → Leans → Leans → (ℕ → List ℕ) → List ℕ → List Look → State → State
-next F L M lean (q ∷ queue) todo s = turn F M lean (not (eqb (s .held .marks q) 1)) q queue s
-next F L M lean [] (a ∷ todo) s = look F L M a todo s
-next F L M lean [] [] s = s
+next F L M on (q ∷ queue) todo s = turn F M on (not (eqb (s .held .marks q) 1)) q queue s
+next F L M on [] (a ∷ todo) s = look F L M a todo s
+next F L M on [] [] s = s
 
+-- One unit.
 abbrev pub unit : Frame → Leans → Leans → (ℕ → List ℕ) → State → State
-unit F L M lean s = next F L M lean (s .held .queue) (s .todo) s
+unit F L M on s = next F L M on (s .held .queue) (s .todo) s
 
+-- n units.
 abbrev pub run : Frame → Leans → Leans → (ℕ → List ℕ) → ℕ → State → State
-run F L M lean zero s = s
-run F L M lean (suc n) s = run F L M lean n (unit F L M lean s)
+run F L M on zero s = s
+run F L M on (suc n) s = run F L M on n (unit F L M on s)
 
--- the pairs of block i among p, p + 1, .., n of them
+-- The pairs of block i among p, p + 1, .., n of them.
 abbrev pub pairsFrom : Frame → ℕ → ℕ → ℕ → List ℕ
 pairsFrom F i p zero = []
 pairsFrom F i p (suc n) = let l = pairsFrom F i (suc p) n in cond (eqb (F .block p) i) (p ∷ l) l
 
+-- The pairs of block i.
 unfoldable pub pairsOf : Frame → ℕ → List ℕ
 pairsOf F i = pairsFrom F i 0 (F .pairs)
 
+-- A look at each of the pairs.
 abbrev pub looksAt : Bool → List ℕ → List Look
 looksAt ph l = map (λ p. record { settling = ph; pair = p }) l
 
--- the looks of the blocks i, i + 1, .., n of them
+-- The looks of the blocks i, i + 1, .., n of them.
 abbrev pub todoFrom : Frame → ℕ → ℕ → List Look
 todoFrom F i zero = []
 todoFrom F i (suc n) = looksAt false (pairsOf F i) ++ (looksAt true (pairsOf F i) ++ todoFrom F (suc i) n)
 
--- what comes after the looks of a phase, where k blocks follow block i
+-- The looks that come after those of a phase of block i, where k blocks follow it.
 unfoldable pub after : Frame → Bool → ℕ → ℕ → List Look
 unfolding pairsOf
 after F false i k = looksAt true (pairsOf F i) ++ todoFrom F (suc i) k
 after F true i k = todoFrom F (suc i) k
 
+-- The state before the first unit.
 unfoldable pub start : Frame → Values → State
+unfolding pairsOf
 start F old = record {
   todo = todoFrom F 0 (F .blocks);
   val = old;

@@ -1,201 +1,179 @@
--- What the machine keeps in each phase of a block, and that a unit keeps it.
+-- What is known in the midst of a phase: which pairs have been marked, the values and marks of those that have and have
+-- not; and that the values before the update can always be told from the values and the marks.
 -- Assumes nothing.
 use mathlib.Core.Path.{_≡_, refl, sym, ap, _∙_}
 use mathlib.Core.Logic.{inl, inr}
-use mathlib.Core.Bool.{Bool, true, false, not, cond}
+use mathlib.Core.Bool.{Bool, true, false, not}
 use mathlib.Core.List.{List}
 use Prim.Native.Nat.{ℕ, _≤_, _<_}
 use native.Mathlib.Nat.{le-refl}
+use native.Mathlib.Decide.{decLt}
 use native.Mathlib.Omega.{arith}
-use lib.Dec.{ltb}
-use Rattle.lists.specs.Tests.{_∈_, tell, clash, ltb-out, ltb-in, ltb-no}
-use Rattle.lists.specs.SmallestLaws.{Sub, grow, grow-rule}
-use Rattle.systems.specs.System.{Frame, Leans, Values, Fits, put, drops, shifts, shifted, moveTo, move}
-use Rattle.systems.specs.Top.{put-off, drops-out, drops-mono}
-use Rattle.systems.specs.SolveSolution.{drops-inside}
-use Rattle.systems.specs.ShiftRule.{Shifts, shifts-out, shifts-mono, shifts-inside, shifted-out}
-use Rattle.systems.specs.MoveSolution.{moveTo-later, moveTo-done}
+use Rattle.lists.specs.Tests.{tell, no-way, ltb-in, ltb-no, cond-yes, cond-no}
+use Rattle.lists.specs.Sets.{Sub, sub-no}
+use Rattle.lists.specs.SmallestLaws.{Monotone, smallest-rule}
+use Rattle.systems.specs.System.{Values, shifted, moveTo, move}
 use Rattle.systems.specs.Marks.{shiftOf, settleOf, markOf, mark}
+use Rattle.systems.specs.Put.{put-in, put-off}
+use Rattle.systems.specs.SettleRule.{Drops, drops-out, drops-monotone}
+use Rattle.systems.specs.ShiftRule.{Shifts, shifts-out, shifts-monotone}
+use Rattle.systems.specs.MoveSolution.{moveTo-later, moveTo-done}
 use Rattle.systems.specs.MarkTurns.{shift-was, settle-was, move-still}
 use Rattle.systems.specs.Worklist.{Waiting}
-use Rattle.systems.specs.WorklistEnds.{Work}
-use Rattle.systems.specs.Machine.{own, pastOf, past, free, nextMark}
+use Rattle.systems.specs.Machine.{own, pastOf, past, nextMark}
+use Rattle.systems.specs.Phases.{Update, base, target, rule, turning, marksTo, marksOf, Doing}
 
--- the values, the target, the rule and the marks of a phase
-module _ (F : Frame) (L M : Leans) (old : Values) where
-  unfoldable pub shiftSet : ℕ → ℕ → Bool
-  unfolding shifted moveTo
-  shiftSet i = shifted F L M i old (moveTo F L M old i)
+module _ (u : Update) where
+  open Update u using (F, L, M, old, fits, fits′)
 
-  unfoldable pub base : Bool → ℕ → Values
-  unfolding moveTo shiftSet
-  base false i = moveTo F L M old i
-  base true i = put (F .great i) (moveTo F L M old i) (shiftSet i)
+  -- The more have turned, the more turn.
+  pub rule-monotone : (ph : Bool) {i : ℕ} → i < F .blocks → Monotone (F .pairs) (rule u ph i)
+  unfolding rule
+  rule-monotone false {i} lt = shifts-monotone fits M lt old (moveTo F L M old i)
+  rule-monotone true {i} lt = drops-monotone fits′ lt (base u true i)
 
-  abbrev pub target : Bool → ℕ → Bool
-  target false i = F .great i
-  target true i = not (F .great i)
+  -- The rule asks for pairs of the block only.
+  pub rule-here : (ph : Bool) (i : ℕ) (s : ℕ → Bool) (p : ℕ) → rule u ph i s p ≡ true → F .block p ≡ i
+  unfolding rule
+  rule-here false i s p e = shifts-out F L M i old (moveTo F L M old i) s p e .here
+  rule-here true i s p e = drops-out F M i (base u true i) s p e .here
 
-  unfoldable pub rule : Bool → ℕ → (ℕ → Bool) → ℕ → Bool
-  unfolding shifts drops moveTo base
-  rule false i = shifts F L M i old (moveTo F L M old i)
-  rule true i = drops F M i (base true i)
+  module _ {i : ℕ} (lt : i < F .blocks) (p : ℕ) where
+    turning-rule : (ph : Bool) → turning u ph i p ≡ true → rule u ph i (turning u ph i) p ≡ true
+    unfolding turning
+    turning-rule ph e = smallest-rule (rule-monotone ph lt) p e
 
-  -- the marks once the blocks before i have been moved
-  unfoldable pub marksTo : ℕ → ℕ → ℕ
+    -- A pair that turns is a pair of the block.
+    pub turning-here : (ph : Bool) → turning u ph i p ≡ true → F .block p ≡ i
+    turning-here ph e = rule-here ph i (turning u ph i) p (turning-rule ph e)
+
+    -- A pair of another block does not turn.
+    pub turning-off : (ph : Bool) → (F .block p ≡ i → ⊥) → turning u ph i p ≡ false
+    turning-off ph n = no-way (turning u ph i p) (λ e. n (turning-here ph e))
+
+    -- What is known of a pair that shifts.
+    pub turning-shifts : turning u false i p ≡ true → Shifts F L M i old (moveTo F L M old i) (turning u false i) p
+    unfolding rule
+    turning-shifts e = shifts-out F L M i old (moveTo F L M old i) (turning u false i) p (turning-rule false e)
+
+    -- What is known of a pair that settles.
+    pub turning-drops : turning u true i p ≡ true → Drops F M i (base u true i) (turning u true i) p
+    unfolding rule
+    turning-drops e = drops-out F M i (base u true i) (turning u true i) p (turning-rule true e)
+
+    -- A pair of the block has its old value until the block is moved.
+    pub old-here : F .block p ≡ i → moveTo F L M old i p ≡ old p
+    old-here e = moveTo-later fits fits′ old i (omega arith) p (omega arith)
+
+    -- Settling starts from the block's own value at the pairs that have shifted.
+    pub base-shifted : turning u false i p ≡ true → base u true i p ≡ F .great i
+    unfolding base turning rule shifted
+    base-shifted e = let v = moveTo F L M old i in put-in (F .great i) v (shifted F L M i old v) p e
+
+    -- Settling starts from the values before the shift at the other pairs.
+    pub base-still : turning u false i p ≡ false → base u true i p ≡ moveTo F L M old i p
+    unfolding base turning rule shifted
+    base-still e = let v = moveTo F L M old i in put-off (F .great i) v (shifted F L M i old v) p e
+
+  -- A pair of a block that has been moved has its mark.
+  pub marks-before : (i p : ℕ) → F .block p < i → marksTo u i p ≡ mark F L M old p
+  unfolding marksTo
+  marks-before i p h = cond-yes (mark F L M old p) 0 (ltb-in (F .block p) i h)
+
+  -- A pair of a later block has none.
+  pub marks-later : (i p : ℕ) → i ≤ F .block p → marksTo u i p ≡ 0
+  unfolding marksTo
+  marks-later i p h = cond-no (mark F L M old p) 0 (ltb-no (F .block p) i .1 h)
+
+  past-done : (p : ℕ) → F .block p < F .blocks → pastOf (own F p) (move F L M old p) (mark F L M old p) ≡ old p
   unfolding mark
-  marksTo i p = cond (ltb (F .block p) i) (mark F L M old p) 0
+  past-done p lt = go (shiftOf F L M old p) (settleOf F L M old p) refl refl
+    where
+      go : (s t : Bool) → shiftOf F L M old p ≡ s → settleOf F L M old p ≡ t → pastOf (own F p) (move F L M old p) (markOf s t) ≡ old p
+      go true true e f = sym (shift-was F L M fits fits′ old p lt e)
+      go true false e f = sym (shift-was F L M fits fits′ old p lt e)
+      go false true e f = sym (settle-was F L M fits fits′ old p lt e f)
+      go false false e f = move-still F L M fits fits′ old p lt f e
 
-  unfoldable pub marksOf : Bool → ℕ → ℕ → ℕ
-  unfolding marksTo shiftSet
-  marksOf false i p = marksTo i p
-  marksOf true i p = cond (shiftSet i p) 1 (marksTo i p)
+  -- Between two blocks the old values can be told.
+  pub past-between : (i : ℕ) → i ≤ F .blocks → (p : ℕ) → pastOf (own F p) (moveTo F L M old i p) (marksTo u i p) ≡ old p
+  unfolding move
+  past-between i le p =
+      let v = moveTo F L M old i p in
+      elim (decLt (F .block p) i) [
+        | yes h ↦
+            ap (pastOf (own F p) v) (marks-before i p h)
+            ∙ ap (λ (x : Bool). pastOf (own F p) x (mark F L M old p)) (sym (moveTo-done fits fits′ old (F .blocks) i le (le-refl (F .blocks)) p h))
+            ∙ past-done p (omega arith)
+        | no h ↦ ap (pastOf (own F p) v) (marks-later i p (omega arith)) ∙ moveTo-later fits fits′ old i le p (omega arith)
+      ]
 
-  -- x has been marked and t has turned; the pairs of rest are to be looked at
-  pub record Doing (ph : Bool) (i : ℕ) (x t : ℕ → Bool) (rest : List ℕ) (v : Values) (w : Waiting) : Type 0 where
-    pub lt : i < F .blocks
-    pub here : (p : ℕ) → p ∈ rest → F .block p ≡ i
-    pub work : Work (F .pairs) (rule ph i) (free ph) (nextMark ph) (marksOf ph i) x t w rest
-    pub vals : (p : ℕ) → v p ≡ put (target ph i) (base ph i) t p
+module _ {u : Update} {ph : Bool} {i : ℕ} {x t : ℕ → Bool} {rest : List ℕ} {v : Values} {w : Waiting} (d : Doing u ph i x t rest v w) where
+  open Update u using (F)
 
-  module _ (fits : Fits F L) (fits′ : Fits F M) where
-    pub rule-mono : (ph : Bool) (i : ℕ) (s t : ℕ → Bool) → Sub s t → Sub (rule ph i s) (rule ph i t)
-    unfolding rule
-    rule-mono false i = shifts-mono F L M i old (moveTo F L M old i)
-    rule-mono true i = drops-mono F M i (base true i)
+  -- A pair that has been marked turns.
+  pub marked-turns : Sub x (turning u ph i)
+  unfolding turning
+  marked-turns = d .work .stage .asked
 
-    pub rule-inside : (ph : Bool) (i : ℕ) → i < F .blocks → (s : ℕ → Bool) (p : ℕ) → rule ph i s p ≡ true → p < F .pairs
-    unfolding rule
-    rule-inside false i lt = shifts-inside F L M i old (moveTo F L M old i) fits lt
-    rule-inside true i lt = drops-inside F M fits′ i lt (base true i)
+  -- A pair that has been marked is a pair of the block.
+  pub marked-here : (p : ℕ) → x p ≡ true → F .block p ≡ i
+  marked-here p e = turning-here u (d .lt) p ph (marked-turns p e)
 
-    pub rule-here : (ph : Bool) (i : ℕ) (s : ℕ → Bool) (p : ℕ) → rule ph i s p ≡ true → F .block p ≡ i
-    unfolding rule
-    rule-here false i s p e = shifts-out F L M i old (moveTo F L M old i) s p e .here
-    rule-here true i s p e = drops-out F M i (base true i) s p e .here
+  -- A pair that has not been marked has not turned.
+  pub unmarked-still : (p : ℕ) → x p ≡ false → t p ≡ false
+  unmarked-still = sub-no (d .work .stage .within)
 
-    pub shift-out : (i : ℕ) → i < F .blocks → (p : ℕ) → shiftSet i p ≡ true → Shifts F L M i old (moveTo F L M old i) (shiftSet i) p
-    unfolding shiftSet
-    shift-out i lt p e = shifted-out F L M i old (moveTo F L M old i) fits lt p e
+  -- A pair that has turned has the value that pairs turn to.
+  pub turned-val : (p : ℕ) → t p ≡ true → v p ≡ target u ph i
+  turned-val p e = d .vals p ∙ put-in (target u ph i) (base u ph i) t p e
 
-    pub shift-no : (i : ℕ) → i < F .blocks → (p : ℕ) → (F .block p ≡ i → ⊥) → shiftSet i p ≡ false
-    shift-no i lt p h =
-        elim (tell false (shiftSet i p)) [
-          | inl e ↦ e
-          | inr e ↦ absurd (h (shift-out i lt p e .here))
-        ]
+  -- A pair that has not turned has the value that the phase started from.
+  pub still-val : (p : ℕ) → t p ≡ false → v p ≡ base u ph i p
+  still-val p e = d .vals p ∙ put-off (target u ph i) (base u ph i) t p e
 
-    -- an earlier or a later pair, or one that has not been touched
-    pub marks-before : (i p : ℕ) → F .block p < i → marksTo i p ≡ mark F L M old p
-    unfolding marksTo
-    marks-before i p h = ap (λ (b : Bool). cond b (mark F L M old p) 0) (ltb-in (F .block p) i h)
+  -- A pair that has been marked has its next mark.
+  pub marked-mark : (p : ℕ) → x p ≡ true → w .marks p ≡ nextMark ph (marksOf u ph i p)
+  marked-mark p e = d .work .stage .marked p ∙ cond-yes (nextMark ph (marksOf u ph i p)) (marksOf u ph i p) e
 
-    pub marks-later : (i p : ℕ) → i ≤ F .block p → marksTo i p ≡ 0
-    unfolding marksTo
-    marks-later i p h =
-        ap (λ (b : Bool). cond b (mark F L M old p) 0) (ltb-no (F .block p) i .1 h)
+  -- A pair that has not been marked has the mark that the phase found.
+  pub unmarked-mark : (p : ℕ) → x p ≡ false → w .marks p ≡ marksOf u ph i p
+  unmarked-mark p e = d .work .stage .marked p ∙ cond-no (nextMark ph (marksOf u ph i p)) (marksOf u ph i p) e
 
-    pub past-done : (p : ℕ) → F .block p < F .blocks → pastOf (own F p) (move F L M old p) (mark F L M old p) ≡ old p
-    unfolding mark
-    past-done p lt = go (shiftOf F L M old p) (settleOf F L M old p) refl refl
-      where
-        go : (s t : Bool) → shiftOf F L M old p ≡ s → settleOf F L M old p ≡ t → pastOf (own F p) (move F L M old p) (markOf s t) ≡ old p
-        go true true e f = sym (shift-was F L M fits fits′ old p lt e)
-        go true false e f = sym (shift-was F L M fits fits′ old p lt e)
-        go false true e f = sym (settle-was F L M fits fits′ old p lt e f)
-        go false false e f = move-still F L M fits fits′ old p lt f e
+module _ {u : Update} {i : ℕ} {x t : ℕ → Bool} {rest : List ℕ} {v : Values} {w : Waiting} where
+  open Update u using (F, L, M, old, fits, fits′)
 
-    pub past-still : (i : ℕ) → i ≤ F .blocks → (p : ℕ) → pastOf (own F p) (moveTo F L M old i p) (marksTo i p) ≡ old p
-    unfolding move
-    past-still i le p =
-        elim (tell true (ltb (F .block p) i)) [
+  -- At every point the value before the update can be told.
+  pub past-doing : (ph : Bool) → Doing u ph i x t rest v w → (p : ℕ) → past F v (w .marks) p ≡ old p
+  unfolding base marksOf
+  past-doing false d p =
+      elim (tell true (x p)) [
+        | inl e ↦
+            let s = turning-shifts u (d .lt) p (marked-turns d p e) in
+            ap (pastOf (own F p) (v p)) (marked-mark d p e) ∙ ap (λ (j : ℕ). not (F .great j)) (s .here) ∙ sym (s .was)
+        | inr e ↦
+            ap (pastOf (own F p) (v p)) (unmarked-mark d p e) ∙ ap (λ (b : Bool). pastOf (own F p) b (marksTo u i p)) (still-val d p (unmarked-still d p e))
+            ∙ past-between u i (let h = d .lt in omega arith) p
+      ]
+  past-doing true d p =
+      elim (tell true (turning u false i p)) [
+        | inl s ↦
+            let o = turning-shifts u (d .lt) p s in
+            let same : not (own F p) ≡ old p = ap (λ (j : ℕ). not (F .great j)) (o .here) ∙ sym (o .was) in
+            elim (tell true (x p)) [
+              | inl e ↦ ap (pastOf (own F p) (v p)) (marked-mark d p e ∙ ap (nextMark true) (cond-yes 1 (marksTo u i p) s)) ∙ same
+              | inr e ↦ ap (pastOf (own F p) (v p)) (unmarked-mark d p e ∙ cond-yes 1 (marksTo u i p) s) ∙ same
+            ]
+        | inr s ↦ elim (tell true (x p)) [
           | inl e ↦
-              let h : F .block p < i = ltb-out (F .block p) i e in
-              ap (λ (m : ℕ). pastOf (own F p) (moveTo F L M old i p) m) (marks-before i p h)
-              ∙ ap (λ (x : Bool). pastOf (own F p) x (mark F L M old p)) (sym (moveTo-done F L M fits fits′ old (F .blocks) i le (le-refl (F .blocks)) p h))
-              ∙ past-done p (omega arith)
+              let h = marked-here d p e in
+              ap (pastOf (own F p) (v p))
+              (marked-mark d p e ∙ ap (nextMark true) (cond-no 1 (marksTo u i p) s ∙ marks-later u i p (omega arith)))
+              ∙ ap (F .great) h
+              ∙ sym (sym (old-here u (d .lt) p h) ∙ sym (base-still u (d .lt) p s) ∙ turning-drops u (d .lt) p (marked-turns d p e) .own)
           | inr e ↦
-              let h : i ≤ F .block p = ltb-no (F .block p) i .0 e in
-              ap (λ (m : ℕ). pastOf (own F p) (moveTo F L M old i p) m) (marks-later i p h)
-              ∙ moveTo-later F L M fits fits′ old i le p h
+              ap (pastOf (own F p) (v p)) (unmarked-mark d p e ∙ cond-no 1 (marksTo u i p) s)
+              ∙ ap (λ (b : Bool). pastOf (own F p) b (marksTo u i p)) (still-val d p (unmarked-still d p e) ∙ base-still u (d .lt) p s)
+              ∙ past-between u i (let h = d .lt in omega arith) p
         ]
-
-    -- a pair of block i before it is marked
-    pub was-at : (i : ℕ) → i < F .blocks → (p : ℕ) → F .block p ≡ i → moveTo F L M old i p ≡ old p
-    was-at i lt p e = moveTo-later F L M fits fits′ old i (omega arith) p (omega arith)
-
-    -- what the sets of a phase hold
-    module _ (i : ℕ) (x t : ℕ → Bool) (rest : List ℕ) (v : Values) (w : Waiting) where
-      module _ (ph : Bool) (d : Doing ph i x t rest v w) where
-        pub in-rule : (p : ℕ) → x p ≡ true → rule ph i (grow (F .pairs) (rule ph i)) p ≡ true
-        in-rule p e = grow-rule (F .pairs) (rule ph i) (rule-mono ph i) (rule-inside ph i (d .lt)) p (d .work .stage .grown p e)
-
-        pub in-here : (p : ℕ) → x p ≡ true → F .block p ≡ i
-        in-here p e = rule-here ph i (grow (F .pairs) (rule ph i)) p (in-rule p e)
-
-        pub still : (p : ℕ) → x p ≡ false → t p ≡ false
-        still p e =
-            elim (tell false (t p)) [
-              | inl h ↦ h
-              | inr h ↦ absurd (clash true (x p) (d .work .stage .within p h) e)
-            ]
-
-        pub val-off : (p : ℕ) → t p ≡ false → v p ≡ base ph i p
-        val-off p e = d .vals p ∙ put-off (target ph i) (base ph i) t p e
-
-        pub mark-off : (p : ℕ) → x p ≡ false → w .marks p ≡ marksOf ph i p
-        mark-off p e = d .work .stage .marked p ∙ ap (λ (b : Bool). cond b (nextMark ph (marksOf ph i p)) (marksOf ph i p)) e
-
-        pub mark-on : (p : ℕ) → x p ≡ true → w .marks p ≡ nextMark ph (marksOf ph i p)
-        mark-on p e = d .work .stage .marked p ∙ ap (λ (b : Bool). cond b (nextMark ph (marksOf ph i p)) (marksOf ph i p)) e
-
-      pub marks-at : (p : ℕ) → F .block p ≡ i → marksTo i p ≡ 0
-      marks-at p e = marks-later i p (omega arith)
-
-      pub own-at : (p : ℕ) → F .block p ≡ i → own F p ≡ F .great i
-      own-at p e = ap (F .great) e
-
-      -- at every point the value before the batch is at hand
-      pub past-shifting : Doing false i x t rest v w → (p : ℕ) → past F v (w .marks) p ≡ old p
-      unfolding base marksOf rule
-      past-shifting d p =
-          elim (tell true (x p)) [
-            | inl e ↦
-                ap (λ (m : ℕ). pastOf (own F p) (v p) m) (mark-on false d p e) ∙ ap not (own-at p (in-here false d p e))
-                ∙ sym (shifts-out F L M i old (moveTo F L M old i) (grow (F .pairs) (rule false i)) p (in-rule false d p e) .was)
-            | inr e ↦
-                ap (λ (m : ℕ). pastOf (own F p) (v p) m) (mark-off false d p e)
-                ∙ ap (λ (b : Bool). pastOf (own F p) b (marksTo i p)) (val-off false d p (still false d p e))
-                ∙ past-still i (let h = d .lt in omega arith) p
-          ]
-
-      pub past-settling : Doing true i x t rest v w → (p : ℕ) → past F v (w .marks) p ≡ old p
-      unfolding base marksOf rule
-      past-settling d p =
-          elim (tell true (shiftSet i p)) [
-            | inl s ↦
-                let o = shift-out i (d .lt) p s in
-                elim (tell true (x p)) [
-                  | inl e ↦
-                      ap (λ (m : ℕ). pastOf (own F p) (v p) m)
-                      (mark-on true d p e ∙ ap (λ (b : Bool). nextMark true (cond b 1 (marksTo i p))) s)
-                      ∙ ap not (own-at p (o .here)) ∙ sym (o .was)
-                  | inr e ↦
-                      ap (λ (m : ℕ). pastOf (own F p) (v p) m) (mark-off true d p e ∙ ap (λ (b : Bool). cond b 1 (marksTo i p)) s)
-                      ∙ ap not (own-at p (o .here)) ∙ sym (o .was)
-                ]
-            | inr s ↦ elim (tell true (x p)) [
-              | inl e ↦
-                  let h = in-here true d p e in
-                  ap (λ (m : ℕ). pastOf (own F p) (v p) m)
-                  (mark-on true d p e ∙ ap (λ (b : Bool). nextMark true (cond b 1 (marksTo i p))) s ∙ ap (nextMark true) (marks-at p h))
-                  ∙ own-at p h
-                  ∙ sym (sym (was-at i (d .lt) p h) ∙ sym (put-off (F .great i) (moveTo F L M old i) (shiftSet i) p s)
-                  ∙ drops-out F M i (base true i) (grow (F .pairs) (rule true i)) p (in-rule true d p e) .own)
-              | inr e ↦
-                  ap (λ (m : ℕ). pastOf (own F p) (v p) m) (mark-off true d p e ∙ ap (λ (b : Bool). cond b 1 (marksTo i p)) s)
-                  ∙ ap (λ (b : Bool). pastOf (own F p) b (marksTo i p))
-                  (val-off true d p (still true d p e) ∙ put-off (F .great i) (moveTo F L M old i) (shiftSet i) p s)
-                  ∙ past-still i (let h = d .lt in omega arith) p
-            ]
-          ]
+      ]
