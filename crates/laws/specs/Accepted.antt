@@ -1,38 +1,34 @@
 -- What it says that a load or a batch was accepted, and what then lies in the rooms. Assumes nothing.
-use mathlib.Core.Path.{_≡_, refl, sym, ap, ap₂, _∙_, subst, fun-ext}
-use mathlib.Core.Logic.{_⊎_, inl, inr}
-use mathlib.Core.Bool.{Bool, true, false, cond, _&&_}
-use mathlib.Core.List.{List, [], _∷_, _++_, map}
-use Prim.Native.Nat.{ℕ, zero, suc, _+_, _-_, _*_, _≤_, _<_, min}
+use mathlib.Core.Path.{_≡_, refl, sym, ap, _∙_, subst}
+use mathlib.Core.Logic.{inl, inr}
+use mathlib.Core.Bool.{Bool, true, false}
+use mathlib.Core.List.{List, [], _∷_}
+use Prim.Native.Nat.{ℕ, _≤_, _<_}
 use native.Mathlib.Omega.{arith}
-use lib.ListN.{length, getD, take, drop, replicate, List·getD-append}
+use lib.ListN.{length, getD, take, drop, List·getD-append}
 use lib.Seq.{take-at}
 use lib.Dec.{eqb, leb}
-use Rattle.lists.specs.Lists.{all, bit, listed, fill}
-use Rattle.lists.specs.Smallest.{at, table}
-use Rattle.lists.specs.Tests.{tests, tell, and-in, and-is, leb-is, eqb-is}
-use Rattle.lists.specs.TableLaws.{table-is, table-at, table-past, listed-is, listed-length, listed-most, listed-same}
-use Rattle.rules.specs.Limits.{most-moves}
+use Rattle.lists.specs.Lists.{all, bit, fill}
+use Rattle.lists.specs.Smallest.{at}
+use Rattle.lists.specs.Tests.{tell, and-in}
+use Rattle.lists.specs.TableLaws.{bit-back, listed-is, listed-length, listed-most}
 use Rattle.rules.specs.Moves.{stampOf}
-use Rattle.rules.specs.Model.{Model, WellFormed, wellFormed}
+use Rattle.rules.specs.Model.{Model, WellFormed}
 use Rattle.rules.specs.Records.{Outcome, refused, accepted}
 use Rattle.rules.specs.Rooms.{Rooms, lengthsOf, pairsOf, roomsOk}
 use Rattle.rules.specs.Load.{readModel}
 use Rattle.rules.specs.Spelling.{encode}
-use Rattle.rules.specs.Batch.{Change, Batch, readBatch, judge, edited}
-use Rattle.rules.specs.Values.{Values, leanings, blockOf, solve}
-use Rattle.rules.specs.Update.{changed, Turned, turnAll, markOf}
-use Rattle.rules.specs.Session.{word, held, sessionOf, sessionDemands, countsOk, restOk}
-use Rattle.rules.specs.Calls.{Left, asked, andThen, valueAt, bits, loadBy, load, judged, marksOf, reportOf, roomsAfter, batchBy, batch}
+use Rattle.rules.specs.Batch.{Batch, readBatch, judge, edited}
+use Rattle.rules.specs.Values.{Values, solve}
+use Rattle.rules.specs.Update.{changed, Turned, markOf}
+use Rattle.rules.specs.Session.{held, sessionOf, sessionDemands}
+use Rattle.rules.specs.Calls.{asked, andThen, valueAt, bits, loadBy, load, judged, marksOf, batchBy, batch}
 use Rattle.rules.specs.declared.Session.{Session}
 use Rattle.rules.specs.declared.Report.{Report}
-use Rattle.laws.specs.RecordLaws.{AreBytes}
+use Rattle.laws.specs.RecordLaws.{AreBytes, never}
 use Rattle.laws.specs.ReadSpells.{read-spelling}
 use Rattle.laws.specs.Edits.{Judged, judge-out, batch-keeps}
-use Rattle.laws.specs.SessionHolds.{sessionOk, Holds, session-holds, holds-session, laid, laid-holds, movedTo, moved-holds}
-
-never : {B : Type 0} {n p : ℕ} {b : B} → refused n p ≡ accepted b → ⊥
-never e = let z : _≡_ {A = ℕ} 0 1 = cc in omega arith
+use Rattle.laws.specs.SessionHolds.{sessionOk, Holds, session-holds, laid-holds}
 
 -- Questions that were all answered yes.
 abbrev pub Yes : List (ℕ × Bool) → Type 0
@@ -59,15 +55,11 @@ then-out (accepted a) f b e = (a, refl, e)
 pub filled-at : (new room : List ℕ) (p : ℕ) → p < length new → getD (fill new room) p 0 ≡ getD new p 0
 filled-at new room p h = List·getD-append new (drop (length new) room) 0 p h
 
-of-bit : (b : Bool) → eqb (bit b) 1 ≡ b
-of-bit true = refl
-of-bit false = refl
-
 -- Values written into a room are the values that it holds.
 pub values-held : (n : ℕ) (v : Values) (room : List ℕ) (p : ℕ) → p < n → valueAt (fill (bits n v) room) p ≡ v p
 values-held n v room p h =
     let l = listed-length 0 n (λ p. bit (v p)) in
-    ap (λ (x : ℕ). eqb x 1) (filled-at (bits n v) room p (omega arith) ∙ listed-is n (λ p. bit (v p)) p h) ∙ of-bit (v p)
+    ap (λ (x : ℕ). eqb x 1) (filled-at (bits n v) room p (omega arith) ∙ listed-is n (λ p. bit (v p)) p h) ∙ bit-back (v p)
 
 pub bits-small : (n : ℕ) (v : Values) → all (λ x. leb x 1) (bits n v) ≡ true
 bits-small n v = listed-most 0 n (λ p. bit (v p)) 1 (λ p. one (v p))

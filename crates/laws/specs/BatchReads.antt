@@ -1,18 +1,17 @@
 -- A batch's bytes and what is accepted of them are each other's spelling. Assumes nothing.
 use mathlib.Core.Path.{_≡_, refl, sym, ap, ap₂, _∙_, subst}
-use mathlib.Core.Logic.{_⊎_, inl, inr}
-use mathlib.Core.Bool.{Bool, true, false, cond, _&&_, _||_, true≢false, false≢true}
-use mathlib.Core.List.{List, [], _∷_, _++_}
-use Prim.Native.Nat.{ℕ, zero, suc, _+_, _-_, _*_, _/_, _%_, _^_, _≤_, _<_, min}
+use mathlib.Core.Logic.{inl, inr}
+use mathlib.Core.Bool.{Bool, true, false, cond, _||_}
+use mathlib.Core.List.{List, [], _∷_}
+use Prim.Native.Nat.{ℕ, suc, _+_, _^_, _≤_, _<_}
 use native.Mathlib.Omega.{arith}
-use lib.ListN.{length, getD}
-use lib.Dec.{eqb, ltb, leb}
+use lib.ListN.{length}
+use lib.Dec.{eqb}
 use Rattle.lists.specs.Tests.{tests, tell, and-in, ltb-is, leb-is, eqb-is, and-is, or-other}
 use Rattle.rules.specs.Limits.{sizesOk, most-changes}
 use Rattle.rules.specs.Moves.{pack, source, action, target}
 use Rattle.rules.specs.Model.{moveOk}
-use Rattle.rules.specs.Records.{Rec, field, widths, Turn, no, next, demand, accepted, bytesOf, over}
-use Rattle.rules.specs.Spelling.{endRec}
+use Rattle.rules.specs.Records.{Rec, field, widths, Turn, no, next, accepted, bytesOf, over}
 use Rattle.rules.specs.Batch.{Change, Batch, Place, first, after, changeDemands, stepBatch, putBatch, emptyBatch, readBatch, changeRec, changeRecs, encodeBatch, changesOk, batchOk}
 use Rattle.rules.specs.declared.Sizes.{Sizes}
 use Rattle.laws.specs.RecordLaws.{Walks, done, more, Met, met, judged, Writable, AllWritable, AreBytes, run-written, run-read}
@@ -52,9 +51,9 @@ module _ (z : Sizes) (ok : sizesOk z ≡ true) where
         | inr t ↦ rw t ((refl, omega arith), ih)
       ]
 
-  pub batch-accepts : (b : Batch) → batchOk z b ≡ true → readBatch z (encodeBatch b) ≡ accepted b
+  pub read-batch-accepts : (b : Batch) → batchOk z b ≡ true → readBatch z (encodeBatch b) ≡ accepted b
   unfolding readBatch stepBatch putBatch widths
-  batch-accepts b h =
+  read-batch-accepts b h =
       let k = simp and-is at h in
       let n = leb-is (length (b .changes)) most-changes .0 (k .0 .1) in
       let s = ltb-is (b .stamp) 4294967296 .0 (k .0 .0) in
@@ -139,9 +138,9 @@ module _ (z : Sizes) (ok : sizesOk z ≡ true) where
         | inr d ↦ let z : _≡_ {A = ℕ} 0 1 = cc in absurd (omega arith)
       ]
 
-  pub batch-spelling : (s : List ℕ) (b : Batch) → AreBytes s → readBatch z s ≡ accepted b → (batchOk z b ≡ true) × (encodeBatch b ≡ s)
+  pub read-batch-spelling : (s : List ℕ) (b : Batch) → AreBytes s → readBatch z s ≡ accepted b → (batchOk z b ≡ true) × (encodeBatch b ≡ s)
   unfolding readBatch
-  batch-spelling s b y e =
+  read-batch-spelling s b y e =
       let w = run-read (stepBatch z) putBatch emptyBatch (length s) 0 s first b (omega arith) y e in
       let g = whole (w .3) (w .2) in
       (g .0, ap bytesOf (sym (g .1)) ∙ w .1)

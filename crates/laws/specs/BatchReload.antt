@@ -1,33 +1,31 @@
 -- Demand 3: after any sequence of accepted and refused batches, moves, stamp and values equal a fresh load's. And demand 2,
 -- of writing: the bytes come back, and loading what was written gives the session back with its marks cleared.
 -- Assumes nothing.
-use mathlib.Core.Path.{_≡_, refl, sym, ap, ap₂, _∙_, subst}
-use mathlib.Core.Logic.{_⊎_, inl, inr}
-use mathlib.Core.Bool.{Bool, true, false, cond}
-use mathlib.Core.List.{List, [], _∷_, _++_}
-use Prim.Native.Nat.{ℕ, _+_, _≤_, _<_}
+use mathlib.Core.Path.{_≡_, refl, sym, ap, _∙_, subst}
+use mathlib.Core.Bool.{Bool, true}
+use mathlib.Core.List.{List, [], _∷_}
+use Prim.Native.Nat.{ℕ, _≤_}
 use native.Mathlib.Omega.{arith}
 use lib.ListN.{length, take, drop, replicate, length-replicate}
 use lib.Seq.{take-at}
 use lib.Dec.{leb}
 use Rattle.lists.specs.Lists.{fill}
 use Rattle.lists.specs.Smallest.{at}
-use Rattle.lists.specs.Tests.{tell, and-is, leb-is}
-use Rattle.rules.specs.Model.{Model}
+use Rattle.lists.specs.Tests.{and-is, leb-is}
 use Rattle.rules.specs.Records.{Outcome, refused, accepted}
 use Rattle.rules.specs.Rooms.{Rooms, lengthsOf, pairsOf, roomsOk}
 use Rattle.rules.specs.Spelling.{encode}
 use Rattle.rules.specs.Batch.{Batch}
-use Rattle.rules.specs.Values.{solve}
 use Rattle.rules.specs.Update.{changed}
 use Rattle.rules.specs.Session.{held, sessionOf, sessionDemands}
-use Rattle.rules.specs.Calls.{Left, asked, bits, loadBy, load, judged, batchBy, batch, writeBy, writable, write}
+use Rattle.rules.specs.Calls.{Left, asked, loadBy, load, judged, batchBy, batch, writeBy, writable, write}
 use Rattle.rules.specs.declared.Session.{Session}
 use Rattle.rules.specs.declared.Report.{Report}
 use Rattle.laws.specs.RecordLaws.{AreBytes}
 use Rattle.laws.specs.SessionHolds.{sessionOk, holds-session}
-use Rattle.laws.specs.Accepted.{asked-in, asked-out, Solved, WasBatch, load-solved, batch-out}
+use Rattle.laws.specs.Accepted.{asked-in, asked-out, Solved, load-solved, batch-out}
 use Rattle.laws.specs.BatchSolved.{batch-solved}
+use Rattle.laws.specs.Refusals.{refusal-keeps}
 use Rattle.laws.specs.LoadSolves.{Solves, solved-solves, loaded-solved, load-accepts}
 
 -- The sessions that a load and then any sequence of batches, accepted and refused, lead to.
@@ -37,15 +35,6 @@ pub data Reached : Session → Rooms → Type 0 where
       → Reached (r .session) (batch s l bytes .rooms)
   passed : (s : Session) (l : Rooms) (bytes : List ℕ) (n p : ℕ) → Reached s l → AreBytes bytes → batch s l bytes .answer ≡ refused n p
       → Reached s (batch s l bytes .rooms)
-
--- A refused batch changes no room.
-batch-kept : (s : Session) (l : Rooms) (bytes : List ℕ) (n p : ℕ) → batch s l bytes .answer ≡ refused n p → batch s l bytes .rooms ≡ l
-unfolding batch
-batch-kept s l bytes n p e = go (judged s l bytes) e
-  where
-    go : (o : Outcome Batch) → batchBy s l o .answer ≡ refused n p → batchBy s l o .rooms ≡ l
-    go (refused k q) h = refl
-    go (accepted b) h = let z : _≡_ {A = ℕ} 0 1 = cc in absurd (omega arith)
 
 batch-moved : (s : Session) (l : Rooms) (bytes : List ℕ) (r : Report) → AreBytes bytes → batch s l bytes .answer ≡ accepted r → Solved s l (held s l)
     → Solved (r .session) (batch s l bytes .rooms) (held (r .session) (batch s l bytes .rooms))
@@ -69,7 +58,7 @@ pub reached-solved : {s : Session} {l : Rooms} → Reached s l → Solved s l (h
 reached-solved (loaded l bytes s y e) = loaded-solved l bytes s y e .0
 reached-solved (moved s l bytes r h y e) = batch-moved s l bytes r y e (reached-solved h)
 reached-solved (passed s l bytes n p h y e) =
-    subst (λ (x : Rooms). Solved s x (held s x)) (sym (batch-kept s l bytes n p e)) (reached-solved h)
+    subst (λ (x : Rooms). Solved s x (held s x)) (sym (refusal-keeps .batch s l bytes n p e)) (reached-solved h)
 
 -- The values of every session so reached are its model's.
 pub reached-solves : {s : Session} {l : Rooms} → Reached s l → Solves s l

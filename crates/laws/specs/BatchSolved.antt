@@ -1,17 +1,17 @@
 -- A batch that is accepted in a session as a load leaves it ends in a session as a load leaves it: its values are those of
 -- the model with the new moves. Assumes nothing.
-use mathlib.Core.Path.{_≡_, refl, sym, ap, ap₂, _∙_, subst, fun-ext}
+use mathlib.Core.Path.{_≡_, refl, sym, ap, _∙_, subst, fun-ext}
 use mathlib.Core.Bool.{Bool, true, false}
-use mathlib.Core.List.{List, [], _∷_, _++_}
-use Prim.Native.Nat.{ℕ, zero, suc, _+_, _≤_, _<_}
+use mathlib.Core.List.{List}
+use Prim.Native.Nat.{ℕ, _<_}
 use native.Mathlib.Decide.{decLt}
 use native.Mathlib.Omega.{arith}
 use lib.ListN.{length, getD, take, drop}
 use lib.Seq.{take-at, getD-take}
 use lib.Dec.{eqb}
-use Rattle.lists.specs.Lists.{bit, listed}
+use Rattle.lists.specs.Lists.{bit}
 use Rattle.lists.specs.Smallest.{at, table}
-use Rattle.lists.specs.TableLaws.{table-at, table-past, listed-is, listed-length, listed-same}
+use Rattle.lists.specs.TableLaws.{bit-back, table-at, table-past, listed-is, listed-length, listed-same}
 use Rattle.systems.specs.System as S
 use Rattle.systems.specs.MoveSolution.{move-solve}
 use Rattle.rules.specs.Model.{Model}
@@ -30,14 +30,10 @@ use Rattle.laws.specs.ValuesSolve.{solve-none, solve-same, solve-solves,
 use Rattle.laws.specs.UpdateMoves.{fits-old, fits-new, frame-same, update-values}
 use Rattle.laws.specs.Accepted.{Solved, WasBatch, bits-small, marks-small}
 
-of-bit : (b : Bool) → eqb (bit b) 1 ≡ b
-of-bit true = refl
-of-bit false = refl
-
 -- A room that begins with the bits of some values holds these.
 pub held-values : (n : ℕ) (v : Values) (room : List ℕ) → take n room ≡ bits n v → (p : ℕ) → p < n → valueAt room p ≡ v p
 held-values n v room e p h =
-    ap (λ (x : ℕ). eqb x 1) (sym (getD-take n room p 0 h) ∙ ap (λ (l : List ℕ). getD l p 0) e ∙ listed-is n (λ p. bit (v p)) p h) ∙ of-bit (v p)
+    ap (λ (x : ℕ). eqb x 1) (sym (getD-take n room p 0 h) ∙ ap (λ (l : List ℕ). getD l p 0) e ∙ listed-is n (λ p. bit (v p)) p h) ∙ bit-back (v p)
 
 -- Values that are a model's solve its system before the batch.
 pub old-solution : (m : Model) (cs : List Change) (old : Values) → Sound m → ((p : ℕ) → p < pairsOf (m .sizes) → old p ≡ at (solve m) p)

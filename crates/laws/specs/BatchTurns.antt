@@ -2,22 +2,21 @@
 -- value turned, each turned pair is touched or leads to a touched one, and the visits are counted as the rule says.
 -- Assumes nothing.
 use mathlib.Core.Path.{_≡_, refl, sym, ap, ap₂, _∙_, subst}
-use mathlib.Core.Logic.{_⊎_, inl, inr}
-use mathlib.Core.Bool.{Bool, true, false, not, cond, _&&_, _||_, true≢false}
-use mathlib.Core.List.{List, [], _∷_, map, List·Memᴰ·head, List·Memᴰ·tail}
-use Prim.Native.Nat.{ℕ, zero, suc, _+_, _*_, _≤_, _<_}
+use mathlib.Core.Logic.{inl, inr}
+use mathlib.Core.Bool.{Bool, true, false, not, cond, _||_}
+use mathlib.Core.List.{List, [], _∷_, map}
+use Prim.Native.Nat.{ℕ, _+_, _*_, _≤_, _<_}
 use native.Mathlib.Omega.{arith}
-use lib.ListN.{length, getD}
+use lib.ListN.{getD}
 use lib.Dec.{eqb, ltb}
-use Rattle.lists.specs.Lists.{any, bit, count, fill}
+use Rattle.lists.specs.Lists.{any, fill}
 use Rattle.lists.specs.Smallest.{Rule, at, table, smallest}
 use Rattle.lists.specs.Sets.{Sub}
-use Rattle.lists.specs.SmallestLaws.{Monotone, smallest-closed, smallest-least}
-use Rattle.lists.specs.Sums.{sum-ext}
-use Rattle.lists.specs.Tests.{_∈_, tell, clash, or-no, eqb-out}
+use Rattle.lists.specs.SmallestLaws.{smallest-closed, smallest-least}
+use Rattle.lists.specs.Tests.{_∈_, tell, or-no, eqb-out}
 use Rattle.lists.specs.TableLaws.{table-at, listed-is, listed-length}
 use Rattle.systems.specs.System as S
-use Rattle.systems.specs.Marks.{shiftOf, settleOf, mark}
+use Rattle.systems.specs.Marks.{mark}
 use Rattle.systems.specs.Marks as K
 use Rattle.systems.specs.MarkTurns.{flip, odd, mark-turns}
 use Rattle.systems.specs.TurnsLead.{shift-leads, settle-leads}
@@ -26,22 +25,21 @@ use Rattle.systems.specs.Visits.{visits-le}
 use Rattle.systems.specs.ShiftRule.{shifts-monotone}
 use Rattle.systems.specs.SettleRule.{drops-monotone}
 use Rattle.rules.specs.Moves.{target}
-use Rattle.rules.specs.Model.{Model, WellFormed}
+use Rattle.rules.specs.Model.{Model}
 use Rattle.rules.specs.Records.{accepted}
 use Rattle.rules.specs.Rooms.{Rooms, pairsOf}
 use Rattle.rules.specs.Batch.{Change, Batch, inserts, deletes, remove, insert, removeAll, insertAll, edited}
-use Rattle.rules.specs.Values.{Values, Term, constant, proposition, join, step, pair, state, stateOf, termAt, blockOf, own, targets, leaningsBy, leanings, settles, settledSet, put, greatest, solve}
-use Rattle.rules.specs.Update.{changed, touches, shifts, shiftedSet, Turned, turnTo, turnAll, markOf, visitsOn, leaningsIn}
-use Rattle.rules.specs.Session.{held, sessionOf}
+use Rattle.rules.specs.Values.{Values, Term, constant, proposition, join, step, pair, state, stateOf, termAt, blockOf, own, targets, leaningsBy, leanings, settles, settledSet, solve}
+use Rattle.rules.specs.Update.{changed, touches, shifts, shiftedSet, Turned, turnAll, markOf, visitsOn, leaningsIn}
+use Rattle.rules.specs.Session.{held}
 use Rattle.rules.specs.Calls.{Left, valueAt, marksOf, reportOf, batch}
 use Rattle.rules.specs.declared.State.{State}
 use Rattle.rules.specs.declared.Action.{Action}
 use Rattle.rules.specs.declared.Session.{Session}
 use Rattle.rules.specs.declared.Report.{Report}
-use Rattle.laws.specs.RecordLaws.{AreBytes}
-use Rattle.laws.specs.ModelSystem.{frame, block-inside, Sound, sound, pairs-full, model-fits}
+use Rattle.laws.specs.ModelSystem.{frame, Sound, sound, pairs-full}
 use Rattle.laws.specs.ValuesSolve.{settles-drops}
-use Rattle.laws.specs.UpdateMoves.{begun, shiftedIn, raised, settledIn, shifted-own, settled-own, fits-old, fits-new, frame-same, shifts-same, update-values, update-shifted, update-settled}
+use Rattle.laws.specs.UpdateMoves.{begun, shiftedIn, raised, settledIn, shifted-own, settled-own, fits-old, fits-new, shifts-same, update-values, update-shifted, update-settled, visits-agree, mark-same}
 use Rattle.laws.specs.Edits.{Judged}
 use Rattle.laws.specs.SessionHolds.{session-holds}
 use Rattle.laws.specs.Accepted.{WasBatch, filled-at, values-held}
@@ -157,13 +155,7 @@ module _ (m : Model) (cs : List Change) (j : Judged (m .moves) cs) (ok : Sound m
       ap (λ (f : Values). f p) (update-values m cs j ok ok′ old)
       ∙ mark-turns F L M (fits-old m cs j ok ok′ old) (fits-new m cs j ok ok′ old) w p (pairs-full (changed cs m) ok′ p h)
       ∙ ap₂ (λ (a b : Bool). flip (odd (K.markOf a b)) (w p)) (sym (update-shifted m cs j ok ok′ old p h)) (sym (update-settled m cs j ok ok′ old p h))
-      ∙ ap (λ (k : ℕ). flip (odd k) (w p)) (same-mark up down) ∙ ap (flip (odd (markOf up down))) (table-at n old p h)
-    where
-      same-mark : (a b : Bool) → K.markOf a b ≡ markOf a b
-      same-mark true true = refl
-      same-mark true false = refl
-      same-mark false true = refl
-      same-mark false false = refl
+      ∙ ap (λ (k : ℕ). flip (odd k) (w p)) (mark-same up down) ∙ ap (flip (odd (markOf up down))) (table-at n old p h)
 
 -- What a batch with the changes cs turns, in the model m with its new moves, from the values old. In each block, from the
 -- values it begins with, the shifted set is the smallest that the rule of shifting asks for; once these pairs have turned,
@@ -251,20 +243,6 @@ hasShifted k = eqb k 1 || eqb k 2
 
 abbrev pub hasSettled : ℕ → Bool
 hasSettled k = eqb k 2 || eqb k 3
-
--- Visits on two sets that agree on the pairs are the same.
-visits-agree : (m : Model) → Sound m → (f g : ℕ → Bool) → ((p : ℕ) → p < pairsOf (m .sizes) → f p ≡ g p) → visitsOn m f ≡ visitsOn m g
-unfolding visitsOn
-visits-agree m ok f g e = sum-ext (pairsOf (m .sizes)) _ _ (λ p h. counts p (leanings m p) (λ q k. inside p q h k))
-  where
-    inside : (p q : ℕ) → p < pairsOf (m .sizes) → q ∈ leanings m p → q < pairsOf (m .sizes)
-    inside p q h k = block-inside m q (let a = model-fits m ok .earlier p q k in let b = pairs-full m ok p h in omega arith)
-
-    counts : (p : ℕ) (l : List ℕ) → ((q : ℕ) → q ∈ l → q < pairsOf (m .sizes))
-        → count (λ q. eqb (blockOf m q) (blockOf m p) && f q) l ≡ count (λ q. eqb (blockOf m q) (blockOf m p) && g q) l
-    counts p [] h = refl
-    counts p (q ∷ l) h =
-        ap₂ _+_ (ap (λ (x : Bool). bit (eqb (blockOf m q) (blockOf m p) && x)) (e q (h q (List·Memᴰ·head refl)))) (counts p l (λ r k. h r (List·Memᴰ·tail k)))
 
 -- Visits are at most the leanings of the table.
 visits-most : (m : Model) (s : ℕ → Bool) → visitsOn m s ≤ leaningsIn m

@@ -1,24 +1,24 @@
 -- What a judged batch makes of the moves and of the stamp. Assumes nothing.
-use mathlib.Core.Path.{_≡_, refl, sym, ap, ap₂, _∙_, subst}
-use mathlib.Core.Logic.{_⊎_, inl, inr, _≢_}
+use mathlib.Core.Path.{_≡_, refl, sym, ap, _∙_}
+use mathlib.Core.Logic.{inl, inr, _≢_}
 use mathlib.Core.Bool.{Bool, true, false, cond, not, _&&_, _||_, true≢false, false≢true}
-use mathlib.Core.List.{List, [], _∷_, _++_}
+use mathlib.Core.List.{List, [], _∷_}
 use mathlib.Core.Option.{Option, none, some}
-use Prim.Native.Nat.{ℕ, zero, suc, _+_, _-_, _*_, _/_, _%_, _^_, _≤_, _<_, min}
+use Prim.Native.Nat.{ℕ, suc, _+_, _-_, _≤_, _<_, min}
 use native.Mathlib.Omega.{arith}
 use lib.ListN.{length}
 use lib.Dec.{eqb, ltb, leb}
 use Rattle.lists.specs.Lists.{sumOf, elem, is}
-use Rattle.lists.specs.Tests.{tests, tell, and-in, ltb-is, leb-is, eqb-is, and-is, ltb-no, or-in, or-other, denials, or-no, eqb-no}
+use Rattle.lists.specs.Tests.{tell, ltb-is, leb-is, eqb-is, and-is, ltb-no, or-in, or-other, or-no, eqb-no}
 use Rattle.rules.specs.Limits.{most-moves}
 use Rattle.rules.specs.Moves.{source, action, target, weight, wrap, stampOf}
 use Rattle.rules.specs.Model.{Model, moveOk, movesOk, wellFormed, WellFormed}
-use Rattle.rules.specs.Records.{Outcome, refused, accepted}
+use Rattle.rules.specs.Records.{accepted}
 use Rattle.rules.specs.Batch.{Change, Batch, readBatch, remove, insert, removeAll, insertAll, inserts, deletes, edited, repeated, misplaced, unless, firstOf, judgements, judge, changesOk}
 use Rattle.rules.specs.declared.Sizes.{Sizes}
 use Rattle.rules.specs.Update.{changed}
 use Rattle.laws.specs.RecordLaws.{AreBytes}
-use Rattle.laws.specs.BatchReads.{batch-spelling}
+use Rattle.laws.specs.BatchReads.{read-batch-spelling}
 
 -- The stamp carried over the changes by wrapping add and subtract.
 abbrev pub carry : ℕ → List Change → ℕ
@@ -307,14 +307,6 @@ edited-sum f z ms cs j h =
     let i = insertAll-sum f (inserts cs) (removeAll (deletes cs) ms) in
     let r = removeAll-sum f z (deletes cs) ms h (j .1) (j .3) in omega arith
 
-length-sum : (l : List ℕ) → length l ≡ sumOf (λ p. 1) l
-length-sum [] = refl
-length-sum (p ∷ l) = let h = length-sum l in omega arith
-
-pub edited-length : (z : Sizes) (ms : List ℕ) (cs : List Change) → Judged ms cs → movesOk z 0 ms ≡ true
-    → length (edited cs ms) + length (deletes cs) ≡ length ms + length (inserts cs)
-edited-length z ms cs j h = simp length-sum (edited-sum (λ p. 1) z ms cs j h)
-
 pub edited-stamp : (z : Sizes) (ms : List ℕ) (cs : List Change) → Judged ms cs → movesOk z 0 ms ≡ true → carry (stampOf ms) cs ≡ stampOf (edited cs ms)
 unfolding stampOf Carried
 edited-stamp z ms cs j h =
@@ -401,7 +393,7 @@ pub batch-keeps : (m : Model) (room : ℕ) (s : List ℕ) (b b′ : Batch) → W
 unfolding wellFormed
 batch-keeps m room s b b′ w y e f =
     let k = simp and-is at w in
-    let g = batch-spelling (m .sizes) (k .0 .0 .0 .0 .0) s b y e in
+    let g = read-batch-spelling (m .sizes) (k .0 .0 .0 .0 .0) s b y e in
     let c = simp and-is at (g .0) in
     let j = judge-out room (m .moves) b b′ f in
     let n = j .2 in

@@ -12,6 +12,7 @@ pub mod ValuesSolve
 pub mod Seeds
 pub mod UpdateMoves
 pub mod Accepted
+pub mod BatchAccepts
 pub mod BatchSolved
 pub mod LoadSolves
 pub mod BatchReload
@@ -19,3 +20,4 @@ pub mod BatchTurns
 pub mod Refusals
 pub mod OneOutcome
 pub mod ModelLeaners
+pub mod MachineRules

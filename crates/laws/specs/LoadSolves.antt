@@ -1,7 +1,7 @@
 -- Demand 2, of a load: the values it leaves are the model's, every model inside the limits is accepted where the rooms
 -- suffice, and every byte string gets an answer. Assumes nothing.
-use mathlib.Core.Path.{_≡_, refl, sym, ap, _∙_, subst}
-use mathlib.Core.Bool.{Bool, true, false}
+use mathlib.Core.Path.{_≡_, sym, ap, _∙_, subst}
+use mathlib.Core.Bool.{true}
 use mathlib.Core.List.{List}
 use Prim.Native.Nat.{ℕ, _≤_, _<_}
 use lib.ListN.{length}
@@ -11,7 +11,7 @@ use Rattle.rules.specs.Records.{accepted}
 use Rattle.rules.specs.Rooms.{Rooms, lengthsOf, pairsOf, roomsOk}
 use Rattle.rules.specs.Spelling.{encode}
 use Rattle.rules.specs.Values.{Values, Solution, solve}
-use Rattle.rules.specs.Session.{held, sessionOf}
+use Rattle.rules.specs.Session.{held}
 use Rattle.rules.specs.Calls.{valueAt, loadBy, load}
 use Rattle.rules.specs.declared.Session.{Session}
 use Rattle.laws.specs.RecordLaws.{AreBytes}
@@ -19,7 +19,7 @@ use Rattle.laws.specs.ReadAccepts.{read-accepts}
 use Rattle.laws.specs.SessionHolds.{holds-session}
 use Rattle.laws.specs.ModelSystem.{sound}
 use Rattle.laws.specs.ValuesSolve.{solve-solves, solution-agree, solution-one}
-use Rattle.laws.specs.Accepted.{Solved, WasLoaded, load-out, load-solved}
+use Rattle.laws.specs.Accepted.{Solved, load-out, load-solved}
 use Rattle.laws.specs.BatchSolved.{held-values}
 
 -- A session whose values are its model's: block by block the least and greatest fixpoints, and there are no others.

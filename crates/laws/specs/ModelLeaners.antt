@@ -1,11 +1,11 @@
 -- Who leans on a pair of a model: for each variable of its block in turn, "and" and "or" at the same state, diamond and box
 -- along the moves into the state, the last move first. Each leaning inside the block is listed once. Assumes nothing.
-use mathlib.Core.Path.{_≡_, refl, sym, ap, _∙_, subst}
-use mathlib.Core.Logic.{_⊎_, inl, inr}
-use mathlib.Core.Bool.{Bool, true, false, not, _&&_, cond}
+use mathlib.Core.Path.{_≡_, refl, sym, ap, _∙_}
+use mathlib.Core.Logic.{inl, inr}
+use mathlib.Core.Bool.{Bool, true, false, _&&_, cond}
 use mathlib.Core.List.{List, [], _∷_, _++_, map}
 use Prim.Native.Nat.{ℕ, zero, suc, _+_, _*_, _/_, _%_, _≤_, _<_}
-use native.Mathlib.Nat.{eq-or-lt-of-le, le-of-suc-le-suc, mod-lt, div-lt-iff-lt-mul, mod-add-div'}
+use native.Mathlib.Nat.{eq-or-lt-of-le, mod-lt, div-lt-iff-lt-mul, mod-add-div'}
 use native.Mathlib.Decide.{decLt, ℕ-discrete}
 use native.Mathlib.Omega.{arith}
 use lib.Dec.{eqb, ltb}

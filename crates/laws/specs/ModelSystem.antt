@@ -1,20 +1,20 @@
 -- A model as a system of Boolean equations: each pair an "and" or an "or" of the pairs that it leans on. What an equation
 -- gives is what the system's equation gives, and the system of a model inside the limits fits. Assumes nothing.
-use mathlib.Core.Path.{_≡_, refl, sym, ap, ap₂, _∙_, subst}
+use mathlib.Core.Path.{_≡_, refl, sym, ap, _∙_, subst}
 use mathlib.Core.Logic.{_⊎_, inl, inr}
-use mathlib.Core.Bool.{Bool, true, false, not, cond, _&&_, _||_}
-use mathlib.Core.List.{List, [], _∷_, map, List·Memᴰ, List·Memᴰ·head, List·Memᴰ·tail, List·Memᴰ·not-nil, List·Memᴰ·cases-cons, Memᴰ·of-map}
-use Prim.Native.Nat.{ℕ, zero, suc, _+_, _*_, _/_, _%_, _≤_, _<_}
+use mathlib.Core.Bool.{Bool, true, false, cond, _&&_, _||_}
+use mathlib.Core.List.{List, [], _∷_, map, List·Memᴰ·head, List·Memᴰ·tail, List·Memᴰ·not-nil, List·Memᴰ·cases-cons, Memᴰ·of-map}
+use Prim.Native.Nat.{ℕ, zero, suc, _/_, _≤_, _<_}
 use native.Mathlib.Nat.{mul-le-mul-right, mod-lt, div-lt-iff-lt-mul}
 use native.Mathlib.Omega.{arith}
 use lib.Arith.{digits-div}
 use lib.ListN.{length, getD}
-use lib.Dec.{eqb, ltb}
+use lib.Dec.{ltb}
 use Rattle.lists.specs.Lists.{is, any, all}
-use Rattle.lists.specs.Tests.{_∈_, tests, tell, and-is, ltb-in, ltb-out, ltb-is, ltb-no, eqb-is, eqb-out}
-use Rattle.systems.specs.System.{Frame, Leans, Fits, ev, eval}
-use Rattle.rules.specs.Moves.{source, action, target}
-use Rattle.rules.specs.Model.{Equation, Model, operandsOk, equationsOk, moveOk, movesOk, wellFormed, WellFormed}
+use Rattle.lists.specs.Tests.{_∈_, tests, tell, and-is, ltb-in, ltb-out, ltb-no}
+use Rattle.systems.specs.System.{Frame, Fits, ev, eval}
+use Rattle.rules.specs.Moves.{target}
+use Rattle.rules.specs.Model.{Equation, Model, equationsOk, moveOk, movesOk, wellFormed, WellFormed}
 use Rattle.rules.specs.Rooms.{pairsOf}
 use Rattle.rules.specs.Values.{Values, Term, constant, proposition, join, step, pair, state, variable, stateOf, variableOf, terms, termOf, termAt, equationAt, blockOf, greatest, holds, own, targets, leaningsBy, leanings, givesBy, gives}
 use Rattle.rules.specs.declared.State.{State}

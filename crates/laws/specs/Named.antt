@@ -1,18 +1,18 @@
 -- What the tests on equations and moves say, one by one. Assumes nothing.
-use mathlib.Core.Path.{_≡_, refl, sym, ap, _∙_, subst}
+use mathlib.Core.Path.{_≡_, sym, ap, subst}
 use mathlib.Core.Logic.{_⊎_, inl, inr}
-use mathlib.Core.Bool.{Bool, true, false, cond, _&&_, true≢false, false≢true}
-use mathlib.Core.List.{List, [], _∷_, List·Memᴰ, List·Memᴰ·head, List·Memᴰ·tail}
+use mathlib.Core.Bool.{true}
+use mathlib.Core.List.{List, [], _∷_, List·Memᴰ·head, List·Memᴰ·tail}
 use Prim.Native.Nat.{ℕ, zero, suc, _+_, _-_, _≤_, _<_}
 use native.Mathlib.Nat.{not-suc-le-zero, le-of-suc-le-suc}
 use native.Mathlib.Decide.{decLe}
 use native.Mathlib.Omega.{arith}
 use lib.ListN.{length, getD, drop, length-drop}
 use lib.Seq.{getD-drop}
-use lib.Dec.{eqb, ltb, leb}
-use Rattle.lists.specs.Tests.{_∈_, tests, tell, ltb-is, leb-is, eqb-is, and-is, ltb-no}
+use lib.Dec.{eqb, ltb}
+use Rattle.lists.specs.Tests.{_∈_, tests, tell, ltb-is, eqb-is, and-is, ltb-no}
 use Rattle.rules.specs.Moves.{source, action, target}
-use Rattle.rules.specs.Model.{Equation, namesOk, operandsOk, runOf, equationsOk, movesOk, moveOk}
+use Rattle.rules.specs.Model.{Equation, namesOk, runOf, equationsOk, movesOk, moveOk}
 use Rattle.rules.specs.Values.{nothing}
 use Rattle.rules.specs.declared.Sizes.{Sizes}
 use Rattle.laws.specs.Walks.{eq-count, run-le}

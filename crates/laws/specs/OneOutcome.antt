@@ -1,7 +1,7 @@
 -- Exactly one outcome fits the promise of each call: for any input there is an answer of the code's type that says what the
 -- definition says, and no two answers, nor two contents of a room, do. Assumes nothing.
 use mathlib.Core.Path.{_≡_, refl, sym, ap, _∙_}
-use mathlib.Core.Bool.{Bool, true, false, false≢true}
+use mathlib.Core.Bool.{true, false≢true}
 use mathlib.Core.List.{List, [], _∷_}
 use Prim.Native.Nat.{ℕ, zero, suc, _≤_}
 use native.Mathlib.Omega.{arith}
@@ -16,7 +16,6 @@ use Rattle.rules.specs.declared.Refusal.the-variants as Why
 use Rattle.rules.specs.declared.State.{State}
 use Rattle.rules.specs.declared.Variable.{Variable}
 use Rattle.rules.specs.declared.Session.{Session}
-use Rattle.rules.specs.declared.Report.{Report}
 use Rattle.rules.specs.declared.Loaded.{Loaded}
 use Rattle.rules.specs.declared.Loaded.the-variants as L
 use Rattle.rules.specs.declared.Updated.{Updated}

@@ -1,22 +1,21 @@
 -- Every model inside the limits is accepted, from its spelling. Assumes nothing.
-use mathlib.Core.Path.{_≡_, refl, sym, ap, ap₂, _∙_, subst}
-use mathlib.Core.Logic.{_⊎_, inl, inr}
-use mathlib.Core.Bool.{Bool, true, false, cond, _&&_, _||_, true≢false, false≢true}
+use mathlib.Core.Path.{_≡_, refl}
+use mathlib.Core.Logic.{inl, inr}
+use mathlib.Core.Bool.{true}
 use mathlib.Core.List.{List, [], _∷_, _++_}
-use Prim.Native.Nat.{ℕ, zero, suc, _+_, _-_, _*_, _/_, _%_, _^_, _≤_, _<_}
+use Prim.Native.Nat.{ℕ, zero, suc, _+_, _^_, _≤_, _<_}
 use native.Mathlib.Nat.{pow-le-pow-right}
 use native.Mathlib.Omega.{arith}
 use lib.ListN.{length}
-use lib.Dec.{eqb, ltb, leb}
+use lib.Dec.{eqb, ltb}
 use Rattle.lists.specs.Lists.{all}
-use Rattle.lists.specs.Tests.{tests, tell, and-is, ltb-is, leb-is, eqb-is}
+use Rattle.lists.specs.Tests.{tests, tell, and-is, ltb-is, eqb-is}
 use Rattle.rules.specs.Limits.{sizesOk}
-use Rattle.rules.specs.Moves.{source, action, target}
-use Rattle.rules.specs.Model.{Equation, Model, labelOk, moveOk, operandsOk, namesOk, runOf, equationsOk, movesOk, wellFormed, WellFormed}
-use Rattle.rules.specs.Records.{Rec, widths, Outcome, accepted, bytesOf}
+use Rattle.rules.specs.Model.{Equation, Model, labelOk, moveOk, operandsOk, equationsOk, movesOk, wellFormed, WellFormed}
+use Rattle.rules.specs.Records.{Rec, widths, accepted}
 use Rattle.rules.specs.Rooms.{Lengths, roomsOk}
-use Rattle.rules.specs.Load.{before, step, put, last, readModel}
-use Rattle.rules.specs.Spelling.{labelRecs, equationRec, blockRec, equationRecs, moveRec, moveRecs, records, encode}
+use Rattle.rules.specs.Load.{step, put, last, readModel}
+use Rattle.rules.specs.Spelling.{labelRecs, equationRecs, moveRecs, records, encode}
 use Rattle.rules.specs.declared.Sizes.{Sizes}
 use Rattle.laws.specs.RecordLaws.{AllWritable, run-written}
 use Rattle.laws.specs.Walks.{small, eq-count, run-le, walks-records}

@@ -1,22 +1,22 @@
 -- What loads is inside the limits, and its bytes are its spelling. Assumes nothing.
-use mathlib.Core.Path.{_≡_, refl, sym, ap, ap₂, _∙_, subst}
-use mathlib.Core.Logic.{_⊎_, inl, inr}
-use mathlib.Core.Bool.{Bool, true, false, cond, _&&_, _||_, true≢false, false≢true}
-use mathlib.Core.List.{List, [], _∷_, _++_, append-assoc, append-nil}
-use Prim.Native.Nat.{ℕ, zero, suc, _+_, _-_, _*_, _/_, _%_, _^_, _≤_, _<_, min}
-use native.Mathlib.Nat.{add-zero, add-suc, pow-suc}
+use mathlib.Core.Path.{_≡_, refl, sym, ap, _∙_, subst}
+use mathlib.Core.Logic.{inl, inr}
+use mathlib.Core.Bool.{Bool, true}
+use mathlib.Core.List.{List, [], _∷_, _++_, append-assoc}
+use Prim.Native.Nat.{ℕ, zero, suc, _+_, _-_, _*_, _^_, _≤_, _<_, min}
+use native.Mathlib.Nat.{add-zero, pow-suc}
 use native.Mathlib.Omega.{arith}
-use lib.ListN.{length, getD, replicate, length-append, length-replicate}
-use lib.Dec.{eqb, ltb, leb}
+use lib.ListN.{length, replicate, length-append, length-replicate}
+use lib.Dec.{eqb, ltb}
 use Rattle.lists.specs.Lists.{all}
-use Rattle.lists.specs.Tests.{tests, tell, and-in, ltb-is, leb-is, eqb-is, and-is, ltb-no, or-other}
+use Rattle.lists.specs.Tests.{tests, tell, and-in, ltb-is, leb-is, eqb-is, and-is, or-other}
 use Rattle.rules.specs.Limits.{most-moves, sizesOk}
 use Rattle.rules.specs.Moves.{pack, source, action, target}
-use Rattle.rules.specs.Model.{Equation, Model, labelOk, moveOk, operandsOk, namesOk, runOf, equationsOk, movesOk, wellFormed, WellFormed}
+use Rattle.rules.specs.Model.{Equation, Model, labelOk, moveOk, runOf, equationsOk, movesOk, wellFormed, WellFormed}
 use Rattle.rules.specs.Records.{Rec, field, widths, Turn, no, next, demand, accepted, bytesOf, over}
 use Rattle.rules.specs.Rooms.{Lengths, roomsOk}
-use Rattle.rules.specs.Load.{sizesOf, Sofar, State, before, inside, started, movesDue, blockFits, labelDemands, blockDemands, equationDemands, moveDemands, endDemands, sizesDemands, afterLabel, afterBlock, afterEquation, afterMove, step, put, last, lastOf, readModel, sayIn}
-use Rattle.rules.specs.Spelling.{sizesRec, labelRecs, equationRec, blockRec, equationRecs, moveRec, endRec, moveRecs, records, encode}
+use Rattle.rules.specs.Load.{sizesOf, Sofar, State, before, inside, started, blockFits, labelDemands, blockDemands, equationDemands, moveDemands, endDemands, sizesDemands, afterLabel, afterBlock, afterEquation, afterMove, step, put, last, lastOf, readModel, sayIn}
+use Rattle.rules.specs.Spelling.{sizesRec, labelRecs, blockRec, equationRecs, endRec, moveRecs, records, encode}
 use Rattle.rules.specs.declared.Sizes.{Sizes}
 use Rattle.laws.specs.RecordLaws.{Walks, done, more, Met, judged, Writable, AllWritable, AreBytes, tab, shape, run-read}
 use Rattle.laws.specs.Walks.{small, run-last}

@@ -1,16 +1,16 @@
 -- AreBytes and records: what is written is accepted back, and what is accepted, written again, is what was there. Assumes nothing.
-use mathlib.Core.Path.{_≡_, refl, sym, ap, ap₂, _∙_, subst}
+use mathlib.Core.Path.{_≡_, refl, ap, ap₂, _∙_}
 use mathlib.Core.Logic.{_⊎_, inl, inr}
-use mathlib.Core.Bool.{Bool, true, false, cond, _&&_, true≢false, false≢true}
+use mathlib.Core.Bool.{Bool, true, false, cond, _&&_}
 use mathlib.Core.List.{List, [], _∷_, _++_, append-assoc}
-use Prim.Native.Nat.{ℕ, zero, suc, _+_, _-_, _*_, _/_, _%_, _^_, _≤_, _<_}
-use native.Mathlib.Nat.{pow-succ', pow-zero, add-zero, zero-add, not-suc-le-zero, le-of-suc-le-suc, suc-add, add-suc}
+use Prim.Native.Nat.{ℕ, zero, suc, _+_, _*_, _/_, _%_, _^_, _≤_, _<_}
+use native.Mathlib.Nat.{pow-succ', pow-zero, add-zero, not-suc-le-zero, le-of-suc-le-suc, suc-add, add-suc}
 use native.Mathlib.Omega.{arith}
-use lib.ListN.{length, getD, take, drop, length-append, length-drop, take-append-drop}
+use lib.ListN.{length, getD, drop, length-append, length-drop}
 use lib.Seq.{drop-at, drop-drop}
-use lib.Dec.{eqb, ltb, leb}
-use Rattle.lists.specs.Tests.{tests, tell, and-in, leb-is, and-is}
-use Rattle.rules.specs.Records.{widths, known, bodyOf, digits, number, writes, reads, Rec, bytes, bytesOf, Parts, ends, broken, part, partsFrom, Turn, no, next, demand, Outcome, refused, accepted, onto, atEnd, onTurn, run, over}
+use lib.Dec.{leb}
+use Rattle.lists.specs.Tests.{tell, and-in, leb-is, and-is}
+use Rattle.rules.specs.Records.{widths, known, bodyOf, digits, number, writes, reads, Rec, bytes, bytesOf, broken, part, partsFrom, Turn, no, next, demand, Outcome, refused, accepted, onto, atEnd, onTurn, run, over}
 
 -- A body's numbers fit their widths; and bytes are below 256.
 abbrev pub Fits : List ℕ → List ℕ → Type 0
@@ -107,6 +107,10 @@ part-written r p s h =
       e,
     ) refl
 
+-- A refusal accepts nothing.
+pub never : {B : Type 0} {n p : ℕ} {b : B} → refused n p ≡ accepted b → ⊥
+never e = let z : _≡_ {A = ℕ} 0 1 = cc in omega arith
+
 -- A run of records.
 module _ {S B : Type 0} (step : S → Rec → Turn S) (put : S → Rec → B → B) (last : S → B) where
   pub data Walks : S → List Rec → B → Type 0 where
@@ -123,9 +127,6 @@ module _ {S B : Type 0} (step : S → Rec → Turn S) (put : S → Rec → B →
   -- what was accepted is what was written
   abbrev pub Spelled : S → List ℕ → B → Type 0
   Spelled st s b = (rs : List Rec) × (bytesOf rs ≡ s) × AllWritable rs × Walks st rs b
-
-  never : {n p : ℕ} {b : B} → refused n p ≡ accepted b → ⊥
-  never e = let z : _≡_ {A = ℕ} 0 1 = cc in omega arith
 
   pub un-onto : (f : B → B) (o : Outcome B) (b : B) → onto f o ≡ accepted b → (b′ : B) × (o ≡ accepted b′) × (b ≡ f b′)
   un-onto f (refused n p) b e = absurd (never e)

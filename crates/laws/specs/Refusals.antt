@@ -1,7 +1,6 @@
 -- Demand 1: a refusal changes nothing in any room lent, and every refusal has one of the paper's numbers 1 to 13.
 -- Assumes nothing.
-use mathlib.Core.Path.{_≡_, refl, sym, ap, _∙_}
-use mathlib.Core.Logic.{_⊎_, inl, inr}
+use mathlib.Core.Path.{_≡_, refl, sym}
 use mathlib.Core.Bool.{Bool, true, false, cond, _&&_}
 use mathlib.Core.List.{List, [], _∷_}
 use mathlib.Core.Option.{Option, none, some}
@@ -11,31 +10,28 @@ use lib.ListN.{length}
 use lib.Dec.{eqb, leb}
 use Rattle.lists.specs.Lists.{is, elem}
 use Rattle.lists.specs.Tests.{and-left, and-right}
+use Rattle.laws.specs.RecordLaws.{never}
 use Rattle.rules.specs.Limits.{most-moves}
 use Rattle.rules.specs.Moves.{stampOf}
 use Rattle.rules.specs.Records.{Rec, field, Parts, ends, broken, part, parts, Outcome, refused, accepted, Turn, no, next, over, demand, onto, atEnd, onTurn, run}
 use Rattle.rules.specs.Model.{Model}
 use Rattle.rules.specs.Rooms.{Rooms, Lengths, lengthsOf}
-use Rattle.rules.specs.Load.{Sofar, State, before, inside, sizesDemands, labelDemands, blockDemands, equationDemands, moveDemands, endDemands, step, put, last, readModel}
+use Rattle.rules.specs.Load.{State, before, inside, sizesDemands, labelDemands, blockDemands, equationDemands, moveDemands, endDemands, step, put, last, readModel}
 use Rattle.rules.specs.Batch.{Change, Batch, Place, first, after, changeDemands, stepBatch, putBatch, emptyBatch, readBatch, repeated, misplaced, unless, firstOf, edited, judge}
 use Rattle.rules.specs.Spelling.{encode}
 use Rattle.rules.specs.Values.{pair}
 use Rattle.rules.specs.Session.{held, sessionDemands}
-use Rattle.rules.specs.Calls.{Left, asked, andThen, loadBy, load, judged, batchBy, batch, writeBy, writable, write, valueAt, askDemands, ask}
+use Rattle.rules.specs.Calls.{asked, andThen, loadBy, load, judged, batchBy, batch, writeBy, writable, write, valueAt, askDemands, ask}
 use Rattle.rules.specs.declared.State as Code
 use Rattle.rules.specs.declared.Variable.{Variable}
 use Rattle.rules.specs.declared.Sizes.{Sizes}
 use Rattle.rules.specs.declared.Session.{Session}
-use Rattle.rules.specs.declared.Report.{Report}
 
 -- A refusal changes nothing lent.
 pub record Keeps : Type 0 where
   pub load : (l : Rooms) (bytes : List ℕ) (n p : ℕ) → load l bytes .answer ≡ refused n p → load l bytes .rooms ≡ l
   pub batch : (s : Session) (l : Rooms) (bytes : List ℕ) (n p : ℕ) → batch s l bytes .answer ≡ refused n p → batch s l bytes .rooms ≡ l
   pub write : (s : Session) (l : Rooms) (out : List ℕ) (n p : ℕ) → write s l out .answer ≡ refused n p → write s l out .rooms ≡ out
-
-split : {B : Type 0} {n p : ℕ} {b : B} → accepted b ≡ refused n p → ⊥
-split e = let z : _≡_ {A = ℕ} 0 1 = cc in omega arith
 
 pub refusal-keeps : Keeps
 unfolding load batch write
@@ -47,15 +43,15 @@ refusal-keeps = record {
   where
     by-load : (l : Rooms) (n p : ℕ) (o : Outcome Model) → loadBy l o .answer ≡ refused n p → loadBy l o .rooms ≡ l
     by-load l n p (refused k q) e = refl
-    by-load l n p (accepted m) e = absurd (split e)
+    by-load l n p (accepted m) e = absurd (never (sym e))
 
     by-batch : (s : Session) (l : Rooms) (n p : ℕ) (o : Outcome Batch) → batchBy s l o .answer ≡ refused n p → batchBy s l o .rooms ≡ l
     by-batch s l n p (refused k q) e = refl
-    by-batch s l n p (accepted b) e = absurd (split e)
+    by-batch s l n p (accepted b) e = absurd (never (sym e))
 
     by-write : (m : Model) (out : List ℕ) (n p : ℕ) (o : Outcome ℕ) → writeBy m out o .answer ≡ refused n p → writeBy m out o .rooms ≡ out
     by-write m out n p (refused k q) e = refl
-    by-write m out n p (accepted k) e = absurd (split e)
+    by-write m out n p (accepted k) e = absurd (never (sym e))
 
 -- One of the paper's numbers.
 abbrev pub paper : ℕ → Bool

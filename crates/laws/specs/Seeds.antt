@@ -1,20 +1,18 @@
 -- The pairs from which a batch's shift starts, in the rule's words (a diamond gains an own move, a box loses one) and in
 -- the system's (a pair leans on more, or on less, than before), are the same. Assumes nothing.
-use mathlib.Core.Path.{_≡_, refl, sym, ap, ap₂, _∙_, subst}
-use mathlib.Core.Logic.{_⊎_, inl, inr}
-use mathlib.Core.Bool.{Bool, true, false, not, cond, _&&_, _||_, true≢false}
-use mathlib.Core.List.{List, [], _∷_, map, List·Memᴰ, List·Memᴰ·head, List·Memᴰ·tail, Memᴰ·map, Memᴰ·of-map, Memᴰ·cast}
-use Prim.Native.Nat.{ℕ, zero, suc, _+_, _*_, _/_, _%_, _≤_, _<_}
-use native.Mathlib.Nat.{mod-lt}
+use mathlib.Core.Path.{_≡_, refl, sym, ap, _∙_, subst}
+use mathlib.Core.Logic.{inl, inr}
+use mathlib.Core.Bool.{Bool, true, false, not, _&&_, _||_, true≢false}
+use mathlib.Core.List.{List, List·Memᴰ·head, List·Memᴰ·tail, Memᴰ·map, Memᴰ·of-map, Memᴰ·cast}
+use Prim.Native.Nat.{ℕ, _<_}
 use native.Mathlib.Omega.{arith}
-use lib.Dec.{eqb, ltb}
-use Rattle.lists.specs.Lists.{is, any, elem}
-use Rattle.lists.specs.Tests.{_∈_, tests, tell, clash, no-way, is-in, is-out, and-in, and-left, and-right, or-left, or-right, or-out, any-in, any-out, elem-in, elem-out, eqb-is}
+use Rattle.lists.specs.Lists.{is, elem}
+use Rattle.lists.specs.Tests.{_∈_, tests, tell, clash, no-way, is-in, is-out, and-in, and-left, and-right, or-left, or-right, or-out, any-in, any-out, elem-in, elem-out}
 use Rattle.systems.specs.System.{seeds}
 use Rattle.systems.specs.ShiftRule.{Seeds, seeds-in, seeds-out}
 use Rattle.systems.specs.ShiftRule as Sys
-use Rattle.rules.specs.Moves.{source, action, target}
-use Rattle.rules.specs.Model.{Model, moveOk}
+use Rattle.rules.specs.Moves.{action, target}
+use Rattle.rules.specs.Model.{Model}
 use Rattle.rules.specs.Rooms.{pairsOf}
 use Rattle.rules.specs.Batch.{Change, inserts, deletes, edited}
 use Rattle.rules.specs.Values.{Values, Term, constant, proposition, join, step, pair, state, stateOf, termAt, own, targets, leaningsBy, leanings}

@@ -1,24 +1,24 @@
 -- When the rooms hold a model: exactly where the session's check passes, and always after an accepted load or batch.
 -- Assumes nothing.
 use mathlib.Core.Path.{_≡_, refl, sym, ap, ap₂, _∙_, subst}
-use mathlib.Core.Logic.{_⊎_, inl, inr}
-use mathlib.Core.Bool.{Bool, true, false, cond, _&&_, _||_}
+use mathlib.Core.Logic.{inl, inr}
+use mathlib.Core.Bool.{Bool, true, _&&_}
 use mathlib.Core.List.{List, [], _∷_, _++_, map, append-assoc}
-use Prim.Native.Nat.{ℕ, zero, suc, _+_, _-_, _*_, _/_, _%_, _^_, _≤_, _<_, min}
+use Prim.Native.Nat.{ℕ, zero, suc, _+_, _-_, _*_, _/_, _%_, _≤_, _<_, min}
 use native.Mathlib.Omega.{arith}
 use lib.ListN.{length, take, drop, replicate, length-take, length-map, length-append, length-drop, length-replicate}
 use lib.Seq.{take-at}
-use lib.Dec.{eqb, ltb, leb}
+use lib.Dec.{eqb, leb}
 use Rattle.lists.specs.Lists.{all, fill}
-use Rattle.lists.specs.Tests.{tests, tell, and-in, and-is, ltb-is, leb-is, eqb-is}
+use Rattle.lists.specs.Tests.{tests, tell, and-in, and-is, leb-is, eqb-is}
 use Rattle.rules.specs.Limits.{most-moves, sizesOk}
 use Rattle.rules.specs.Moves.{stampOf}
-use Rattle.rules.specs.Model.{Equation, Model, operandsOk, equationsOk, movesOk, wellFormed, WellFormed}
-use Rattle.rules.specs.Rooms.{Rooms, Lengths, lengthsOf, pairsOf, roomsOk}
+use Rattle.rules.specs.Model.{Equation, Model, equationsOk, wellFormed, WellFormed}
+use Rattle.rules.specs.Rooms.{Rooms, lengthsOf, pairsOf, roomsOk}
 use Rattle.rules.specs.Session.{word, unword, held, sessionOf, countsOk, restOk}
 use Rattle.rules.specs.declared.Sizes.{Sizes}
 use Rattle.rules.specs.declared.Session.{Session}
-use Rattle.laws.specs.Walks.{small, eq-count}
+use Rattle.laws.specs.Walks.{eq-count}
 use Rattle.laws.specs.ReadAccepts.{operands-small}
 
 -- All that a batch and a writing ask of a session.

@@ -1,20 +1,20 @@
 -- Loading and spelling are inverse, in one statement; and the length of a spelling. Assumes nothing.
-use mathlib.Core.Path.{_≡_, refl, sym, ap, ap₂, _∙_, subst}
-use mathlib.Core.Logic.{_↔_, _⊎_, inl, inr}
-use mathlib.Core.Bool.{Bool, true, false, cond, _&&_}
+use mathlib.Core.Path.{_≡_, refl, sym, ap, _∙_}
+use mathlib.Core.Logic.{_↔_, inl, inr}
+use mathlib.Core.Bool.{true}
 use mathlib.Core.List.{List, [], _∷_, _++_}
-use Prim.Native.Nat.{ℕ, zero, suc, _+_, _-_, _*_, _/_, _%_, _≤_, _<_}
+use Prim.Native.Nat.{ℕ, zero, suc, _+_, _*_, _/_, _≤_}
 use native.Mathlib.Omega.{arith}
 use lib.ListN.{length, length-append}
-use lib.Dec.{eqb, ltb, leb}
-use Rattle.lists.specs.Tests.{tests, tell, and-is, ltb-is, leb-is, eqb-is}
+use lib.Dec.{eqb}
+use Rattle.lists.specs.Tests.{tests, tell, and-is, eqb-is}
 use Rattle.rules.specs.Model.{Equation, Model, equationsOk, wellFormed, WellFormed}
-use Rattle.rules.specs.Records.{Rec, widths, known, bodyOf, digits, writes, bytes, bytesOf, accepted}
+use Rattle.rules.specs.Records.{Rec, widths, bodyOf, digits, writes, bytes, bytesOf, accepted}
 use Rattle.rules.specs.Rooms.{Lengths, roomsOk}
 use Rattle.rules.specs.Load.{readModel}
 use Rattle.rules.specs.Spelling.{labelRecs, equationRecs, moveRecs, records, encode}
 use Rattle.rules.specs.declared.Sizes.{Sizes}
-use Rattle.laws.specs.RecordLaws.{AreBytes, Fits, Writable, AllWritable, len-writes}
+use Rattle.laws.specs.RecordLaws.{AreBytes, AllWritable, len-writes}
 use Rattle.laws.specs.ReadAccepts.{read-accepts, records-w}
 use Rattle.laws.specs.ReadSpells.{read-spelling}
 

@@ -1,32 +1,34 @@
 -- An update moves the values of the model's system: the same pairs shift, the same settle, and the values, marks and visits
 -- are the system's, whatever the values before it were. Assumes nothing.
 use mathlib.Core.Path.{_≡_, refl, sym, ap, ap₂, _∙_, subst, fun-ext}
-use mathlib.Core.Logic.{_⊎_, inl, inr}
-use mathlib.Core.Bool.{Bool, true, false, not, cond, _&&_, _||_}
-use mathlib.Core.List.{List, [], _∷_}
-use Prim.Native.Nat.{ℕ, zero, suc, _+_, _*_, _≤_, _<_}
+use mathlib.Core.Logic.{inl, inr}
+use mathlib.Core.Bool.{Bool, true, false, not, _&&_, _||_}
+use mathlib.Core.List.{List, [], _∷_, List·Memᴰ·head, List·Memᴰ·tail}
+use Prim.Native.Nat.{_+_, ℕ, zero, suc, _≤_, _<_}
 use native.Mathlib.Nat.{le-refl}
 use native.Mathlib.Omega.{arith}
 use lib.Dec.{eqb, ltb}
-use Rattle.lists.specs.Lists.{is, any, count, sum}
+use Rattle.lists.specs.Lists.{is, any, bit, count}
 use Rattle.lists.specs.Smallest.{Rule, table, at, smallest}
-use Rattle.lists.specs.Tests.{_∈_, tests, tell, clash, eqb-out, eqb-no, ltb-out}
+use Rattle.lists.specs.Sums.{sum-ext}
+use Rattle.lists.specs.Tests.{_∈_, tests, tell, eqb-out, ltb-out}
 use Rattle.lists.specs.TableLaws.{table-is, table-at, table-past}
 use Rattle.systems.specs.System.{Frame, Leans, Fits, settled, shifted, moveTo, lifted, move}
 use Rattle.systems.specs.System as S
-use Rattle.systems.specs.Marks.{shiftOf, settleOf, mark, visits}
+use Rattle.systems.specs.Marks.{shiftOf, settleOf, visits}
+use Rattle.systems.specs.Marks as K
 use Rattle.systems.specs.UpTo.{upTo, up-in, up-off, shift-at, settle-at, shift-suc, settle-suc}
-use Rattle.rules.specs.Moves.{source, action, target}
+use Rattle.rules.specs.Moves.{target}
 use Rattle.rules.specs.Model.{Model, moveOk}
 use Rattle.rules.specs.Rooms.{pairsOf}
 use Rattle.rules.specs.Batch.{Change, inserts, deletes}
 use Rattle.rules.specs.Values.{Values, state, pair, stateOf, termAt, blockOf, greatest, leanings, put, settles, settledSet}
-use Rattle.rules.specs.Update.{changed, gains, loses, went, shifts, shiftedSet, turnedTo, Turned, turnBlock, turnTo, turnAll, markOf, visitsOn}
+use Rattle.rules.specs.Update.{markOf, changed, gains, loses, went, shifts, shiftedSet, turnedTo, turnBlock, turnTo, turnAll, visitsOn}
 use Rattle.rules.specs.declared.Variable.{Variable}
 use Rattle.laws.specs.Edits.{Judged}
 use Rattle.laws.specs.Named.{move-range}
 use Rattle.laws.specs.ModelSystem.{frame, block-inside, Sound, pair-below, pairs-full, model-fits}
-use Rattle.laws.specs.ValuesSolve.{smallest-past, no-block, settles-drops}
+use Rattle.laws.specs.ValuesSolve.{smallest-past, settles-drops}
 use Rattle.laws.specs.Seeds.{delete-old, seeds-same}
 
 any-same : (f g : ℕ → Bool) (l : List ℕ) → ((q : ℕ) → f q ≡ g q) → any f l ≡ any g l
@@ -210,3 +212,24 @@ module _ (m : Model) (cs : List Change) (j : Judged (m .moves) cs) (ok : Sound m
       let i = blockOf (changed cs m) p in
       let lt = pairs-full (changed cs m) ok′ p h in
       update-settled p h ∙ settle-at F L M was i p refl ∙ sym (ap (λ (y : Values). y p) (settled-is i lt (same-to i (omega arith))))
+
+-- Visits on two sets that agree on the pairs are the same.
+pub visits-agree : (m : Model) → Sound m → (f g : ℕ → Bool) → ((p : ℕ) → p < pairsOf (m .sizes) → f p ≡ g p) → visitsOn m f ≡ visitsOn m g
+unfolding visitsOn
+visits-agree m ok f g e = sum-ext (pairsOf (m .sizes)) _ _ (λ p h. counts p (leanings m p) (λ q k. inside p q h k))
+  where
+    inside : (p q : ℕ) → p < pairsOf (m .sizes) → q ∈ leanings m p → q < pairsOf (m .sizes)
+    inside p q h k = block-inside m q (let a = model-fits m ok .earlier p q k in let b = pairs-full m ok p h in omega arith)
+
+    counts : (p : ℕ) (l : List ℕ) → ((q : ℕ) → q ∈ l → q < pairsOf (m .sizes))
+        → count (λ q. eqb (blockOf m q) (blockOf m p) && f q) l ≡ count (λ q. eqb (blockOf m q) (blockOf m p) && g q) l
+    counts p [] h = refl
+    counts p (q ∷ l) h =
+        ap₂ _+_ (ap (λ (x : Bool). bit (eqb (blockOf m q) (blockOf m p) && x)) (e q (h q (List·Memᴰ·head refl)))) (counts p l (λ r k. h r (List·Memᴰ·tail k)))
+
+-- The rule and the system give the same marks.
+pub mark-same : (a b : Bool) → K.markOf a b ≡ markOf a b
+mark-same true true = refl
+mark-same true false = refl
+mark-same false true = refl
+mark-same false false = refl

@@ -1,20 +1,20 @@
 -- The values that are found for a model are its values, and it has no others: block by block the smallest or the largest
 -- assignment that solves the equations. Least and greatest by one proof, that of the model's system. Assumes nothing.
 use mathlib.Core.Path.{_≡_, refl, sym, ap, ap₂, _∙_, subst, fun-ext}
-use mathlib.Core.Logic.{_⊎_, inl, inr}
-use mathlib.Core.Bool.{Bool, true, false, not, cond, _&&_, _||_}
+use mathlib.Core.Logic.{inl, inr}
+use mathlib.Core.Bool.{Bool, true, false, not, _&&_}
 use mathlib.Core.List.{List, [], _∷_, List·Memᴰ·head, List·Memᴰ·tail}
-use Prim.Native.Nat.{ℕ, zero, suc, _+_, _*_, _≤_, _<_}
+use Prim.Native.Nat.{ℕ, zero, suc, _≤_, _<_}
 use native.Mathlib.Nat.{le-refl}
 use native.Mathlib.Omega.{arith}
-use lib.Dec.{eqb, ltb}
+use lib.Dec.{eqb}
 use Rattle.lists.specs.Lists.{is}
 use Rattle.lists.specs.Smallest.{Rule, table, at, smallest}
 use Rattle.lists.specs.Tests.{_∈_, tell, clash, eqb-out, eqb-no}
 use Rattle.lists.specs.TableLaws.{table-is, table-past}
-use Rattle.systems.specs.System.{Frame, Leans, Fits, ev, eval, drops, settled}
+use Rattle.systems.specs.System.{ev, drops, settled}
 use Rattle.systems.specs.System as S
-use Rattle.systems.specs.SolveSolution.{solve-solution, unique}
+use Rattle.systems.specs.SolveSolution.{solve-solution, solution-largest, solution-smallest, unique}
 use Rattle.rules.specs.Model.{Model}
 use Rattle.rules.specs.Rooms.{pairsOf}
 use Rattle.rules.specs.Values.{Values, blockOf, greatest, leanings, gives, Solves, Agree, Solution, put, settles, fresh, solveTo, solve}
@@ -85,11 +85,8 @@ module _ (m : Model) where
   pub solution-in : (v : Values) → S.Solution (frame m) (leanings m) v → Solution m v
   solution-in v s = record {
     solves = λ i h p e. s .solves i h p e ∙ sym (gives-eval m v p (block-inside m p (omega arith)));
-    smallest = λ i h g u a k p e t. elim (tell true (u p)) [
-      | inl x ↦ x
-      | inr x ↦ absurd (clash true (v p) t (s .extreme i h u a (solves-in i h u k) p e (x ∙ sym g) ∙ g))
-    ];
-    largest = λ i h g u a k p e t. s .extreme i h u a (solves-in i h u k) p e (t ∙ sym g) ∙ g;
+    smallest = λ i h g u a k p e t. solution-smallest (frame m) (leanings m) v s i h u a (solves-in i h u k) p e g t;
+    largest = λ i h g u a k p e t. solution-largest (frame m) (leanings m) v s i h u a (solves-in i h u k) p e g t;
   }
     where
       solves-in : (i : ℕ) → i < m .sizes .blocks → (u : Values) → Solves m i u → S.Solves (frame m) (leanings m) i u

@@ -1,24 +1,24 @@
 -- Every model inside the limits is accepted back from its spelling. Assumes nothing.
-use mathlib.Core.Path.{_≡_, refl, sym, ap, ap₂, _∙_, subst}
+use mathlib.Core.Path.{_≡_, refl, sym, ap, _∙_, subst}
 use mathlib.Core.Logic.{_⊎_, inl, inr}
-use mathlib.Core.Bool.{Bool, true, false, cond, _&&_, _||_, true≢false, false≢true}
+use mathlib.Core.Bool.{Bool, true, false, cond}
 use mathlib.Core.List.{List, [], _∷_, _++_, append-assoc, append-nil}
-use Prim.Native.Nat.{ℕ, zero, suc, _+_, _-_, _*_, _/_, _%_, _^_, _≤_, _<_, min}
+use Prim.Native.Nat.{ℕ, zero, suc, _+_, _-_, _≤_, _<_, min}
 use native.Mathlib.Nat.{add-zero, add-suc}
 use native.Mathlib.Omega.{arith}
-use lib.ListN.{length, getD, replicate, length-append}
-use lib.Dec.{eqb, ltb, leb, eqb·suc-zero}
+use lib.ListN.{length, replicate}
+use lib.Dec.{eqb, eqb·suc-zero}
 use Rattle.lists.specs.Lists.{all}
 use Rattle.lists.specs.Tests.{tests, tell, and-in, ltb-is, leb-is, eqb-is, and-is, ltb-no, or-in}
 use Rattle.rules.specs.Limits.{most-moves, sizesOk}
 use Rattle.rules.specs.Moves.{pack, source, action, target}
 use Rattle.rules.specs.Model.{Equation, Model, labelOk, moveOk, operandsOk, namesOk, runOf, equationsOk, movesOk, wellFormed}
-use Rattle.rules.specs.Records.{Rec, field, Turn, no, next, demand, over}
+use Rattle.rules.specs.Records.{Rec, next, over}
 use Rattle.rules.specs.Rooms.{Lengths, roomsOk}
-use Rattle.rules.specs.Load.{Sofar, State, before, inside, started, movesDue, blockFits, labelDemands, blockDemands, equationDemands, moveDemands, endDemands, sizesDemands, afterLabel, afterBlock, afterEquation, afterMove, step, put, putLabels, putEquation, putMove, last, lastOf}
-use Rattle.rules.specs.Spelling.{labelRecs, equationRec, blockRec, equationRecs, moveRec, endRec, moveRecs, records, sizesRec}
+use Rattle.rules.specs.Load.{Sofar, State, before, inside, started, movesDue, blockFits, labelDemands, blockDemands, equationDemands, moveDemands, endDemands, sizesDemands, afterLabel, afterBlock, afterEquation, afterMove, step, put, last}
+use Rattle.rules.specs.Spelling.{labelRecs, equationRec, blockRec, equationRecs, moveRec, moveRecs, records, sizesRec}
 use Rattle.rules.specs.declared.Sizes.{Sizes}
-use Rattle.laws.specs.RecordLaws.{Walks, done, more, Met, met}
+use Rattle.laws.specs.RecordLaws.{Walks, done, more, met}
 
 -- what the sizes bound
 pub small : (z : Sizes) → sizesOk z ≡ true → (1 ≤ z .states) × (z .states ≤ 256) × (1 ≤ z .actions) × (z .actions ≤ 16) × (z .propositions ≤ 32) × (1 ≤ z .variables) × (z .variables ≤ 32) × (1 ≤ z .blocks) × (z .blocks ≤ 8)

@@ -2,16 +2,16 @@
 -- Assumes nothing.
 use mathlib.Core.Path.{_≡_, refl, sym, ap, _∙_}
 use mathlib.Core.Bool.{Bool, true, false}
-use mathlib.Core.List.{List, [], _∷_}
+use mathlib.Core.List.{List, _∷_}
 use Prim.Native.Nat.{ℕ, zero, suc, _+_, _≤_, _<_}
 use native.Mathlib.Nat.{add-zero, add-suc, suc-add, zero-add, le-of-suc-le-suc, not-suc-le-zero}
 use native.Mathlib.Decide.{decLt}
 use native.Mathlib.Omega.{arith}
 use lib.ListN.{length, getD}
-use lib.Dec.{leb}
+use lib.Dec.{eqb, leb}
 use Rattle.lists.specs.Lists.{all, bit, listed}
 use Rattle.lists.specs.Smallest.{tab, table, at}
-use Rattle.lists.specs.Tests.{_∈_, and-in, leb-is}
+use Rattle.lists.specs.Tests.{and-in, leb-is}
 
 tab-at : (i n : ℕ) (f : ℕ → Bool) (k : ℕ) → k < n → at (tab i n f) k ≡ f (i + k)
 tab-at i zero f k h = absurd (not-suc-le-zero h)
@@ -61,3 +61,8 @@ listed-same i (suc n) f g h =
     let e = h i (omega arith) in
     let r = listed-same (suc i) n f g (λ p k. h p (omega arith)) in
     ap (λ (x : ℕ). x ∷ listed (suc i) n f) e ∙ ap (λ (l : List ℕ). g i ∷ l) r
+
+-- A truth value comes back from its bit.
+pub bit-back : (b : Bool) → eqb (bit b) 1 ≡ b
+bit-back true = refl
+bit-back false = refl

@@ -4,7 +4,7 @@ use mathlib.Core.Path.{_≡_, refl, sym, ap, _∙_, subst}
 use mathlib.Core.Logic.{_⊎_, inl, inr, _↔_, _≢_}
 use mathlib.Core.Bool.{Bool, true, false, not, cond, _&&_, _||_, true≢false, false≢true}
 use mathlib.Core.List.{List, [], _∷_, List·Memᴰ, List·Memᴰ·head, List·Memᴰ·tail}
-use Prim.Native.Nat.{ℕ, zero, suc, _+_, _≤_, _<_}
+use Prim.Native.Nat.{ℕ, _≤_, _<_}
 use native.Mathlib.Omega.{arith}
 use lib.Dec.{T, eqb, ltb, leb, eqb→eq, eqb-refl, ltb→lt, lt→ltb, leb→le, le→leb, nltb→le}
 use Rattle.lists.specs.Lists.{is, any, all, elem}
@@ -192,13 +192,6 @@ elem-out q (r ∷ l) e =
 
 pub elem-in : {q : ℕ} {l : List ℕ} → q ∈ l → elem q l ≡ true
 elem-in {q} m = any-in (eqb q) m (eqb-in q q refl)
-
-pub all-at : (f : ℕ → Bool) {q : ℕ} {l : List ℕ} → all f l ≡ true → q ∈ l → f q ≡ true
-all-at f {q} {l} h m = go m h
-  where
-    go : {l : List ℕ} → q ∈ l → all f l ≡ true → f q ≡ true
-    go (List·Memᴰ·head {x = x} {xs = xs} e) h = ap f e ∙ and-left (f x) (all f xs) h
-    go (List·Memᴰ·tail {x = x} {xs = xs} m) h = go m (and-right (f x) (all f xs) h)
 
 pub all-from : (f : ℕ → Bool) (l : List ℕ) → ((q : ℕ) → q ∈ l → f q ≡ true) → all f l ≡ true
 all-from f [] h = refl

@@ -2,7 +2,7 @@
 -- and of its batches to the answers and the rooms. Two more rows have an equation that names one variable twice, and one
 -- that leans on an earlier block. Assumes nothing.
 use mathlib.Core.Path.{_≡_, refl}
-use mathlib.Core.List.{List, [], _∷_, _++_}
+use mathlib.Core.List.{List, [], _∷_}
 use Prim.Native.Nat.{ℕ}
 use lib.IntN.{ℤ, pos, negsuc}
 use lib.ListN.{replicate}

@@ -2,8 +2,8 @@
 -- Definitions only.
 use mathlib.Core.Bool.{Bool, cond, _&&_}
 use mathlib.Core.List.{List, [], _∷_, _++_, map}
-use Prim.Native.Nat.{ℕ, _+_, _-_}
-use lib.ListN.{length, getD, take, replicate}
+use Prim.Native.Nat.{ℕ, _-_}
+use lib.ListN.{length, getD, replicate}
 use lib.Dec.{eqb, ltb, leb}
 use Rattle.lists.specs.Lists.{bit, listed, fill}
 use Rattle.lists.specs.Smallest.{at}

@@ -23,7 +23,6 @@ pub mod BlockEnds
 pub mod Course
 pub mod RunKeeps
 pub mod MachineMoves
-pub mod MarksTell
 pub mod ListMachine
 pub mod Seeks
 pub mod ListUnits

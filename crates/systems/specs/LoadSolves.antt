@@ -12,8 +12,8 @@ use Rattle.systems.specs.System.{Frame, Leans, Values, Fits, Full, Solut
 use Rattle.systems.specs.Put.{put-keep}
 use Rattle.systems.specs.SolveSolution.{solve-solution, unique}
 use Rattle.systems.specs.MoveSolution.{moveTo-later, moved-solution}
-use Rattle.systems.specs.Machine.{own, Finds, run, start}
-use Rattle.systems.specs.MachineMoves.{unitCount, machine-moves}
+use Rattle.systems.specs.Machine.{own, Finds, start}
+use Rattle.systems.specs.MachineMoves.{unitCount}
 use Rattle.systems.specs.ListMachine.{valOf, runL, startL}
 use Rattle.systems.specs.ListsMove.{lists-move}
 
@@ -28,11 +28,6 @@ module _ (F : Frame) (M : Leans) (fits : Fits F M) where
   -- The blocks' own values, moved so, are what `solve` finds.
   pub load-solve : (p : ℕ) → F .block p < F .blocks → move F M M (own F) p ≡ solve F M p
   load-solve = unique F M fits (move F M M (own F)) (solve F M) load-solution (solve-solution F M fits) (F .blocks) (le-refl (F .blocks))
-
-  -- The machine, from the blocks' own values, ends in the solution.
-  pub machine-solves : (on : ℕ → List ℕ) → Finds F M on → Full F
-      → (n : ℕ) → unitCount F M M (own F) ≤ n → (p : ℕ) → F .block p < F .blocks → run F M M on n (start F (own F)) .val p ≡ solve F M p
-  machine-solves on finds full n h p l = machine-moves F M M (own F) on fits fits finds full n h .values p ∙ load-solve p l
 
   -- The machine on lists, from the blocks' own values, ends in the solution.
   pub lists-solve : (on : ℕ → List ℕ) → Finds F M on → Full F → (vs stack : List ℕ) → length vs ≡ F .pairs

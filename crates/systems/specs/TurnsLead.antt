@@ -1,9 +1,9 @@
 -- A pair that turns is touched, or leads to one that is by a chain of new leanings. So where no leaning changes, no pair
 -- of a solution is marked.
 -- Assumes nothing.
-use mathlib.Core.Path.{_≡_, refl, sym, _∙_, subst}
+use mathlib.Core.Path.{_≡_, sym, _∙_, subst}
 use mathlib.Core.Logic.{_⊎_, inl, inr}
-use mathlib.Core.Bool.{Bool, true, false, not}
+use mathlib.Core.Bool.{Bool, true, not}
 use mathlib.Core.List.{List, List-discrete}
 use Prim.Native.Nat.{ℕ, zero, suc, _≤_, _<_}
 use native.Mathlib.Nat.{eq-or-lt-of-le, le-of-suc-le-suc, not-suc-le-zero}
@@ -13,7 +13,7 @@ use Rattle.lists.specs.Lists.{elem}
 use Rattle.lists.specs.Tests.{_∈_, tell, clash, not-not, elem-in}
 use Rattle.lists.specs.SmallestLaws.{smallest-ind}
 use Rattle.systems.specs.System.{Frame, Leans, Values, Fits, ev, Solution, put, settled, shifted, moveTo, lifted}
-use Rattle.systems.specs.Marks.{shiftOf, settleOf, markOf, mark}
+use Rattle.systems.specs.Marks.{shiftOf, settleOf}
 use Rattle.systems.specs.Operands.{ev-differ}
 use Rattle.systems.specs.Put.{put-off}
 use Rattle.systems.specs.Top.{operand-block}
@@ -124,18 +124,3 @@ module _ (F : Frame) (L M : Leans) (fits : Fits F L) (fits′ : Fits F M) (old :
   pub settle-leads : (p : ℕ) → F .block p < F .blocks → settleOf F L M old p ≡ true → Leads L M p
   unfolding settleOf v w
   settle-leads p lt = settled-leads (F .block p) lt (reached (F .block p) (omega arith)) p
-
-no-leads : (L M : Leans) → ((p : ℕ) → L p ≡ M p) → (p : ℕ) → Leads L M p → ⊥
-no-leads L M e p (touched n) = n (e p)
-no-leads L M e p (leads {q = q} m l) = no-leads L M e q l
-
--- Where no leaning changes, no pair of a solution is marked.
-pub unmarked : (F : Frame) (L M : Leans) → Fits F L → Fits F M → (old : Values) → Solution F L old → ((p : ℕ) → L p ≡ M p)
-    → (p : ℕ) → F .block p < F .blocks → mark F L M old p ≡ 0
-unfolding mark
-unmarked F L M f g old sol e p lt = go (shiftOf F L M old p) (settleOf F L M old p) refl refl
-  where
-    go : (s t : Bool) → shiftOf F L M old p ≡ s → settleOf F L M old p ≡ t → markOf s t ≡ 0
-    go false false x y = refl
-    go true t x y = absurd (no-leads L M e p (shift-leads F L M f g old sol p lt x))
-    go false true x y = absurd (no-leads L M e p (settle-leads F L M f g old sol p lt y))

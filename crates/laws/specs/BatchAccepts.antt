@@ -1,0 +1,34 @@
+-- Acceptance is owed for batches too: a batch inside the limits, with the table's stamp, that names no move twice, inserts
+-- absent moves, deletes present ones and fits the room, is accepted in every session that passes its check. Assumes nothing.
+use mathlib.Core.Path.{_≡_, ap, _∙_}
+use mathlib.Core.Bool.{true, _&&_}
+use Prim.Native.Nat.{_≤_, min}
+use lib.ListN.{length}
+use lib.Dec.{leb}
+use Rattle.lists.specs.Tests.{and-left, and-is}
+use Rattle.rules.specs.Limits.{most-moves, sizesOk}
+use Rattle.rules.specs.Moves.{stampOf}
+use Rattle.rules.specs.Records.{accepted}
+use Rattle.rules.specs.Rooms.{Rooms, lengthsOf, roomsOk}
+use Rattle.rules.specs.Batch.{Batch, batchOk, encodeBatch, readBatch, edited, judge}
+use Rattle.rules.specs.Session.{held, sessionDemands, countsOk, restOk}
+use Rattle.rules.specs.Calls.{andThen, judged, batchBy, batch}
+use Rattle.rules.specs.declared.Session.{Session}
+use Rattle.laws.specs.BatchReads.{read-batch-accepts}
+use Rattle.laws.specs.Edits.{Judged, judge-in}
+use Rattle.laws.specs.SessionHolds.{sessionOk}
+use Rattle.laws.specs.Accepted.{asked-in}
+
+pub batch-accepts : (s : Session) (l : Rooms) (b : Batch) → sessionOk s l ≡ true → batchOk (s .sizes) b ≡ true → b .stamp ≡ stampOf (held s l .moves)
+    → Judged (held s l .moves) (b .changes) → length (edited (b .changes) (held s l .moves)) ≤ min most-moves (length (l .moves))
+    → batch s l (encodeBatch b) ≡ batchBy s l (accepted b)
+unfolding batch judged countsOk
+batch-accepts s l b ok k e j n =
+    let y = and-is (countsOk s l && roomsOk (lengthsOf l) (s .sizes)) (restOk s l) .0 ok in
+    let x = and-is (countsOk s l) (roomsOk (lengthsOf l) (s .sizes)) .0 (y .0) in
+    let z = and-left (sizesOk (s .sizes)) (leb (s .moves) (min most-moves (length (l .moves)))) (x .0) in
+    let look = andThen (readBatch (s .sizes) (encodeBatch b)) (judge (length (l .moves)) (held s l .moves)) in
+    ap (batchBy s l)
+    (asked-in (sessionDemands s l) look (x .0, (x .1, (y .1, tt)))
+    ∙ ap (λ (o : _). andThen o (judge (length (l .moves)) (held s l .moves))) (read-batch-accepts (s .sizes) z b k)
+    ∙ judge-in (length (l .moves)) (held s l .moves) b e j n)
