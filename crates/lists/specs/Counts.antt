@@ -74,22 +74,6 @@ pub times-append : (p : ℕ) (a b : List ℕ) → times p (a ++ b) ≡ times p a
 times-append p [] b = omega arith
 times-append p (x ∷ a) b = let h = times-append p a b in omega arith
 
--- In c copies of r, r stands c times and nothing else stands.
-pub times-replicate : (p c r : ℕ) → times p (replicate c r) ≡ cond (eqb r p) c 0
-times-replicate p c r =
-    elim (tell true (eqb r p)) [
-      | inl e ↦ each e c ∙ sym (cond-yes c 0 e)
-      | inr e ↦ no-one e c ∙ sym (cond-no c 0 e)
-    ]
-  where
-    each : eqb r p ≡ true → (c : ℕ) → times p (replicate c r) ≡ c
-    each e zero = refl
-    each e (suc c) = let k = each e c in let y = ap bit e in omega arith
-
-    no-one : eqb r p ≡ false → (c : ℕ) → times p (replicate c r) ≡ 0
-    no-one e zero = refl
-    no-one e (suc c) = let k = no-one e c in let y = ap bit e in omega arith
-
 -- The times of all numbers below n are together the length of the list.
 pub times-all : (n : ℕ) (l : List ℕ) → ((r : ℕ) → r ∈ l → r < n) → sum n (λ p. times p l) ≡ length l
 times-all n l h =
