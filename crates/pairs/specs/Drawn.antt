@@ -15,7 +15,7 @@ tableOf z labels equations moves n =
 
 -- The rooms are long enough, and what is cut out of them is inside the limits.
 pub record Drawn (z : Sizes) (labels equations moves : List ℕ) (n : ℕ) : Type 0 where
-  pub labels : z .states ≤ length labels
-  pub equations : z .variables ≤ length equations
-  pub moves : n ≤ length moves
+  pub long-labels : z .states ≤ length labels
+  pub long-equations : z .variables ≤ length equations
+  pub long-moves : n ≤ length moves
   pub model : WellFormed (tableOf z labels equations moves n)
