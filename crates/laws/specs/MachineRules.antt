@@ -70,10 +70,10 @@ module _ (m : Model) (cs : List Change) (j : Judged (m .moves) cs) (ok : Sound m
       ap (λ (v : Values). settleOf F (leanings m) (leanings (changed cs m)) v p) (sym was-same) ∙ sym (update-settled m cs j ok ok′ (valueAt vs) p h)
 
   -- 2 N + L + S.
-  pub units : ℕ
+  unfoldable pub units : ℕ
   units = pairsOf (m .sizes) + pairsOf (m .sizes) + trues (pairsOf (m .sizes)) (at (t .shifted)) + trues (pairsOf (m .sizes)) (at (t .settled))
 
-  units-are : unitCount F (leanings m) (leanings (changed cs m)) (valOf vs) ≡ units
+  pub units-are : unitCount F (leanings m) (leanings (changed cs m)) (valOf vs) ≡ units
   unfolding units
   units-are =
       let a = unit-count F (leanings m) (leanings (changed cs m)) (valOf vs) (leanersOf (changed cs m)) (fits-old m cs j ok ok′ (valueAt vs)) (fits-new m cs j ok ok′ (valueAt vs))

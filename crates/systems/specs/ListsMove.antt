@@ -79,7 +79,7 @@ turned-small x = go (eqb x 1)
 
 -- Seeking.
 module _ {F : Frame} {c : Job} (f : Formed F c) where
-  seek-sought : Sought F (c .block) (F .blocks - c .block) (c .settling) (c .place)
+  pub seek-sought : Sought F (c .block) (F .blocks - c .block) (c .settling) (c .place)
       (seek F (phases (F .blocks - c .block) (c .settling)) (c .block) (c .settling) (c .place))
   seek-sought =
       let a = f .range in

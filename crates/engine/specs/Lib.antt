@@ -1,0 +1,5 @@
+pub mod Visits
+pub mod VisitLaws
+pub mod SourceLaws
+pub mod Engine
+pub mod EngineRuns

@@ -1,0 +1,1 @@
+// The step machine that moves the values.
