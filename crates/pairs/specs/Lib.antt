@@ -1,2 +1,5 @@
 pub mod Drawn
 pub mod Looks
+pub mod Words
+pub mod EquationWords
+pub mod Part
