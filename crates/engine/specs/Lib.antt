@@ -5,3 +5,6 @@ pub mod Engine
 pub mod EngineRuns
 pub mod LeanerWords
 pub mod OperatorBelow
+pub mod Seeking
+pub mod Products
+pub mod SeekLaws

@@ -1,9 +1,15 @@
 // The step machine that moves the values: pairs are looked at, wait, and turn. One unit is one look or one turn.
+use rules::Sizes;
 ghost use mathlib.Core.Path.{_≡_};
-ghost use Prim.Native.Nat.{ℕ, _+_, _*_, _/_, _%_, _≤_, _<_};
+ghost use Prim.Native.Nat.{ℕ, _+_, _*_, _-_, _≤_, _<_};
 ghost use lib.ListN.{getD, length};
 ghost use Rattle.systems.specs.Machine.{free, nextMark};
-ghost use Rattle.systems.specs.ListMachine.{waitL, pushL};
+ghost use Rattle.systems.specs.ListMachine.{waitL};
+ghost use Rattle.rules.specs.Rooms.{pairsOf};
+ghost use Rattle.pairs.specs.Drawn.{Drawn, tableOf};
+ghost use Rattle.laws.specs.ModelSystem.{frame};
+ghost use Rattle.systems.specs.ListMachine.{nextPair, seek, phases};
+ghost use Rattle.engine.specs.Seeking.{aheadOf, startAfter, placeOf};
 
 // Does the mark leave a pair free to wait?
 fn is_free(settling: bool, mark: u8) -> bool
@@ -38,4 +44,46 @@ fn wait(marks: &mut [u8], stack: &mut [u16], top: usize, settling: bool, r: usiz
     rooms::set_byte(marks, r, k);
     rooms::set_half(stack, top, r as u16);
     top + 1
+}
+
+// How many pairs there are.
+pub fn pair_count(sizes: Sizes) -> usize
+    ensures { λ r. ⌜ (r ≡ pairsOf sizes) × (r < 16777216) ⌝ }
+{
+    (sizes.variables as usize) * (sizes.states as usize)
+}
+
+// Is the pair p below the count, and of another block?
+fn is_ahead(sizes: Sizes, equations: &[u32], block: usize, p: usize) -> bool
+    requires { ⌜ 0 < sizes .states ⌝ }
+    ensures { λ r. ⌜ r ≡ aheadOf sizes (now (equations .entry)) block p ⌝ }
+{
+    if p < pair_count(sizes) {
+        return pairs::block_of(sizes, equations, p) != block;
+    }
+    false
+}
+
+// The first pair of the variable after p's.
+fn next_start(sizes: Sizes, p: usize) -> usize
+    requires { ⌜ (0 < sizes .states) × (p < 16777216) ⌝ }
+    ensures { λ r. ⌜ r ≡ startAfter sizes p ⌝ }
+{
+    let states = sizes.states as usize;
+    (p / states + 1) * states
+}
+
+// The first pair of the block from p on, or the count of pairs where there is none.
+fn next_pair(sizes: Sizes, labels: &[u32], equations: &[u32], moves: &[u32], n: usize, block: usize, from: usize) -> usize
+    requires { ⌜ Drawn sizes (now labels) (now equations) (now moves) n ⌝ }
+    requires { ⌜ from ≤ pairsOf sizes ⌝ }
+    ensures { λ r. ⌜ r ≡ nextPair (frame (tableOf sizes (now (labels .entry)) (now (equations .entry)) (now (moves .entry)) n)) block from (pairsOf sizes - from) ⌝ }
+{
+    let mut p = from;
+    let mut ahead = is_ahead(sizes, equations, block, p);
+    while ahead {
+        p = next_start(sizes, p);
+        ahead = is_ahead(sizes, equations, block, p);
+    }
+    p
 }
