@@ -5,6 +5,7 @@ use mathlib.Core.Bool.{Bool, true, false, not, cond, _&&_}
 use mathlib.Core.List.{List}
 use Prim.Native.Nat.{ℕ, zero, suc, _+_, _-_, _*_, _/_, _%_, _≤_, _<_}
 use native.Mathlib.Nat.{mul-le-mul-right, div-add-mod', add-mul, one-mul, mod-lt, add-zero, add-suc, suc-add}
+use native.Mathlib.Numerals.{add-one}
 use native.Mathlib.Omega.{arith}
 use lib.Arith.{digits-div}
 use lib.Dec.{eqb, ltb}
@@ -12,7 +13,7 @@ use lib.ListN.{getD}
 use Rattle.rules.specs.Session.{unword}
 use Rattle.lists.specs.Tests.{tell, clash, not-out, and-left, and-right, and-is, and-in, eqb-in, eqb-out, eqb-no, ltb-in, ltb-out, ltb-no}
 use Rattle.systems.specs.System.{Frame}
-use Rattle.systems.specs.ListMachine.{nextPair}
+use Rattle.systems.specs.ListMachine.{nextPair, nextBlock, seek, phases}
 use Rattle.rules.specs.Rooms.{pairsOf}
 use Rattle.rules.specs.Values.{blockOf}
 use Rattle.rules.specs.declared.Sizes.{Sizes}
@@ -22,7 +23,7 @@ use Rattle.laws.specs.ModelSystem.{frame, Sound}
 use Rattle.pairs.specs.Drawn.{Drawn, tableOf}
 use Rattle.pairs.specs.Words.{blockIn}
 use Rattle.pairs.specs.EquationWords.{drawn-sound, variable-in, block-word}
-use Rattle.engine.specs.Seeking.{aheadOf, startAfter}
+use Rattle.engine.specs.Seeking.{aheadOf, startAfter, SeeksOn}
 
 -- The test that code makes.
 pub ahead-in : (z : Sizes) (equations : List ℕ) (i p b : ℕ) → p < pairsOf z → b ≡ blockIn z equations p → not (eqb b i) ≡ aheadOf z equations i p
@@ -123,3 +124,44 @@ module _ (z : Sizes) (labels equations moves : List ℕ) (n : ℕ) (d : Drawn z 
       let b = small z (k .0 .0 .0 .0 .0) in
       let p = mul-le-mul-right {m = z .variables} {n = 32} (z .states) (omega arith) in
       omega arith
+
+-- One phase of the search, by what the next pair is.
+module _ (F : Frame) (i : ℕ) (ph : Bool) (p : ℕ) where
+  pub seek-found : (left r : ℕ) → 0 < left → r ≡ nextPair F i p (F .pairs - p) → r < F .pairs → SeeksOn F i ph p left i ph r 0
+  seek-found zero r h e l = absurd (omega arith)
+  seek-found (suc left) r h e l = record {
+    same = rw (sym e, ltb-in r (F .pairs) l) refl;
+    fewer = omega arith;
+    low = omega arith;
+    near = omega arith;
+  }
+
+  seek-next : (left r : ℕ) → 0 < left → r ≡ nextPair F i p (F .pairs - p) → F .pairs ≤ r → seek F left i ph p ≡ seek F (left - 1) (nextBlock ph i) (not ph) 0
+  seek-next zero r h e l = absurd (omega arith)
+  seek-next (suc left) r h e l =
+      rw (sym e, ltb-no r (F .pairs) .1 l) (ap (λ (k : ℕ). seek F k (nextBlock ph i) (not ph) 0) (let q : left ≡ suc left - 1 = omega arith in q))
+
+  pub seek-settle : (left r : ℕ) → 0 < left → r ≡ nextPair F i p (F .pairs - p) → F .pairs ≤ r → ph ≡ false → SeeksOn F i ph p left i true 0 (left - 1)
+  seek-settle left r h e l q = record {
+    same = seek-next left r h e l ∙ ap (λ (b : Bool). seek F (left - 1) (nextBlock b i) (not b) 0) q;
+    fewer = omega arith;
+    low = omega arith;
+    near = omega arith;
+  }
+
+  pub seek-block : (left r : ℕ) → 0 < left → r ≡ nextPair F i p (F .pairs - p) → F .pairs ≤ r → ph ≡ true → SeeksOn F i ph p left (i + 1) false 0 (left - 1)
+  seek-block left r h e l q = record {
+    same = seek-next left r h e l ∙ ap (λ (b : Bool). seek F (left - 1) (nextBlock b i) (not b) 0) q ∙ rw add-one refl;
+    fewer = omega arith;
+    low = omega arith;
+    near = omega arith;
+  }
+
+-- How many phases are left.
+pub phases-none : (k : ℕ) (ph : Bool) → k ≡ 0 → 0 ≡ phases k ph
+phases-none k true e = rw e refl
+phases-none k false e = rw e refl
+
+pub phases-few : (k : ℕ) (ph : Bool) → phases k ph ≤ k + k
+phases-few k true = omega arith
+phases-few k false = omega arith
