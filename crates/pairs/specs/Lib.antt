@@ -3,3 +3,5 @@ pub mod Looks
 pub mod Words
 pub mod EquationWords
 pub mod Part
+pub mod SliceWalks
+pub mod Bits

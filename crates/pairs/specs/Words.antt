@@ -1,10 +1,16 @@
 -- What the words in the rooms say of one pair, before a model is made of them. Definitions only.
 use mathlib.Core.Path.{_≡_}
+use mathlib.Core.Bool.{Bool, true, false, not, _&&_}
 use mathlib.Core.List.{List}
-use Prim.Native.Nat.{ℕ, _/_}
+use Prim.Native.Nat.{ℕ, _+_, _*_, _/_}
 use lib.ListN.{getD}
+use lib.Dec.{eqb}
+use Rattle.lists.specs.Lists.{is}
+use Rattle.systems.specs.Machine.{pastOf}
+use Rattle.rules.specs.Moves.{target}
 use Rattle.rules.specs.Model.{Equation}
 use Rattle.rules.specs.Session.{unword}
+use Rattle.rules.specs.Calls.{valueAt}
 use Rattle.rules.specs.declared.Sizes.{Sizes}
 
 -- The five numbers are those of the equation.
@@ -25,3 +31,11 @@ kindIn z equations p = wordOf z equations p .kind
 
 abbrev pub blockIn : Sizes → List ℕ → ℕ → ℕ
 blockIn z equations p = wordOf z equations p .block
+
+-- The value of a pair before the update, as its word, its value and its mark say.
+unfoldable pub pastIn : Sizes → List ℕ → List ℕ → List ℕ → ℕ → Bool
+pastIn z equations values marks p = pastOf (eqb (kindIn z equations p) 1) (valueAt values p) (getD marks p 0)
+
+-- Does the move q lead to a pair of variable x whose value is not b?
+unfoldable pub leadsTo : Sizes → List ℕ → ℕ → Bool → ℕ → Bool
+leadsTo z values x b q = is (not b) (valueAt values (x * z .states + target q))
