@@ -5,3 +5,4 @@ pub mod EquationWords
 pub mod Part
 pub mod SliceWalks
 pub mod Bits
+pub mod GivesWords

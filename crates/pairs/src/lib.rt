@@ -1,10 +1,12 @@
 // What is asked of one pair of a model: its equation, what it gives, its old value, and whether it must turn.
 use rules::Sizes;
+
 mod part;
+
 ghost use mathlib.Core.Path.{_≡_};
 ghost use mathlib.Core.Bool.{Bool, true, false, not, cond, _&&_, _||_};
 ghost use Prim.Native.Nat.{ℕ, _+_, _*_, _/_, _%_, _≤_, _<_};
-ghost use lib.ListN.{length, getD};
+ghost use lib.ListN.{length, getD, take};
 ghost use lib.Seq.{slice};
 ghost use lib.Dec.{eqb, ltb};
 ghost use Rattle.lists.specs.Lists.{is, any};
@@ -12,6 +14,10 @@ ghost use Rattle.rules.specs.Moves.{target};
 ghost use Rattle.rules.specs.Values.{state, holds};
 ghost use Rattle.rules.specs.Session.{unword};
 ghost use Rattle.rules.specs.Calls.{valueAt};
+ghost use Rattle.rules.specs.Values as rule;
+ghost use Rattle.rules.specs.Rooms.{pairsOf};
+ghost use Rattle.pairs.specs.Drawn.{tableOf, Drawn};
+ghost use Rattle.pairs.specs.Part.{partOf};
 ghost use Rattle.pairs.specs.Words.{ReadsAs, kindIn, blockIn, pastIn, leadsTo};
 
 // An equation, taken out of its word: the operator, what it names, the block, and the block's kind.
@@ -139,4 +145,65 @@ fn leads(
         i = i + 1;
     }
     false
+}
+
+// Both values, or one of them.
+fn joined(both: bool, x: bool, y: bool) -> bool
+    ensures { λ r. ⌜ r ≡ cond both (x && y) (x || y) ⌝ }
+{
+    if both {
+        return x && y;
+    }
+    x || y
+}
+
+// What a diamond gives, or a box: that some move leads to a true pair, or that none leads to a false one.
+fn stepped(
+    sizes: Sizes,
+    moves: &[u32],
+    n: usize,
+    values: &[u8],
+    s: usize,
+    a: u8,
+    x: u8,
+    each: bool,
+) -> bool
+    requires { ⌜ (n ≤ length (now moves)) × (s < 65536) ⌝ }
+    ensures { λ r. ⌜ r ≡ is (not each) (any (leadsTo sizes (now (values .entry)) x each) (partOf s a (take n (now (moves .entry))))) ⌝ }
+{
+    let part = part::part_of(moves, n, s as u32, a as u32);
+    let found = leads(sizes, moves, values, x, each, part.from, part.end);
+    other(each, found)
+}
+
+// What the equation of a pair gives.
+pub fn gives(
+    sizes: Sizes,
+    labels: &[u32],
+    equations: &[u32],
+    moves: &[u32],
+    n: usize,
+    values: &[u8],
+    p: usize,
+) -> bool
+    requires { ⌜ Drawn sizes (now labels) (now equations) (now moves) n ⌝ }
+    requires { ⌜ p < pairsOf sizes ⌝ }
+    ensures { λ r. ⌜ r ≡ rule.gives (tableOf sizes (now (labels .entry)) (now (equations .entry)) (now (moves .entry)) n) (valueAt (now (values .entry))) p ⌝ }
+{
+    let states = sizes.states as usize;
+    let s = p % states;
+    let e = formula_at(equations, p / states);
+    let o = e.operator;
+    if o < 2 {
+        return o == 1;
+    }
+    if o < 4 {
+        return other(o == 3, holds_at(labels, s, e.first));
+    }
+    if o < 6 {
+        let first = value_at(values, pair_at(sizes, s, e.first));
+        let second = value_at(values, pair_at(sizes, s, e.second));
+        return joined(o == 5, first, second);
+    }
+    stepped(sizes, moves, n, values, s, e.first, e.second, o == 7)
 }

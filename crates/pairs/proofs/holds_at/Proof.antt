@@ -8,23 +8,16 @@ use mathlib.Core.Path.{_≡_, refl, sym, ap, _∙_}
 use borrow.Author.Needs.{needs}
 use Rattle.pairs.proofs.holds_at.Statement.{statement}
 use Rattle.pairs.proofs.holds_at.Tie as tie
-use Rattle.pairs.proofs.holds_at.Reads as reads
-use Rattle.pairs.proofs.holds_at.Lts as lts
-use Rattle.rooms.proofs.word_at.Reads as word-at-reads
 
--- src/lib.rt:107:9
 returns : tie.Need-returns
 returns c = let h = c .before .shared-slice-known .given (c .before .before .args .s) in sym (no-bit (getD (c .before .before .args .labels .now) (c .before .before .args .s) 0) (c .before .before .args .q) (omega arith) (omega arith))
 
--- src/lib.rt:109:6
 word-at-requires : tie.Need-word-at-requires
 word-at-requires c κs = search needs
 
--- src/lib.rt:109:6
 shr-result : tie.Need-shr-result
 shr-result c = search needs
 
--- src/lib.rt:103:1
 returns-2 : tie.Need-returns-2
 returns-2 c = ap (λ (w : ℕ). eqb (w / 2 ^ c .before .before .before .args .q % 2) 1) (c .word-at .ensures)
 

@@ -9,10 +9,6 @@ use native.Mathlib.Omega.{arith}
 use mathlib.Core.Path.{_≡_, refl, sym, ap, _∙_}
 use Rattle.pairs.proofs.leads.Statement.{statement}
 use Rattle.pairs.proofs.leads.Tie as tie
-use Rattle.pairs.proofs.leads.Reads as reads
-use Rattle.pairs.proofs.leads.Lts as lts
-use Rattle.pairs.proofs.leads_to.Reads as leads-to-reads
-use Rattle.rooms.proofs.word_at.Reads as word-at-reads
 
 abbrev Inv-loop : tie.InvT-loop
 Inv-loop sizes moves values x b from end i₀ i = any (leadsTo sizes values x b) (slice from end moves) ≡ any (leadsTo sizes values x b) (slice i end moves)
@@ -20,44 +16,36 @@ Inv-loop sizes moves values x b from end i₀ i = any (leadsTo sizes values x b)
 abbrev μ-loop : tie.MeasureT-loop
 μ-loop sizes moves values x b from end i₀ i = end - i
 
--- src/lib.rt:135:5
 loop-holds : tie.Need-loop-holds Inv-loop μ-loop
 loop-holds c = refl
 
--- src/lib.rt:136:28
 word-at-requires : tie.Need-word-at-requires Inv-loop μ-loop
 word-at-requires c κs = search needs
 
--- src/lib.rt:136:12
 leads-to-requires : tie.Need-leads-to-requires Inv-loop μ-loop
 leads-to-requires c κs = search needs
 
--- src/lib.rt:137:13
 returns : tie.Need-returns Inv-loop μ-loop
-returns c = 
+returns c =
     let a = c .before .before .before .before .before .before .before .args in
     let k = a .end in
     let t = sym (c .before .leads-to .ensures ∙ ap (leadsTo (a .sizes) (a .values .now) (a .x) (a .b)) (c .before .before .word-at .ensures)) ∙ c .if1 .taken in
     sym (c .before .before .before .before .loop .inv ∙ any-hit (leadsTo (a .sizes) (a .values .now) (a .x) (a .b)) (a .moves .now) (c .before .before .before .before .loop .i) (a .end) (omega arith) (omega arith) t)
 
--- src/lib.rt:139:13
 add-i : tie.Need-add-i Inv-loop μ-loop
 add-i c = omega arith
 
--- src/lib.rt:135:5
 loop-less : tie.Need-loop-less Inv-loop μ-loop
 loop-less c = omega arith
 
--- src/lib.rt:135:5
 loop-again : tie.Need-loop-again Inv-loop μ-loop
-loop-again c = 
+loop-again c =
     let a = c .before .before .before .before .before .before .before .args in
     let t = sym (c .before .leads-to .ensures ∙ ap (leadsTo (a .sizes) (a .values .now) (a .x) (a .b)) (c .before .before .word-at .ensures)) ∙ c .if1 .left in
     c .before .before .before .before .loop .inv ∙ any-pass (leadsTo (a .sizes) (a .values .now) (a .x) (a .b)) (a .moves .now) (c .before .before .before .before .loop .i) (a .end) (omega arith) (omega arith) t
 
--- src/lib.rt:122:1
 returns-2 : tie.Need-returns-2 Inv-loop μ-loop
-returns-2 c = 
+returns-2 c =
     let a = c .before .before .before .before .args in
     sym (c .before .loop .inv ∙ any-end (leadsTo (a .sizes) (a .values .now) (a .x) (a .b)) (a .moves .now) (c .before .loop .i) (a .end) (omega arith))
 

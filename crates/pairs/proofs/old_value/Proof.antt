@@ -8,40 +8,29 @@ use mathlib.Core.Path.{_≡_, refl, sym, ap, _∙_}
 use borrow.Author.Needs.{needs}
 use Rattle.pairs.proofs.old_value.Statement.{statement}
 use Rattle.pairs.proofs.old_value.Tie as tie
-use Rattle.pairs.proofs.old_value.Reads as reads
-use Rattle.pairs.proofs.old_value.Lts as lts
-use Rattle.pairs.proofs.own_value.Reads as own-value-reads
-use Rattle.pairs.proofs.value_at.Reads as value-at-reads
-use Rattle.rooms.proofs.byte_at.Reads as byte-at-reads
 
--- src/lib.rt:91:9
 byte-at-requires : tie.Need-byte-at-requires
 byte-at-requires c κs = search needs
 
--- src/lib.rt:93:9
 value-at-requires : tie.Need-value-at-requires
 value-at-requires c κs = search needs
 
--- src/lib.rt:93:9
 returns : tie.Need-returns
 returns c = let a = c .before .before .before .before .before .before .args in c .value-at .ensures ∙ sym (past-kept (a .sizes) (a .equations .now) (a .values .now) (a .marks .now) (a .p) (sym (c .before .before .byte-at .ensures) ∙ c .before .if1 .taken))
 
--- src/lib.rt:95:9
 own-value-requires : tie.Need-own-value-requires
 own-value-requires c κs = search needs
 
--- src/lib.rt:97:9
 returns-2 : tie.Need-returns-2
-returns-2 c = 
+returns-2 c =
     let a = c .before .before .before .before .before .before .before .args in
     let e = c .before .before .before .byte-at .ensures in
     let h : 0 < getD (a .marks .now) (a .p) 0 = omega (arith, c .before .before .if1 .left) in
     let k : getD (a .marks .now) (a .p) 0 < 3 = omega arith in
     ap not (c .before .own-value .ensures) ∙ sym (past-shifted (a .sizes) (a .equations .now) (a .values .now) (a .marks .now) (a .p) h k)
 
--- src/lib.rt:87:1
 returns-3 : tie.Need-returns-3
-returns-3 c = 
+returns-3 c =
     let a = c .before .before .before .before .before .before .before .args in
     let e = c .before .before .before .byte-at .ensures in
     let k : 3 ≤ getD (a .marks .now) (a .p) 0 = omega arith in

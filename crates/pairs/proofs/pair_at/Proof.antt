@@ -4,22 +4,16 @@ use native.Mathlib.Omega.{arith}
 use borrow.Author.Needs.{needs}
 use Rattle.pairs.proofs.pair_at.Statement.{statement}
 use Rattle.pairs.proofs.pair_at.Tie as tie
-use Rattle.pairs.proofs.pair_at.Reads as reads
-use Rattle.pairs.proofs.pair_at.Lts as lts
 
--- src/lib.rt:83:21
 cast-result : tie.Need-cast-result
 cast-result c = search needs
 
--- src/lib.rt:83:5
 mul-result : tie.Need-mul-result
 mul-result c = let h = small-product (c .before .args .x) (c .before .args .sizes .states) (omega arith) (omega arith) in omega arith
 
--- src/lib.rt:83:5
 add-result : tie.Need-add-result
 add-result c = let h = small-product (c .before .args .x) (c .before .args .sizes .states) (omega arith) (omega arith) in omega arith
 
--- src/lib.rt:79:1
 returns : tie.Need-returns
 returns c = search needs
 

@@ -5,14 +5,10 @@ use mathlib.Core.Path.{ap, sym}
 use native.Mathlib.Omega.{arith}
 use Rattle.pairs.proofs.part.counts.Statement.{statement}
 use Rattle.pairs.proofs.part.counts.Tie as tie
-use Rattle.pairs.proofs.part.counts.Reads as reads
-use Rattle.pairs.proofs.part.counts.Lts as lts
 
--- src/part.rt:20:9
 returns : tie.Need-returns
 returns c = (sym (ap bit (ltb-in (c .before .args .q) (c .before .args .k) (omega arith))), omega arith)
 
--- src/part.rt:16:1
 returns-2 : tie.Need-returns-2
 returns-2 c = (sym (ap bit (ltb-no (c .before .args .q) (c .before .args .k) .1 (omega arith))), omega arith)
 

@@ -12,10 +12,6 @@ use native.Mathlib.Omega.{arith}
 use mathlib.Core.Path.{_≡_, refl, sym, ap, _∙_}
 use Rattle.pairs.proofs.part.part_of.Statement.{statement}
 use Rattle.pairs.proofs.part.part_of.Tie as tie
-use Rattle.pairs.proofs.part.part_of.Reads as reads
-use Rattle.pairs.proofs.part.part_of.Lts as lts
-use Rattle.pairs.proofs.part.counts.Reads as counts-reads
-use Rattle.rooms.proofs.word_at.Reads as word-at-reads
 
 abbrev Inv-loop : tie.InvT-loop
 Inv-loop moves n source action key last from₀ end₀ i₀ from end i = (i ≤ n) × (from ≤ i) × (end ≤ i) × (from + below key (slice i n moves) ≡ below key (take n moves)) × (end + below last (slice i n moves) ≡ below last (take n moves))
@@ -23,57 +19,44 @@ Inv-loop moves n source action key last from₀ end₀ i₀ from end i = (i ≤ 
 abbrev μ-loop : tie.MeasureT-loop
 μ-loop moves n source action key last from₀ end₀ i₀ from end i = n - i
 
--- src/part.rt:31:15
 mul-key : tie.Need-mul-key Inv-loop μ-loop
 mul-key c = omega arith
 
--- src/part.rt:31:43
 mul-key-2 : tie.Need-mul-key-2 Inv-loop μ-loop
 mul-key-2 c = omega arith
 
--- src/part.rt:31:15
 add-key : tie.Need-add-key Inv-loop μ-loop
 add-key c = omega arith
 
--- src/part.rt:32:16
 add-last : tie.Need-add-last Inv-loop μ-loop
 add-last c = omega arith
 
--- src/part.rt:36:5
 loop-holds : tie.Need-loop-holds Inv-loop μ-loop
 loop-holds c = omega arith
 
--- src/part.rt:37:13
 word-at-requires : tie.Need-word-at-requires Inv-loop μ-loop
 word-at-requires c κs = search needs
 
--- src/part.rt:38:23
 counts-requires : tie.Need-counts-requires Inv-loop μ-loop
 counts-requires c κs = search needs
 
--- src/part.rt:38:16
 add-from : tie.Need-add-from Inv-loop μ-loop
 add-from c = omega arith
 
--- src/part.rt:39:21
 counts-requires-2 : tie.Need-counts-requires-2 Inv-loop μ-loop
 counts-requires-2 c κs = search needs
 
--- src/part.rt:39:15
 add-end : tie.Need-add-end Inv-loop μ-loop
 add-end c = omega arith
 
--- src/part.rt:40:13
 add-i : tie.Need-add-i Inv-loop μ-loop
 add-i c = omega arith
 
--- src/part.rt:36:5
 loop-less : tie.Need-loop-less Inv-loop μ-loop
 loop-less c = omega arith
 
--- src/part.rt:36:5
 loop-again : tie.Need-loop-again Inv-loop μ-loop
-loop-again c = 
+loop-again c =
     let a = c .before .before .before .before .before .before .args in
     let i = c .before .before .before .before .loop .i in
     let k = keyOf (a .source) (a .action) in
@@ -84,7 +67,6 @@ loop-again c =
     let h = below-more (k + 1024) (a .moves .now) i (a .n) (omega arith) (omega arith) in
     omega arith
 
--- src/part.rt:26:1
 returns : tie.Need-returns Inv-loop μ-loop
 returns c = let a = c .before .before .before .args in let i = c .before .loop .i in let z = keyOf (a .source) (a .action) in let e = below-end z (a .moves .now) i (a .n) (omega arith) in let f = below-end (z + 1024) (a .moves .now) i (a .n) (omega arith) in omega arith
 
