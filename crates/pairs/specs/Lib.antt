@@ -3,3 +3,7 @@ pub mod Looks
 pub mod Words
 pub mod EquationWords
 pub mod Part
+pub mod SliceWalks
+pub mod Bits
+pub mod GivesWords
+pub mod LookWords

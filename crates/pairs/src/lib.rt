@@ -1,13 +1,24 @@
 // What is asked of one pair of a model: its equation, what it gives, its old value, and whether it must turn.
 use rules::Sizes;
+
+mod part;
+
 ghost use mathlib.Core.Path.{_≡_};
-ghost use mathlib.Core.Bool.{Bool};
+ghost use mathlib.Core.Bool.{Bool, true, false, not, cond, _&&_, _||_};
 ghost use Prim.Native.Nat.{ℕ, _+_, _*_, _/_, _%_, _≤_, _<_};
-ghost use lib.ListN.{length, getD};
-ghost use lib.Dec.{eqb};
+ghost use lib.ListN.{length, getD, take};
+ghost use lib.Seq.{slice};
+ghost use lib.Dec.{eqb, ltb};
+ghost use Rattle.lists.specs.Lists.{is, any};
+ghost use Rattle.rules.specs.Moves.{target};
+ghost use Rattle.rules.specs.Values.{state, holds};
 ghost use Rattle.rules.specs.Session.{unword};
 ghost use Rattle.rules.specs.Calls.{valueAt};
-ghost use Rattle.pairs.specs.Words.{ReadsAs, kindIn, blockIn};
+ghost use Rattle.rules.specs.Values as rule;
+ghost use Rattle.rules.specs.Rooms.{pairsOf};
+ghost use Rattle.pairs.specs.Drawn.{tableOf, Drawn};
+ghost use Rattle.pairs.specs.Part.{partOf};
+ghost use Rattle.pairs.specs.Words.{ReadsAs, kindIn, blockIn, pastIn, leadsTo};
 
 // An equation, taken out of its word: the operator, what it names, the block, and the block's kind.
 pub struct Formula {
@@ -58,4 +69,141 @@ pub fn block_of(sizes: Sizes, equations: &[u32], p: usize) -> usize
     let states = sizes.states as usize;
     let e = formula_at(equations, p / states);
     e.block as usize
+}
+
+// Is v the value other than b?
+fn other(b: bool, v: bool) -> bool
+    ensures { λ r. ⌜ r ≡ is (not b) v ⌝ }
+{
+    if b {
+        return !v;
+    }
+    v
+}
+
+// The number of the pair of state s and variable x.
+fn pair_at(sizes: Sizes, s: usize, x: u8) -> usize
+    requires { ⌜ s < 65536 ⌝ }
+    ensures { λ r. ⌜ r ≡ x * sizes .states + s ⌝ }
+{
+    (x as usize) * (sizes.states as usize) + s
+}
+
+// The value before the update, told from the value and the mark.
+pub fn old_value(sizes: Sizes, equations: &[u32], values: &[u8], marks: &[u8], p: usize) -> bool
+    requires { ⌜ 0 < sizes .states ⌝ }
+    ensures { λ r. ⌜ r ≡ pastIn sizes (now (equations .entry)) (now (values .entry)) (now (marks .entry)) p ⌝ }
+{
+    let mark = rooms::byte_at(marks, p);
+    if mark == 0 {
+        return value_at(values, p);
+    }
+    let own = own_value(sizes, equations, p);
+    if mark < 3 {
+        return !own;
+    }
+    own
+}
+
+// Does the proposition hold at the state? There are none from 32 on.
+fn holds_at(labels: &[u32], s: usize, q: u8) -> bool
+    ensures { λ r. ⌜ r ≡ holds (now (labels .entry)) (state s) q ⌝ }
+{
+    if 32 <= q {
+        return false;
+    }
+    (rooms::word_at(labels, s) >> q) % 2 == 1
+}
+
+// Does the move lead to a pair of x whose value is not b?
+fn leads_to(sizes: Sizes, q: u32, values: &[u8], x: u8, b: bool) -> bool
+    ensures { λ r. ⌜ r ≡ leadsTo sizes (now (values .entry)) x b q ⌝ }
+{
+    let p = pair_at(sizes, (q % 1024) as usize, x);
+    let v = value_at(values, p);
+    other(b, v)
+}
+
+// Does a move of the part lead to a pair of x whose value is not b?
+fn leads(
+    sizes: Sizes,
+    moves: &[u32],
+    values: &[u8],
+    x: u8,
+    b: bool,
+    from: usize,
+    end: usize,
+) -> bool
+    requires { ⌜ end ≤ length (now moves) ⌝ }
+    ensures { λ r. ⌜ r ≡ any (leadsTo sizes (now (values .entry)) x b) (slice from end (now (moves .entry))) ⌝ }
+{
+    let mut i = from;
+    while i < end {
+        if leads_to(sizes, rooms::word_at(moves, i), values, x, b) {
+            return true;
+        }
+        i = i + 1;
+    }
+    false
+}
+
+// Both values, or one of them.
+fn joined(both: bool, x: bool, y: bool) -> bool
+    ensures { λ r. ⌜ r ≡ cond both (x && y) (x || y) ⌝ }
+{
+    if both {
+        return x && y;
+    }
+    x || y
+}
+
+// What a diamond gives, or a box: that some move leads to a true pair, or that none leads to a false one.
+fn stepped(
+    sizes: Sizes,
+    moves: &[u32],
+    n: usize,
+    values: &[u8],
+    s: usize,
+    a: u8,
+    x: u8,
+    each: bool,
+) -> bool
+    requires { ⌜ (n ≤ length (now moves)) × (s < 65536) ⌝ }
+    ensures { λ r. ⌜ r ≡ is (not each) (any (leadsTo sizes (now (values .entry)) x each) (partOf s a (take n (now (moves .entry))))) ⌝ }
+{
+    let part = part::part_of(moves, n, s as u32, a as u32);
+    let found = leads(sizes, moves, values, x, each, part.from, part.end);
+    other(each, found)
+}
+
+// What the equation of a pair gives.
+pub fn gives(
+    sizes: Sizes,
+    labels: &[u32],
+    equations: &[u32],
+    moves: &[u32],
+    n: usize,
+    values: &[u8],
+    p: usize,
+) -> bool
+    requires { ⌜ Drawn sizes (now labels) (now equations) (now moves) n ⌝ }
+    requires { ⌜ p < pairsOf sizes ⌝ }
+    ensures { λ r. ⌜ r ≡ rule.gives (tableOf sizes (now (labels .entry)) (now (equations .entry)) (now (moves .entry)) n) (valueAt (now (values .entry))) p ⌝ }
+{
+    let states = sizes.states as usize;
+    let s = p % states;
+    let e = formula_at(equations, p / states);
+    let o = e.operator;
+    if o < 2 {
+        return o == 1;
+    }
+    if o < 4 {
+        return other(o == 3, holds_at(labels, s, e.first));
+    }
+    if o < 6 {
+        let first = value_at(values, pair_at(sizes, s, e.first));
+        let second = value_at(values, pair_at(sizes, s, e.second));
+        return joined(o == 5, first, second);
+    }
+    stepped(sizes, moves, n, values, s, e.first, e.second, o == 7)
 }

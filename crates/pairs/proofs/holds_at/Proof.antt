@@ -1,0 +1,25 @@
+-- A word has no bit from 32 on. Assumes nothing.
+use native.Mathlib.Omega.{arith}
+use Rattle.pairs.specs.Bits.{no-bit}
+use lib.ListN.{getD}
+use lib.Dec.{eqb}
+use Prim.Native.Nat.{ℕ, _/_, _%_, _^_}
+use mathlib.Core.Path.{_≡_, refl, sym, ap, _∙_}
+use borrow.Author.Needs.{needs}
+use Rattle.pairs.proofs.holds_at.Statement.{statement}
+use Rattle.pairs.proofs.holds_at.Tie as tie
+
+returns : tie.Need-returns
+returns c = let h = c .before .shared-slice-known .given (c .before .before .args .s) in sym (no-bit (getD (c .before .before .args .labels .now) (c .before .before .args .s) 0) (c .before .before .args .q) (omega arith) (omega arith))
+
+word-at-requires : tie.Need-word-at-requires
+word-at-requires c κs = search needs
+
+shr-result : tie.Need-shr-result
+shr-result c = search needs
+
+returns-2 : tie.Need-returns-2
+returns-2 c = ap (λ (w : ℕ). eqb (w / 2 ^ c .before .before .before .args .q % 2) 1) (c .word-at .ensures)
+
+pub holds-at-spec : {M : Type 1} → statement M
+holds-at-spec = tie.close (tie.spec returns word-at-requires shr-result returns-2)

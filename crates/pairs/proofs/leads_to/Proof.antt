@@ -1,0 +1,30 @@
+-- What it finds at the pair. Assumes nothing.
+use Rattle.pairs.specs.Words.{leadsTo}
+use Rattle.rules.specs.Calls.{valueAt}
+use mathlib.Core.Bool.{Bool, not}
+use Rattle.lists.specs.Lists.{is}
+use native.Mathlib.Omega.{arith}
+use mathlib.Core.Path.{_≡_, refl, sym, ap, _∙_}
+use borrow.Author.Needs.{needs}
+use Rattle.pairs.proofs.leads_to.Statement.{statement}
+use Rattle.pairs.proofs.leads_to.Tie as tie
+
+cast-pair-at : tie.Need-cast-pair-at
+cast-pair-at c = search needs
+
+pair-at-requires : tie.Need-pair-at-requires
+pair-at-requires c κs = search needs
+
+value-at-requires : tie.Need-value-at-requires
+value-at-requires c κs = search needs
+
+other-requires : tie.Need-other-requires
+other-requires c κs = search needs
+
+returns : tie.Need-returns
+unfolding leadsTo
+returns c = let a = c .before .before .before .before .args in c .other .ensures ∙ ap (is (not (a .b))) (c .before .value-at .ensures ∙ ap (valueAt (a .values .now)) (c .before .before .pair-at .ensures))
+
+pub leads-to-spec : {M : Type 1} → statement M
+leads-to-spec =
+    tie.close (tie.spec cast-pair-at pair-at-requires value-at-requires other-requires returns)

@@ -1,0 +1,49 @@
+-- Small facts about numbers and truth values that the code leans on. Assumes nothing.
+use mathlib.Core.Path.{_≡_, refl, sym, ap, _∙_}
+use mathlib.Core.Bool.{Bool, true, false, not}
+use mathlib.Core.List.{List}
+use Prim.Native.Nat.{ℕ, zero, suc, _*_, _/_, _%_, _^_, _≤_, _<_}
+use native.Mathlib.Nat.{mul-le-mul-right, pow-le-pow-right, div-eq-of-lt}
+use native.Mathlib.Omega.{arith}
+use lib.ListN.{getD}
+use lib.Dec.{eqb}
+use Rattle.systems.specs.Machine.{pastOf}
+use Rattle.rules.specs.Calls.{valueAt}
+use Rattle.rules.specs.declared.Sizes.{Sizes}
+use Rattle.pairs.specs.Words.{kindIn, pastIn}
+
+-- A word has no bit from 32 on.
+pub no-bit : (w q : ℕ) → w < 4294967296 → 32 ≤ q → eqb (w / 2 ^ q % 2) 1 ≡ false
+no-bit w q h k =
+    let p : 4294967296 ≤ 2 ^ q = pow-le-pow-right {n = 2} (omega arith) k in
+    ap (λ (n : ℕ). eqb (n % 2) 1) (let l : w < 2 ^ q = omega arith in div-eq-of-lt l)
+
+-- A variable's number times the state count is small.
+pub small-product : (x s : ℕ) → x < 256 → s < 65536 → x * s < 16777216
+small-product x s h k = let p = mul-le-mul-right {m = x} {n = 255} s (omega arith) in omega arith
+
+shifted : (b x : Bool) (m : ℕ) → 0 < m → m < 3 → pastOf b x m ≡ not b
+shifted b x zero h k = absurd (omega arith)
+shifted b x (suc zero) h k = refl
+shifted b x (suc (suc zero)) h k = refl
+shifted b x (suc (suc (suc m))) h k = absurd (omega arith)
+
+settled : (b x : Bool) (m : ℕ) → 3 ≤ m → pastOf b x m ≡ b
+settled b x zero k = absurd (omega arith)
+settled b x (suc zero) k = absurd (omega arith)
+settled b x (suc (suc zero)) k = absurd (omega arith)
+settled b x (suc (suc (suc m))) k = refl
+
+-- The old value, by the mark: 0, 1 or 2, and 3.
+module _ (z : Sizes) (equations values marks : List ℕ) (p : ℕ) where
+  pub past-kept : getD marks p 0 ≡ 0 → pastIn z equations values marks p ≡ valueAt values p
+  unfolding pastIn
+  past-kept e = ap (λ (m : ℕ). pastOf (eqb (kindIn z equations p) 1) (valueAt values p) m) e
+
+  pub past-shifted : 0 < getD marks p 0 → getD marks p 0 < 3 → pastIn z equations values marks p ≡ not (eqb (kindIn z equations p) 1)
+  unfolding pastIn
+  past-shifted h k = shifted (eqb (kindIn z equations p) 1) (valueAt values p) (getD marks p 0) h k
+
+  pub past-settled : 3 ≤ getD marks p 0 → pastIn z equations values marks p ≡ eqb (kindIn z equations p) 1
+  unfolding pastIn
+  past-settled k = settled (eqb (kindIn z equations p) 1) (valueAt values p) (getD marks p 0) k
