@@ -15,10 +15,14 @@ ghost use Rattle.rules.specs.Values.{state, holds};
 ghost use Rattle.rules.specs.Session.{unword};
 ghost use Rattle.rules.specs.Calls.{valueAt};
 ghost use Rattle.rules.specs.Values as rule;
+ghost use Rattle.rules.specs.Batch.{changesOk};
+ghost use Rattle.systems.specs.Machine as machine;
+ghost use Rattle.laws.specs.ModelSystem.{frame};
+ghost use Rattle.pairs.specs.Looks.{changesOf, lookTest};
 ghost use Rattle.rules.specs.Rooms.{pairsOf};
 ghost use Rattle.pairs.specs.Drawn.{tableOf, Drawn};
 ghost use Rattle.pairs.specs.Part.{partOf};
-ghost use Rattle.pairs.specs.Words.{ReadsAs, kindIn, blockIn, pastIn, leadsTo};
+ghost use Rattle.pairs.specs.Words.{ReadsAs, kindIn, blockIn, pastIn, leadsTo, wentIn, leadsGone, addsOwn, dropsOwn};
 
 // An equation, taken out of its word: the operator, what it names, the block, and the block's kind.
 pub struct Formula {
@@ -206,4 +210,185 @@ pub fn gives(
         return joined(o == 5, first, second);
     }
     stepped(sizes, moves, n, values, s, e.first, e.second, o == 7)
+}
+
+// Must the pair turn, where one that it leans on has turned?
+pub fn asks(
+    sizes: Sizes,
+    labels: &[u32],
+    equations: &[u32],
+    moves: &[u32],
+    n: usize,
+    values: &[u8],
+    settling: bool,
+    r: usize,
+) -> bool
+    requires { ⌜ Drawn sizes (now labels) (now equations) (now moves) n ⌝ }
+    requires { ⌜ r < pairsOf sizes ⌝ }
+    ensures { λ b. ⌜ b ≡ machine.asks (frame (tableOf sizes (now (labels .entry)) (now (equations .entry)) (now (moves .entry)) n))
+        (rule.leanings (tableOf sizes (now (labels .entry)) (now (equations .entry)) (now (moves .entry)) n)) settling (valueAt (now (values .entry))) r ⌝ }
+{
+    let own = own_value(sizes, equations, r);
+    let turned = other(own, value_at(values, r));
+    if settling {
+        if turned {
+            return false;
+        }
+        return other(own, gives(sizes, labels, equations, moves, n, values, r));
+    }
+    turned
+}
+
+// Did the pair q, of a block before this one, go to b?
+fn went(
+    sizes: Sizes,
+    equations: &[u32],
+    values: &[u8],
+    marks: &[u8],
+    b: bool,
+    block: usize,
+    q: usize,
+) -> bool
+    requires { ⌜ 0 < sizes .states ⌝ }
+    ensures { λ r. ⌜ r ≡ wentIn sizes (now (equations .entry)) (now (values .entry)) (now (marks .entry)) b block q ⌝ }
+{
+    if block <= block_of(sizes, equations, q) {
+        return false;
+    }
+    if other(b, value_at(values, q)) {
+        return false;
+    }
+    other(b, old_value(sizes, equations, values, marks, q))
+}
+
+// Does the move lead to a pair of x that went to b?
+fn leads_gone_to(
+    sizes: Sizes,
+    equations: &[u32],
+    values: &[u8],
+    marks: &[u8],
+    b: bool,
+    block: usize,
+    x: u8,
+    q: u32,
+) -> bool
+    requires { ⌜ 0 < sizes .states ⌝ }
+    ensures { λ r. ⌜ r ≡ leadsGone sizes (now (equations .entry)) (now (values .entry)) (now (marks .entry)) b block x q ⌝ }
+{
+    let p = pair_at(sizes, (q % 1024) as usize, x);
+    went(sizes, equations, values, marks, b, block, p)
+}
+
+// Does a move of the part lead to a pair of x that went to b?
+fn leads_gone(
+    sizes: Sizes,
+    equations: &[u32],
+    moves: &[u32],
+    values: &[u8],
+    marks: &[u8],
+    b: bool,
+    block: usize,
+    x: u8,
+    from: usize,
+    end: usize,
+) -> bool
+    requires { ⌜ (0 < sizes .states) × (end ≤ length (now moves)) ⌝ }
+    ensures { λ r. ⌜ r ≡ any (leadsGone sizes (now (equations .entry)) (now (values .entry)) (now (marks .entry)) b block x) (slice from end (now (moves .entry))) ⌝ }
+{
+    let mut i = from;
+    while i < end {
+        let q = rooms::word_at(moves, i);
+        if leads_gone_to(sizes, equations, values, marks, b, block, x, q) {
+            return true;
+        }
+        i = i + 1;
+    }
+    false
+}
+
+// Is the move one of the state's moves with the action?
+fn owns(q: u32, s: usize, a: u8) -> bool
+    ensures { λ r. ⌜ r ≡ rule.own (state s) (record { 0 = a }) q ⌝ }
+{
+    if (q / 65536) as usize == s {
+        return q % 65536 / 1024 == a as u32;
+    }
+    false
+}
+
+// Is the change an insert of such a move?
+fn adds_own(w: u32, s: usize, a: u8) -> bool
+    ensures { λ r. ⌜ r ≡ addsOwn s a w ⌝ }
+{
+    if w % 2 == 1 {
+        return owns(w / 2, s, a);
+    }
+    false
+}
+
+// Is the change a delete of such a move, to a pair of x whose old value is not b?
+fn drops_own(
+    sizes: Sizes,
+    equations: &[u32],
+    values: &[u8],
+    marks: &[u8],
+    b: bool,
+    s: usize,
+    a: u8,
+    x: u8,
+    w: u32,
+) -> bool
+    requires { ⌜ 0 < sizes .states ⌝ }
+    ensures { λ r. ⌜ r ≡ dropsOwn sizes (now (equations .entry)) (now (values .entry)) (now (marks .entry)) b s a x w ⌝ }
+{
+    if w % 2 == 1 {
+        return false;
+    }
+    if owns(w / 2, s, a) {
+        let p = pair_at(sizes, (w / 2 % 1024) as usize, x);
+        return other(b, old_value(sizes, equations, values, marks, p));
+    }
+    false
+}
+
+// Do the changes insert such a move?
+fn gains(changes: &[u32], count: usize, s: usize, a: u8) -> bool
+    requires { ⌜ count ≤ length (now changes) ⌝ }
+    ensures { λ r. ⌜ r ≡ any (addsOwn s a) (take count (now (changes .entry))) ⌝ }
+{
+    let mut i: usize = 0;
+    while i < count {
+        if adds_own(rooms::word_at(changes, i), s, a) {
+            return true;
+        }
+        i = i + 1;
+    }
+    false
+}
+
+// Do the changes delete such a move, to a pair of x whose old value is not b?
+fn loses(
+    sizes: Sizes,
+    equations: &[u32],
+    changes: &[u32],
+    count: usize,
+    values: &[u8],
+    marks: &[u8],
+    b: bool,
+    s: usize,
+    a: u8,
+    x: u8,
+) -> bool
+    requires { ⌜ (0 < sizes .states) × (count ≤ length (now changes)) ⌝ }
+    ensures { λ r. ⌜ r ≡ any (dropsOwn sizes (now (equations .entry)) (now (values .entry)) (now (marks .entry)) b s a x) (take count (now (changes .entry))) ⌝ }
+{
+    let mut i: usize = 0;
+    while i < count {
+        let w = rooms::word_at(changes, i);
+        if drops_own(sizes, equations, values, marks, b, s, a, x, w) {
+            return true;
+        }
+        i = i + 1;
+    }
+    false
 }
