@@ -1,10 +1,2 @@
-pub mod Visits
-pub mod VisitLaws
-pub mod SourceLaws
 pub mod Engine
 pub mod EngineRuns
-pub mod LeanerWords
-pub mod OperatorBelow
-pub mod Seeking
-pub mod Products
-pub mod SeekLaws

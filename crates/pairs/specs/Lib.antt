@@ -7,3 +7,4 @@ pub mod SliceWalks
 pub mod Bits
 pub mod GivesWords
 pub mod LookWords
+pub mod DrawnLimits

@@ -86,7 +86,7 @@ fn other(b: bool, v: bool) -> bool
 }
 
 // The number of the pair of state s and variable x.
-fn pair_at(sizes: Sizes, s: usize, x: u8) -> usize
+pub fn pair_at(sizes: Sizes, s: usize, x: u8) -> usize
     requires { ⌜ s < 65536 ⌝ }
     ensures { λ r. ⌜ r ≡ x * sizes .states + s ⌝ }
 {

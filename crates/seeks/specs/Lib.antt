@@ -1,0 +1,3 @@
+pub mod Seeking
+pub mod Products
+pub mod SeekLaws

@@ -1,0 +1,6 @@
+pub mod Visits
+pub mod VisitLaws
+pub mod SourceLaws
+pub mod LeanerWords
+pub mod OperatorBelow
+pub mod ChainVisits
