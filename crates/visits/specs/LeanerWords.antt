@@ -3,10 +3,10 @@
 use mathlib.Core.Path.{_≡_, refl, sym, ap, ap₂, _∙_, subst}
 use mathlib.Core.Logic.{_⊎_, inl, inr}
 use mathlib.Core.Bool.{Bool, true, false, cond, _&&_}
-use mathlib.Core.List.{List, [], _∷_, _++_, append-nil, append-assoc}
+use mathlib.Core.List.{List, [], _∷_, _++_, map, append-nil, append-assoc}
 use Prim.Native.Nat.{ℕ, zero, suc, _+_, _≤_, _<_}
 use native.Mathlib.Omega.{arith}
-use lib.ListN.{length, getD, take}
+use lib.ListN.{length, getD, take, length-map}
 use lib.Seq.{take-suc}
 use lib.Dec.{eqb, ltb}
 use Rattle.rules.specs.Moves.{source, action, target}
@@ -14,8 +14,10 @@ use Rattle.rules.specs.Model.{Equation}
 use Rattle.rules.specs.Session.{unword}
 use Rattle.rules.specs.Values.{pair, state, variable, terms, termOf, constant}
 use Rattle.rules.specs.declared.Sizes.{Sizes}
-use Rattle.laws.specs.ModelLeaners.{sources, leanersVia}
-use Rattle.pairs.specs.Drawn.{tableOf}
+use Rattle.laws.specs.ModelLeaners.{sources, leanersVia, leanersOn}
+use Rattle.pairs.specs.Drawn.{tableOf, Drawn}
+use Rattle.pairs.specs.EquationWords.{formula-word}
+use Rattle.visits.specs.OperatorBelow.{operator-below}
 use Rattle.visits.specs.Visits.{sourcesTo, pairsAt}
 
 -- One move more at the end of the list.
@@ -71,3 +73,53 @@ leaners-by z labels equations ms n x t y e h k = go (e .operator) k
     go (suc (suc (suc (suc (suc (suc zero)))))) k = along (e .first)
     go (suc (suc (suc (suc (suc (suc (suc zero))))))) k = along (e .first)
     go (suc (suc (suc (suc (suc (suc (suc (suc o)))))))) k = absurd (omega arith)
+
+-- No more lean than there are moves, or two.
+sources-few : (ms : List ℕ) (a t n : ℕ) → length (sourcesTo ms a t n) ≤ n
+unfolding sourcesTo
+sources-few ms a t zero = omega arith
+sources-few ms a t (suc j) = go (eqb (action (getD ms j 0)) a && eqb (target (getD ms j 0)) t) (sources-few ms a t j)
+  where
+    go : (b : Bool) → length (sourcesTo ms a t j) ≤ j → length (cond b (source (getD ms j 0) ∷ sourcesTo ms a t j) (sourcesTo ms a t j)) ≤ suc j
+    go true h = omega arith
+    go false h = omega arith
+
+pub leaners-few : (z : Sizes) (ms : List ℕ) (n x t y : ℕ) (e : Equation) → length (leanersBy z ms n x t y e) ≤ n + 2
+unfolding leanersBy
+leaners-few z ms n x t y e = go (ltb (e .operator) 4) (ltb (e .operator) 6) (eqb (e .first) x) (eqb (e .second) x)
+  where
+    few : length (pairsAt z y (sourcesTo ms (e .first) t n)) ≤ n
+    few = let a = length-map (sourcesTo ms (e .first) t n) (λ s. pair z (state s) (variable y)) in let b = sources-few ms (e .first) t n in omega arith
+
+    two : (f s : Bool) → length (cond f (pair z (state t) (variable y) ∷ []) [] ++ cond s (pair z (state t) (variable y) ∷ []) []) ≤ 2
+    two true true = omega arith
+    two true false = omega arith
+    two false true = omega arith
+    two false false = omega arith
+
+    go : (o w f s : Bool)
+        → length (cond o [] (cond w (cond f (pair z (state t) (variable y) ∷ []) [] ++ cond s (pair z (state t) (variable y) ∷ []) []) (cond s (pairsAt z y (sourcesTo ms (e .first) t n)) []))) ≤ n + 2
+    go true w f s = omega arith
+    go false true f s = let h = two f s in omega arith
+    go false false f true = omega (arith, few)
+    go false false f false = omega arith
+
+-- The pairs of y that lean on the pair of t and x where both variables are of one block, by the words in the rooms.
+module _ (z : Sizes) (labels equations moves : List ℕ) (n : ℕ) (d : Drawn z labels equations moves n) (x y t : ℕ) (hx : x < z .variables) (hy : y < z .variables) where
+  abbrev e : Equation
+  e = unword (getD equations y 0)
+
+  pub leaners-on : leanersOn (tableOf z labels equations moves n) (variable x) (state t) (variable y)
+      ≡ cond (eqb (e .block) (unword (getD equations x 0) .block)) (leanersBy z moves n x t y e) []
+  leaners-on =
+      ap₂ (λ (f g : Equation). cond (eqb (f .block) (g .block)) (leanersVia (tableOf z labels equations moves n) (variable y) (variable x) (state t) (termOf f)) [])
+      (formula-word z labels equations moves n d y hy) (formula-word z labels equations moves n d x hx)
+      ∙ ap (λ (l : List ℕ). cond (eqb (e .block) (unword (getD equations x 0) .block)) l [])
+      (sym (leaners-by z labels equations moves n x t y e (d .long-moves) (operator-below z labels equations moves n d y hy)))
+
+  pub on-few : length (leanersOn (tableOf z labels equations moves n) (variable x) (state t) (variable y)) ≤ n + 2
+  on-few = subst (λ (l : List ℕ). length l ≤ n + 2) (sym leaners-on) (go (eqb (e .block) (unword (getD equations x 0) .block)))
+    where
+      go : (b : Bool) → length (cond b (leanersBy z moves n x t y (unword (getD equations y 0))) []) ≤ n + 2
+      go true = leaners-few z moves n x t y (unword (getD equations y 0))
+      go false = omega arith

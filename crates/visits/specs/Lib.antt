@@ -4,3 +4,5 @@ pub mod SourceLaws
 pub mod LeanerWords
 pub mod OperatorBelow
 pub mod ChainVisits
+pub mod VariableVisits
+pub mod BlockVisits

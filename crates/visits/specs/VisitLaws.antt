@@ -89,3 +89,8 @@ module _ (m : Model) (ph : Bool) (vs : List ℕ) where
 
   pub visit-no : (b : Bool) (r : ℕ) (v : Visit) → b ≡ false → v ≡ visited m ph vs (cond b (r ∷ []) []) v
   visit-no b r v e = rw e (sym (visited-none v))
+
+-- A test visits one pair at most.
+pub one-at-most : (b : Bool) (r : ℕ) → length (cond b (r ∷ []) []) ≤ 1
+one-at-most true r = omega arith
+one-at-most false r = omega arith

@@ -13,7 +13,7 @@ ghost use Rattle.rules.specs.Moves.{source, action, target};
 ghost use Rattle.rules.specs.Rooms.{pairsOf};
 ghost use Rattle.rules.specs.Values.{pair, state, variable};
 ghost use Rattle.rules.specs.Session.{unword};
-ghost use Rattle.laws.specs.ModelLeaners.{leanersTo, leanersOf};
+ghost use Rattle.laws.specs.ModelLeaners.{leanersOn, leanersOf};
 ghost use Rattle.pairs.specs.Drawn.{Drawn, tableOf};
 ghost use Rattle.chains.specs.Chains.{lastTo};
 ghost use Rattle.chains.specs.ChainLaws.{Chained};
@@ -225,6 +225,191 @@ fn visit_into(
             j,
         );
         k = rooms::half_at(next, j) as usize;
+    }
+    s
+}
+
+// The pairs of y that lean on the pair of t and x are visited.
+fn visit_variable(
+    sizes: Sizes,
+    labels: &[u32],
+    equations: &[u32],
+    moves: &[u32],
+    n: usize,
+    last: &[u16],
+    next: &[u16],
+    values: &[u8],
+    marks: &mut [u8],
+    stack: &mut [u16],
+    at: Spread,
+    settling: bool,
+    y: u8,
+    x: u8,
+    t: usize,
+) -> Spread
+    requires { ⌜ Drawn sizes (now labels) (now equations) (now moves) n ⌝ }
+    requires { ⌜ Chained (now moves) n (now last) (now next) ⌝ }
+    requires { ⌜ (y < sizes .variables) × ((t < sizes .states) × ((sizes .states ≤ length (now last)) × ((at .top < 1000000) × (at .visits < 1000000)))) ⌝ }
+    ensures { λ s. ⌜ (record { pile = record { marks = now (marks .exit); stack = now (stack .exit); top = s .top }; visits = s .visits })
+        ≡ visited (tableOf sizes (now (labels .entry)) (now (equations .entry)) (now (moves .entry)) n) settling (now (values .entry)) ((leanersBy sizes (now (moves .entry)) n x t y (unword (getD (now (equations .entry)) y 0))))
+        (record { pile = record { marks = now (marks .entry); stack = now (stack .entry); top = at .top }; visits = at .visits }) ⌝ }
+{
+    let e = pairs::formula_at(equations, y as usize);
+    let o = e.operator;
+    if o < 4 {
+        return at;
+    }
+    if o < 6 {
+        let r = pairs::pair_at(sizes, t, y);
+        let first = e.first == x;
+        let second = e.second == x;
+        let s = visit_if(
+            sizes,
+            labels,
+            equations,
+            moves,
+            n,
+            values,
+            marks,
+            stack,
+            at,
+            settling,
+            r,
+            first,
+        );
+        return visit_if(
+            sizes,
+            labels,
+            equations,
+            moves,
+            n,
+            values,
+            marks,
+            stack,
+            s,
+            settling,
+            r,
+            second,
+        );
+    }
+    if e.second == x {
+        return visit_into(
+            sizes,
+            labels,
+            equations,
+            moves,
+            n,
+            last,
+            next,
+            values,
+            marks,
+            stack,
+            at,
+            settling,
+            y,
+            e.first,
+            t,
+        );
+    }
+    at
+}
+
+// The same, where y lies in the block of x.
+fn visit_in_block(
+    sizes: Sizes,
+    labels: &[u32],
+    equations: &[u32],
+    moves: &[u32],
+    n: usize,
+    last: &[u16],
+    next: &[u16],
+    values: &[u8],
+    marks: &mut [u8],
+    stack: &mut [u16],
+    at: Spread,
+    settling: bool,
+    y: u8,
+    x: u8,
+    t: usize,
+) -> Spread
+    requires { ⌜ Drawn sizes (now labels) (now equations) (now moves) n ⌝ }
+    requires { ⌜ Chained (now moves) n (now last) (now next) ⌝ }
+    requires { ⌜ ((y < sizes .variables) × (x < sizes .variables)) × ((t < sizes .states) × ((sizes .states ≤ length (now last)) × ((at .top < 1000000) × (at .visits < 1000000)))) ⌝ }
+    ensures { λ s. ⌜ (record { pile = record { marks = now (marks .exit); stack = now (stack .exit); top = s .top }; visits = s .visits })
+        ≡ visited (tableOf sizes (now (labels .entry)) (now (equations .entry)) (now (moves .entry)) n) settling (now (values .entry)) ((leanersOn (tableOf sizes (now (labels .entry)) (now (equations .entry)) (now (moves .entry)) n) (variable x) (state t) (variable y)))
+        (record { pile = record { marks = now (marks .entry); stack = now (stack .entry); top = at .top }; visits = at .visits }) ⌝ }
+{
+    let mine = pairs::formula_at(equations, y as usize).block;
+    let its = pairs::formula_at(equations, x as usize).block;
+    if mine == its {
+        return visit_variable(
+            sizes,
+            labels,
+            equations,
+            moves,
+            n,
+            last,
+            next,
+            values,
+            marks,
+            stack,
+            at,
+            settling,
+            y,
+            x,
+            t,
+        );
+    }
+    at
+}
+
+// The pairs that lean on the pair q inside its block are visited.
+pub fn visit_leaners(
+    sizes: Sizes,
+    labels: &[u32],
+    equations: &[u32],
+    moves: &[u32],
+    n: usize,
+    last: &[u16],
+    next: &[u16],
+    values: &[u8],
+    marks: &mut [u8],
+    stack: &mut [u16],
+    at: Spread,
+    settling: bool,
+    q: usize,
+) -> Spread
+    requires { ⌜ Drawn sizes (now labels) (now equations) (now moves) n ⌝ }
+    requires { ⌜ Chained (now moves) n (now last) (now next) ⌝ }
+    requires { ⌜ (q < pairsOf sizes) × ((sizes .states ≤ length (now last)) × ((at .top < 100000) × (at .visits < 100000))) ⌝ }
+    ensures { λ s. ⌜ (record { pile = record { marks = now (marks .exit); stack = now (stack .exit); top = s .top }; visits = s .visits })
+        ≡ visited (tableOf sizes (now (labels .entry)) (now (equations .entry)) (now (moves .entry)) n) settling (now (values .entry)) (leanersOf (tableOf sizes (now (labels .entry)) (now (equations .entry)) (now (moves .entry)) n) q)
+        (record { pile = record { marks = now (marks .entry); stack = now (stack .entry); top = at .top }; visits = at .visits }) ⌝ }
+{
+    let states = sizes.states as usize;
+    let x = (q / states) as u8;
+    let t = q % states;
+    let mut s = at;
+    let mut y: u8 = 0;
+    while y < sizes.variables {
+        s = visit_in_block(
+            sizes,
+            labels,
+            equations,
+            moves,
+            n,
+            last,
+            next,
+            values,
+            marks,
+            stack,
+            s,
+            settling,
+            y,
+            x,
+            t,
+        );
+        y = y + 1;
     }
     s
 }
