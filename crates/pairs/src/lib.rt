@@ -392,3 +392,247 @@ fn loses(
     }
     false
 }
+
+// Does a diamond gain such a move, or a box lose one, where b is true; or the other way round?
+fn touched(
+    sizes: Sizes,
+    equations: &[u32],
+    changes: &[u32],
+    count: usize,
+    values: &[u8],
+    marks: &[u8],
+    b: bool,
+    each: bool,
+    s: usize,
+    a: u8,
+    x: u8,
+) -> bool
+    requires { ⌜ (0 < sizes .states) × (count ≤ length (now changes)) ⌝ }
+    ensures { λ r. ⌜ r ≡ cond (is (not b) each) (any (addsOwn s a) (take count (now (changes .entry))))
+        (any (dropsOwn sizes (now (equations .entry)) (now (values .entry)) (now (marks .entry)) b s a x) (take count (now (changes .entry)))) ⌝ }
+{
+    if other(b, each) {
+        return gains(changes, count, s, a);
+    }
+    loses(sizes, equations, changes, count, values, marks, b, s, a, x)
+}
+
+// Do the state's moves with the action lead to a pair of x that went to b?
+fn leans_gone(
+    sizes: Sizes,
+    equations: &[u32],
+    moves: &[u32],
+    n: usize,
+    values: &[u8],
+    marks: &[u8],
+    b: bool,
+    block: usize,
+    s: usize,
+    a: u8,
+    x: u8,
+) -> bool
+    requires { ⌜ (0 < sizes .states) × (n ≤ length (now moves)) × (s < 65536) ⌝ }
+    ensures { λ r. ⌜ r ≡ any (leadsGone sizes (now (equations .entry)) (now (values .entry)) (now (marks .entry)) b block x) (partOf s a (take n (now (moves .entry)))) ⌝ }
+{
+    let part = part::part_of(moves, n, s as u32, a as u32);
+    leads_gone(
+        sizes,
+        equations,
+        moves,
+        values,
+        marks,
+        b,
+        block,
+        x,
+        part.from,
+        part.end,
+    )
+}
+
+// Did the state's pair of x or that of y go to b?
+fn join_seeds(
+    sizes: Sizes,
+    equations: &[u32],
+    values: &[u8],
+    marks: &[u8],
+    b: bool,
+    block: usize,
+    s: usize,
+    x: u8,
+    y: u8,
+) -> bool
+    requires { ⌜ (0 < sizes .states) × (s < 65536) ⌝ }
+    ensures { λ r. ⌜ r ≡ (wentIn sizes (now (equations .entry)) (now (values .entry)) (now (marks .entry)) b block (x * sizes .states + s)
+        || wentIn sizes (now (equations .entry)) (now (values .entry)) (now (marks .entry)) b block (y * sizes .states + s)) ⌝ }
+{
+    if went(
+        sizes,
+        equations,
+        values,
+        marks,
+        b,
+        block,
+        pair_at(sizes, s, x),
+    ) {
+        return true;
+    }
+    went(
+        sizes,
+        equations,
+        values,
+        marks,
+        b,
+        block,
+        pair_at(sizes, s, y),
+    )
+}
+
+// Is a diamond or a box touched by the changes, or does it lean on a pair that went to b?
+fn step_seeds(
+    sizes: Sizes,
+    equations: &[u32],
+    moves: &[u32],
+    n: usize,
+    changes: &[u32],
+    count: usize,
+    values: &[u8],
+    marks: &[u8],
+    b: bool,
+    block: usize,
+    each: bool,
+    s: usize,
+    a: u8,
+    x: u8,
+) -> bool
+    requires { ⌜ (0 < sizes .states) × (s < 65536) × (n ≤ length (now moves)) × (count ≤ length (now changes)) ⌝ }
+    ensures { λ r. ⌜ r ≡ (cond (is (not b) each) (any (addsOwn s a) (take count (now (changes .entry))))
+        (any (dropsOwn sizes (now (equations .entry)) (now (values .entry)) (now (marks .entry)) b s a x) (take count (now (changes .entry))))
+        || any (leadsGone sizes (now (equations .entry)) (now (values .entry)) (now (marks .entry)) b block x) (partOf s a (take n (now (moves .entry))))) ⌝ }
+{
+    if touched(
+        sizes,
+        equations,
+        changes,
+        count,
+        values,
+        marks,
+        b,
+        each,
+        s,
+        a,
+        x,
+    ) {
+        return true;
+    }
+    leans_gone(sizes, equations, moves, n, values, marks, b, block, s, a, x)
+}
+
+// How many of the changes are in the room.
+fn within(changes: &[u32], count: usize) -> usize
+    ensures { λ r. ⌜ (take r (now (changes .entry)) ≡ take count (now (changes .entry))) × (r ≤ length (now (changes .entry))) ⌝ }
+{
+    if count < changes.len() {
+        return count;
+    }
+    changes.len()
+}
+
+// Is the pair a seed of the shift that the changes start?
+fn seeds(
+    sizes: Sizes,
+    labels: &[u32],
+    equations: &[u32],
+    moves: &[u32],
+    n: usize,
+    changes: &[u32],
+    count: usize,
+    values: &[u8],
+    marks: &[u8],
+    p: usize,
+) -> bool
+    requires { ⌜ Drawn sizes (now labels) (now equations) (now moves) n ⌝ }
+    requires { ⌜ (p < pairsOf sizes) × (count ≤ length (now changes)) ⌝ }
+    requires { ⌜ changesOk sizes (changesOf (take count (now changes))) ≡ true ⌝ }
+    ensures { λ r. ⌜ r ≡ lookTest (tableOf sizes (now (labels .entry)) (now (equations .entry)) (now (moves .entry)) n)
+        (changesOf (take count (now (changes .entry)))) false (valueAt (now (values .entry))) (λ q. getD (now (marks .entry)) q 0) p ⌝ }
+{
+    let states = sizes.states as usize;
+    let s = p % states;
+    let e = formula_at(equations, p / states);
+    let o = e.operator;
+    if o < 4 {
+        return false;
+    }
+    let own = own_value(sizes, equations, p);
+    if other(own, old_value(sizes, equations, values, marks, p)) {
+        let block = e.block as usize;
+        if o < 6 {
+            return join_seeds(
+                sizes,
+                equations,
+                values,
+                marks,
+                own,
+                block,
+                s,
+                e.first,
+                e.second,
+            );
+        }
+        return step_seeds(
+            sizes,
+            equations,
+            moves,
+            n,
+            changes,
+            count,
+            values,
+            marks,
+            own,
+            block,
+            o == 7,
+            s,
+            e.first,
+            e.second,
+        );
+    }
+    false
+}
+
+// Must the pair turn when it is looked at?
+pub fn look(
+    sizes: Sizes,
+    labels: &[u32],
+    equations: &[u32],
+    moves: &[u32],
+    n: usize,
+    changes: &[u32],
+    count: usize,
+    values: &[u8],
+    marks: &[u8],
+    settling: bool,
+    p: usize,
+) -> bool
+    requires { ⌜ Drawn sizes (now labels) (now equations) (now moves) n ⌝ }
+    requires { ⌜ p < pairsOf sizes ⌝ }
+    requires { ⌜ changesOk sizes (changesOf (take count (now changes))) ≡ true ⌝ }
+    ensures { λ r. ⌜ r ≡ lookTest (tableOf sizes (now (labels .entry)) (now (equations .entry)) (now (moves .entry)) n)
+        (changesOf (take count (now (changes .entry)))) settling (valueAt (now (values .entry))) (λ q. getD (now (marks .entry)) q 0) p ⌝ }
+{
+    if settling {
+        return asks(sizes, labels, equations, moves, n, values, true, p);
+    }
+    let inside = within(changes, count);
+    seeds(
+        sizes,
+        labels,
+        equations,
+        moves,
+        n,
+        changes,
+        inside,
+        values,
+        marks,
+        p,
+    )
+}
