@@ -6,4 +6,4 @@ pub mod Part
 pub mod SliceWalks
 pub mod Bits
 pub mod GivesWords
-pub mod LookWords
+pub mod AsksWords

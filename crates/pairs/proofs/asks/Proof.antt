@@ -1,5 +1,5 @@
 -- While settling, the value first, then what the equation gives. Assumes nothing.
-use Rattle.pairs.specs.LookWords.{asks-shift, asks-turned, asks-given}
+use Rattle.pairs.specs.AsksWords.{asks-shift, asks-turned, asks-given}
 use Rattle.pairs.specs.GivesWords.{some-states}
 use Rattle.lists.specs.Lists.{is}
 use mathlib.Core.Bool.{Bool, not}
