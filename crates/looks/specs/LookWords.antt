@@ -1,11 +1,11 @@
 -- Whether a pair must turn, by its word, its value, its mark and the words of the changes. Assumes nothing.
 use mathlib.Core.Path.{_≡_, refl, sym, ap, _∙_, subst}
-use mathlib.Core.Logic.{_⊎_, inl, inr}
+use mathlib.Core.Logic.{inl, inr}
 use mathlib.Core.Bool.{Bool, true, false, not, cond, _&&_, _||_}
 use mathlib.Core.List.{List, [], _∷_, map, List·Memᴰ·head, List·Memᴰ·tail, List·Memᴰ·not-nil, List·Memᴰ·cases-cons}
-use Prim.Native.Nat.{ℕ, zero, suc, _+_, _*_, _/_, _%_, _≤_, _<_}
+use Prim.Native.Nat.{ℕ, _+_, _*_, _/_, _%_, _≤_, _<_}
 use native.Mathlib.Omega.{arith}
-use lib.ListN.{length, getD, take}
+use lib.ListN.{getD, take}
 use lib.Dec.{eqb, ltb}
 use Rattle.lists.specs.Lists.{is, any}
 use Rattle.lists.specs.Sets.{none}
@@ -16,14 +16,14 @@ use Rattle.rules.specs.Model.{Model, moveOk}
 use Rattle.rules.specs.Rooms.{pairsOf}
 use Rattle.rules.specs.Batch.{Change, changesOk, inserts, deletes}
 use Rattle.rules.specs.Calls.{valueAt}
-use Rattle.rules.specs.Values.{Values, Term, constant, step, state, variable, pair, stateOf, terms, termAt, blockOf, own, targets, leaningsBy, leanings}
+use Rattle.rules.specs.Values.{Values, Term, constant, step, state, variable, terms, termAt, blockOf, own, targets, leaningsBy, leanings}
 use Rattle.rules.specs.Update.{gains, loses, went, shifts}
 use Rattle.rules.specs.declared.Sizes.{Sizes}
 use Rattle.rules.specs.declared.State.{State}
 use Rattle.rules.specs.declared.Action.{Action}
-use Rattle.laws.specs.ModelSystem.{frame, leanings-at, Sound, pairs-full, pair-below, model-fits}
+use Rattle.laws.specs.ModelSystem.{frame, leanings-at, pairs-full, pair-below, model-fits}
 use Rattle.pairs.specs.Drawn.{tableOf, Drawn}
-use Rattle.pairs.specs.Looks.{changeOf, changesOf, lookTest}
+use Rattle.pairs.specs.Looks.{changesOf, lookTest}
 use Rattle.pairs.specs.Words.{ReadsAs, wordOf, kindIn, blockIn, pastIn}
 use Rattle.pairs.specs.Part.{partOf}
 use Rattle.pairs.specs.EquationWords.{drawn-sound, block-word}
@@ -103,6 +103,13 @@ module _ (z : Sizes) (equations values marks : List ℕ) (b : Bool) (i q : ℕ) 
       last true = refl
       last false = refl
 
+-- The old values, and the look at a pair while its block shifts, where values, marks and changes lie in rooms.
+abbrev pastBy : Model → List ℕ → List ℕ → Values
+pastBy m values marks = machine.past (frame m) (valueAt values) (λ q. getD marks q 0)
+
+abbrev shiftTest : Model → List ℕ → List ℕ → List ℕ → ℕ → Bool
+shiftTest m l values marks p = lookTest m (changesOf l) false (valueAt values) (λ q. getD marks q 0) p
+
 -- What makes a pair turn, where it was not b (x) and where it leans on a pair that went (y).
 abbrev seedOf : Model → List Change → Values → State → Bool → Bool → Term → Bool → Bool
 seedOf m cs old s b x t y = is (not b) x && ((gains b (inserts cs) s t || loses b m (deletes cs) old s t) || y)
@@ -167,12 +174,12 @@ module _ (z : Sizes) (labels equations moves : List ℕ) (n : ℕ) (d : Drawn z 
       let u = pairs-full m s p h in
       f .inside q (omega arith)
 
-  gone : any (λ q. none q || went (tableOf z labels equations moves n) (blockOf (tableOf z labels equations moves n) p) w (machine.past (frame (tableOf z labels equations moves n)) (valueAt values) (λ q. getD marks q 0)) (valueAt values) q) (leanings (tableOf z labels equations moves n) p)
+  gone : any (λ q. none q || went (tableOf z labels equations moves n) (blockOf (tableOf z labels equations moves n) p) w (pastBy (tableOf z labels equations moves n) values marks) (valueAt values) q) (leanings (tableOf z labels equations moves n) p)
       ≡ any (wentIn z equations values marks w i) (leaningsBy (tableOf z labels equations moves n) (state (p % z .states)) (getD (terms a b) o (constant false)))
   unfolding wentIn
   gone =
       let m = tableOf z labels equations moves n in
-      let old : Values = machine.past (frame m) (valueAt values) (λ q. getD marks q 0) in
+      let old = pastBy m values marks in
       any-same (λ q. none q || went m (blockOf m p) w old (valueAt values) q) (wentIn z equations values marks w i) (leanings m p)
       (λ q g. let l = leant-below q g in
       ap (λ (x : ℕ). ltb x (blockOf m p) && (is (not w) (old q) && is w (valueAt values q))) (block-word z labels equations moves n d q l)
@@ -180,14 +187,14 @@ module _ (z : Sizes) (labels equations moves : List ℕ) (n : ℕ) (d : Drawn z 
       ∙ ap (λ (x : Bool). ltb (blockIn z equations q) i && (is (not w) x && is w (valueAt values q))) (past-word z labels equations moves n d values marks q l))
       ∙ ap (any (wentIn z equations values marks w i)) (leanings-at m p h ∙ ap (leaningsBy m (state (p % z .states))) (term-read z labels equations moves n d p h o a b i k r))
 
-  looked : lookTest (tableOf z labels equations moves n) (changesOf l) false (valueAt values) (λ q. getD marks q 0) p
-      ≡ seedOf (tableOf z labels equations moves n) (changesOf l) (machine.past (frame (tableOf z labels equations moves n)) (valueAt values) (λ q. getD marks q 0)) (state (p % z .states)) w
+  looked : shiftTest (tableOf z labels equations moves n) l values marks p
+      ≡ seedOf (tableOf z labels equations moves n) (changesOf l) (pastBy (tableOf z labels equations moves n) values marks) (state (p % z .states)) w
       (pastIn z equations values marks p) (getD (terms a b) o (constant false))
       (any (wentIn z equations values marks w i) (leaningsBy (tableOf z labels equations moves n) (state (p % z .states)) (getD (terms a b) o (constant false))))
   unfolding lookTest shifts
   looked =
       let m = tableOf z labels equations moves n in
-      let old : Values = machine.past (frame m) (valueAt values) (λ q. getD marks q 0) in
+      let old = pastBy m values marks in
       let s = state (p % z .states) in
       let T = getD (terms a b) o (constant false) in
       ap (λ (c : Bool). c && seedOf m (changesOf l) old s (machine.own (frame m) p) (old p) (termAt m p) (any (λ q. none q || went m (blockOf m p) (machine.own (frame m) p) old (valueAt values) q) (leanings m p))) (eqb-same (blockOf m p))
@@ -196,12 +203,12 @@ module _ (z : Sizes) (labels equations moves : List ℕ) (n : ℕ) (d : Drawn z 
       ∙ ap (λ (t : Term). seedOf m (changesOf l) old s w (pastIn z equations values marks p) t (any (λ q. none q || went m (blockOf m p) w old (valueAt values) q) (leanings m p))) (term-read z labels equations moves n d p h o a b i k r)
       ∙ ap (λ (c : Bool). seedOf m (changesOf l) old s w (pastIn z equations values marks p) T c) gone
 
-  lost : 6 ≤ o → any (λ q. own (state (p % z .states)) (record { 0 = a }) q && is (not w) (machine.past (frame (tableOf z labels equations moves n)) (valueAt values) (λ q. getD marks q 0) (b * z .states + target q))) (deletes (changesOf l))
+  lost : 6 ≤ o → any (λ q. own (state (p % z .states)) (record { 0 = a }) q && is (not w) (pastBy (tableOf z labels equations moves n) values marks (b * z .states + target q))) (deletes (changesOf l))
       ≡ any (dropsOwn z equations values marks w (p % z .states) a b) l
   unfolding dropsOwn moveOk
   lost g =
       let m = tableOf z labels equations moves n in
-      let old : Values = machine.past (frame m) (valueAt values) (λ q. getD marks q 0) in
+      let old = pastBy m values marks in
       let c : Action = record { 0 = a } in
       let s = state (p % z .states) in
       let u = step-names z labels equations moves n d p h o a b i k r g in
@@ -211,35 +218,35 @@ module _ (z : Sizes) (labels equations moves : List ℕ) (n : ℕ) (d : Drawn z 
       ∙ deletes-any (λ q. own s c q && is (not w) (pastIn z equations values marks (b * z .states + target q))) l
 
   -- Must the pair turn when it is looked at, while shifting? Not where it has been shifted to the own value before.
-  pub look-kept : is (not w) (pastIn z equations values marks p) ≡ false → lookTest (tableOf z labels equations moves n) (changesOf l) false (valueAt values) (λ q. getD marks q 0) p ≡ false
+  pub look-kept : is (not w) (pastIn z equations values marks p) ≡ false → shiftTest (tableOf z labels equations moves n) l values marks p ≡ false
   look-kept e =
       let m = tableOf z labels equations moves n in
-      let old : Values = machine.past (frame m) (valueAt values) (λ q. getD marks q 0) in
+      let old = pastBy m values marks in
       let s = state (p % z .states) in
       let T = getD (terms a b) o (constant false) in
       looked ∙ ap (λ (x : Bool). x && ((gains w (inserts (changesOf l)) s T || loses w m (deletes (changesOf l)) old s T) || any (wentIn z equations values marks w i) (leaningsBy m s T))) e
 
   -- Not where it leans on nothing.
-  pub look-low : o < 4 → lookTest (tableOf z labels equations moves n) (changesOf l) false (valueAt values) (λ q. getD marks q 0) p ≡ false
+  pub look-low : o < 4 → shiftTest (tableOf z labels equations moves n) l values marks p ≡ false
   look-low e =
       let m = tableOf z labels equations moves n in
-      looked ∙ seed-low m (changesOf l) (machine.past (frame m) (valueAt values) (λ q. getD marks q 0)) (state (p % z .states)) w (pastIn z equations values marks p) (wentIn z equations values marks w i) a b o e
+      looked ∙ seed-low m (changesOf l) (pastBy m values marks) (state (p % z .states)) w (pastIn z equations values marks p) (wentIn z equations values marks w i) a b o e
 
   -- An "or" or an "and": where one of its two pairs went.
   pub look-join : is (not w) (pastIn z equations values marks p) ≡ true → 4 ≤ o → o < 6
-      → lookTest (tableOf z labels equations moves n) (changesOf l) false (valueAt values) (λ q. getD marks q 0) p
+      → shiftTest (tableOf z labels equations moves n) l values marks p
       ≡ (wentIn z equations values marks w i (a * z .states + p % z .states) || wentIn z equations values marks w i (b * z .states + p % z .states))
   look-join e g u =
       let m = tableOf z labels equations moves n in
-      looked ∙ seed-join m (changesOf l) (machine.past (frame m) (valueAt values) (λ q. getD marks q 0)) (state (p % z .states)) w (pastIn z equations values marks p) (wentIn z equations values marks w i) a b o e g u
+      looked ∙ seed-join m (changesOf l) (pastBy m values marks) (state (p % z .states)) w (pastIn z equations values marks p) (wentIn z equations values marks w i) a b o e g u
 
   -- A diamond or a box: where it gains or loses so, or one of its moves leads to a pair that went.
   pub look-step : is (not w) (pastIn z equations values marks p) ≡ true → 6 ≤ o
-      → lookTest (tableOf z labels equations moves n) (changesOf l) false (valueAt values) (λ q. getD marks q 0) p
+      → shiftTest (tableOf z labels equations moves n) l values marks p
       ≡ (cond (is (not w) (eqb o 7)) (any (addsOwn (p % z .states) a) l) (any (dropsOwn z equations values marks w (p % z .states) a b) l)
       || any (leadsGone z equations values marks w i b) (partOf (p % z .states) a (take n moves)))
   unfolding leadsGone
   look-step e g =
       let m = tableOf z labels equations moves n in
-      looked ∙ seed-step m l (machine.past (frame m) (valueAt values) (λ q. getD marks q 0)) (p % z .states) w (pastIn z equations values marks p) (wentIn z equations values marks w i) a b
+      looked ∙ seed-step m l (pastBy m values marks) (p % z .states) w (pastIn z equations values marks p) (wentIn z equations values marks w i) a b
       (partOf (p % z .states) a (take n moves)) (dropsOwn z equations values marks w (p % z .states) a b) (lost g) (targets-read z labels equations moves n d p h o a b i k r g) e o g (step-names z labels equations moves n d p h o a b i k r g .0)

@@ -1,8 +1,8 @@
 -- The equation, the block and the kind of a pair are what the words in the rooms say. Assumes nothing.
 use mathlib.Core.Path.{_≡_, refl, sym, ap, _∙_}
-use mathlib.Core.Logic.{_⊎_, inl, inr}
-use mathlib.Core.Bool.{Bool, true, false, cond, _&&_, _||_}
-use mathlib.Core.List.{List, [], _∷_, map}
+use mathlib.Core.Logic.{inl, inr}
+use mathlib.Core.Bool.{Bool, true, false, _&&_, _||_}
+use mathlib.Core.List.{List, [], _∷_}
 use Prim.Native.Nat.{ℕ, zero, suc, _/_, _≤_, _<_}
 use native.Mathlib.Nat.{not-suc-le-zero, le-of-suc-le-suc, div-lt-iff-lt-mul}
 use native.Mathlib.Omega.{arith}
@@ -11,16 +11,16 @@ use lib.Seq.{getD-take}
 use lib.Dec.{eqb}
 use Rattle.lists.specs.Tests.{tell, and-is, eqb-is, eqb-in, eqb-out, eqb-same, or-out}
 use Rattle.systems.specs.Machine.{own}
-use Rattle.rules.specs.Model.{Equation, Model, equationsOk}
+use Rattle.rules.specs.Model.{Equation, equationsOk}
 use Rattle.rules.specs.Rooms.{pairsOf}
 use Rattle.rules.specs.Session.{unword}
 use Rattle.rules.specs.Values.{variable, blockOf, greatestIn, greatest}
-use Rattle.rules.specs.Values as values
 use Rattle.rules.specs.declared.Sizes.{Sizes}
+use Rattle.rules.specs.Values as values
 use Rattle.laws.specs.Named.{equationAt, blockAt}
 use Rattle.laws.specs.ModelSystem.{frame, block-at, Sound, sound}
 use Rattle.pairs.specs.Drawn.{tableOf, Drawn}
-use Rattle.pairs.specs.Words.{wordOf, kindIn, blockIn}
+use Rattle.pairs.specs.Words.{kindIn, blockIn}
 
 -- Block numbers never fall.
 head-block : (z : Sizes) (i b k : ℕ) (e : Equation) (es : List Equation) → equationsOk z i b k (e ∷ es) ≡ true → b ≤ suc (e .block)

@@ -1,7 +1,7 @@
 -- The first pair, then the second. Assumes nothing.
-use Rattle.looks.specs.LookTests.{wentIn}
-use mathlib.Core.Path.{_≡_, refl, sym, ap, _∙_}
+use mathlib.Core.Path.{refl, sym, ap, _∙_}
 use borrow.Author.Needs.{needs}
+use Rattle.looks.specs.LookTests.{wentIn}
 use Rattle.looks.proofs.join_seeds.Statement.{statement}
 use Rattle.looks.proofs.join_seeds.Tie as tie
 

@@ -1,14 +1,14 @@
 -- The part that was found is the part of the first n moves. Assumes nothing.
+use mathlib.Core.Path.{sym, ap, _∙_}
+use Prim.Native.Nat.{ℕ, _+_}
+use native.Mathlib.Omega.{arith}
+use lib.ListN.{take}
+use lib.Seq.{slice}
+use borrow.Author.Needs.{needs}
+use Rattle.lists.specs.Lists.{any}
 use Rattle.pairs.specs.GivesWords.{below-most, part-in}
 use Rattle.pairs.specs.Part.{keyOf, below}
 use Rattle.looks.specs.LookTests.{leadsGone}
-use Rattle.lists.specs.Lists.{any}
-use lib.Seq.{slice}
-use lib.ListN.{take}
-use Prim.Native.Nat.{ℕ, _+_}
-use native.Mathlib.Omega.{arith}
-use mathlib.Core.Path.{_≡_, refl, sym, ap, _∙_}
-use borrow.Author.Needs.{needs}
 use Rattle.looks.proofs.leans_gone.Statement.{statement}
 use Rattle.looks.proofs.leans_gone.Tie as tie
 

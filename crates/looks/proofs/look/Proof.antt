@@ -1,14 +1,14 @@
 -- While settling it is asked, while shifting it is a seed. Assumes nothing.
-use Rattle.pairs.specs.Looks.{changesOf, lookTest}
-use Rattle.pairs.specs.Drawn.{tableOf}
+use mathlib.Core.Path.{_≡_, sym, ap, _∙_, subst}
+use mathlib.Core.Bool.{Bool, true, false}
+use mathlib.Core.List.{List}
+use Prim.Native.Nat.{ℕ}
+use lib.ListN.{getD, take}
+use borrow.Author.Needs.{needs}
 use Rattle.rules.specs.Calls.{valueAt}
 use Rattle.rules.specs.Batch.{changesOk}
-use lib.ListN.{getD, take}
-use Prim.Native.Nat.{ℕ}
-use mathlib.Core.List.{List}
-use mathlib.Core.Bool.{Bool, true, false}
-use mathlib.Core.Path.{_≡_, refl, sym, ap, _∙_, subst}
-use borrow.Author.Needs.{needs}
+use Rattle.pairs.specs.Looks.{changesOf, lookTest}
+use Rattle.pairs.specs.Drawn.{tableOf}
 use Rattle.looks.proofs.look.Statement.{statement}
 use Rattle.looks.proofs.look.Tie as tie
 

@@ -1,13 +1,13 @@
 -- The changes before place i do not delete one. Assumes nothing.
+use mathlib.Core.Path.{_≡_, refl, sym, ap, _∙_}
+use Prim.Native.Nat.{_-_}
+use native.Mathlib.Omega.{arith}
 use lib.ListN.{take}
+use lib.Seq.{slice}
+use borrow.Author.Needs.{needs}
+use Rattle.lists.specs.Lists.{any}
 use Rattle.pairs.specs.SliceWalks.{any-hit, any-pass, any-end}
 use Rattle.looks.specs.LookTests.{dropsOwn}
-use Rattle.lists.specs.Lists.{any}
-use lib.Seq.{slice}
-use Prim.Native.Nat.{_-_}
-use borrow.Author.Needs.{needs}
-use native.Mathlib.Omega.{arith}
-use mathlib.Core.Path.{_≡_, refl, sym, ap, _∙_}
 use Rattle.looks.proofs.loses.Statement.{statement}
 use Rattle.looks.proofs.loses.Tie as tie
 

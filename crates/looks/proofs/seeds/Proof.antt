@@ -1,16 +1,16 @@
 -- One operator after the other. Assumes nothing.
-use Rattle.looks.specs.LookWords.{look-kept, look-low, look-join, look-step}
-use Rattle.pairs.specs.GivesWords.{some-states}
-use Rattle.pairs.specs.Words.{kindIn}
-use Rattle.lists.specs.Lists.{is}
+use mathlib.Core.Path.{refl, sym, ap, _∙_}
+use mathlib.Core.Bool.{not}
+use Prim.Native.Nat.{_≤_}
+use native.Mathlib.Nat.{mod-lt}
+use native.Mathlib.Omega.{arith}
 use lib.ListN.{length, take}
 use lib.Dec.{eqb}
-use native.Mathlib.Nat.{mod-lt}
-use Prim.Native.Nat.{ℕ, _≤_, _<_, _%_}
-use mathlib.Core.Bool.{Bool, not, true, false, _||_}
-use native.Mathlib.Omega.{arith}
-use mathlib.Core.Path.{_≡_, refl, sym, ap, _∙_}
 use borrow.Author.Needs.{needs}
+use Rattle.lists.specs.Lists.{is}
+use Rattle.pairs.specs.GivesWords.{some-states}
+use Rattle.pairs.specs.Words.{kindIn}
+use Rattle.looks.specs.LookWords.{look-kept, look-low, look-join, look-step}
 use Rattle.looks.proofs.seeds.Statement.{statement}
 use Rattle.looks.proofs.seeds.Tie as tie
 

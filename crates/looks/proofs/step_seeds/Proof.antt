@@ -1,5 +1,5 @@
 -- The changes first, then the moves. Assumes nothing.
-use mathlib.Core.Path.{_≡_, refl, sym, ap, _∙_}
+use mathlib.Core.Path.{refl, sym, _∙_}
 use borrow.Author.Needs.{needs}
 use Rattle.looks.proofs.step_seeds.Statement.{statement}
 use Rattle.looks.proofs.step_seeds.Tie as tie

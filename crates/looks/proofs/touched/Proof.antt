@@ -1,5 +1,5 @@
 -- What it gains, or what it loses. Assumes nothing.
-use mathlib.Core.Path.{_≡_, refl, sym, ap, _∙_}
+use mathlib.Core.Path.{sym, _∙_}
 use borrow.Author.Needs.{needs}
 use Rattle.looks.proofs.touched.Statement.{statement}
 use Rattle.looks.proofs.touched.Tie as tie

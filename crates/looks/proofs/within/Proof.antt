@@ -1,7 +1,7 @@
 -- A count past the end takes the whole room. Assumes nothing.
-use lib.Seq.{take-all, take-length}
-use native.Mathlib.Omega.{arith}
 use mathlib.Core.Path.{sym, _∙_}
+use native.Mathlib.Omega.{arith}
+use lib.Seq.{take-all, take-length}
 use borrow.Author.Needs.{needs}
 use Rattle.looks.proofs.within.Statement.{statement}
 use Rattle.looks.proofs.within.Tie as tie
