@@ -1,10 +1,12 @@
 // Whether a pair must turn when it is looked at.
+use pairs::Formula;
 use rules::Sizes;
 ghost use mathlib.Core.Path.{_≡_};
 ghost use mathlib.Core.Bool.{true, false, not, cond, _||_};
 ghost use Prim.Native.Nat.{_+_, _*_, _≤_, _<_};
 ghost use lib.ListN.{length, getD, take};
 ghost use lib.Seq.{slice};
+ghost use lib.Dec.{eqb};
 ghost use Rattle.lists.specs.Lists.{is, any};
 ghost use Rattle.rules.specs.Rooms.{pairsOf};
 ghost use Rattle.rules.specs.Values.{state, own};
@@ -225,42 +227,27 @@ fn leans_gone(
     )
 }
 
-// Did the state's pair of x or that of y go to b?
+// Did one of the two pairs that an "or" or an "and" leans on go to b?
 fn join_seeds(
     sizes: Sizes,
     equations: &[u32],
     values: &[u8],
     marks: &[u8],
     b: bool,
-    block: usize,
     s: usize,
-    x: u8,
-    y: u8,
+    e: Formula,
 ) -> bool
     requires { ⌜ (0 < sizes .states) × (s < 65536) ⌝ }
-    ensures { λ r. ⌜ r ≡ (wentIn sizes (now (equations .entry)) (now (values .entry)) (now (marks .entry)) b block (x * sizes .states + s)
-        || wentIn sizes (now (equations .entry)) (now (values .entry)) (now (marks .entry)) b block (y * sizes .states + s)) ⌝ }
+    ensures { λ r. ⌜ r ≡ (wentIn sizes (now (equations .entry)) (now (values .entry)) (now (marks .entry)) b (e .block) (e .first * sizes .states + s)
+        || wentIn sizes (now (equations .entry)) (now (values .entry)) (now (marks .entry)) b (e .block) (e .second * sizes .states + s)) ⌝ }
 {
-    if went(
-        sizes,
-        equations,
-        values,
-        marks,
-        b,
-        block,
-        pairs::pair_at(sizes, s, x),
-    ) {
+    let block = e.block as usize;
+    let first = pairs::pair_at(sizes, s, e.first);
+    if went(sizes, equations, values, marks, b, block, first) {
         return true;
     }
-    went(
-        sizes,
-        equations,
-        values,
-        marks,
-        b,
-        block,
-        pairs::pair_at(sizes, s, y),
-    )
+    let second = pairs::pair_at(sizes, s, e.second);
+    went(sizes, equations, values, marks, b, block, second)
 }
 
 // Is a diamond or a box touched by the changes, or does it lean on a pair that went to b?
@@ -274,17 +261,17 @@ fn step_seeds(
     values: &[u8],
     marks: &[u8],
     b: bool,
-    block: usize,
-    each: bool,
     s: usize,
-    a: u8,
-    x: u8,
+    e: Formula,
 ) -> bool
     requires { ⌜ (0 < sizes .states) × (s < 65536) × (n ≤ length (now moves)) × (count ≤ length (now changes)) ⌝ }
-    ensures { λ r. ⌜ r ≡ (cond (is (not b) each) (any (addsOwn s a) (take count (now (changes .entry))))
-        (any (dropsOwn sizes (now (equations .entry)) (now (values .entry)) (now (marks .entry)) b s a x) (take count (now (changes .entry))))
-        || any (leadsGone sizes (now (equations .entry)) (now (values .entry)) (now (marks .entry)) b block x) (partOf s a (take n (now (moves .entry))))) ⌝ }
+    ensures { λ r. ⌜ r ≡ (cond (is (not b) (eqb (e .operator) 7)) (any (addsOwn s (e .first)) (take count (now (changes .entry))))
+        (any (dropsOwn sizes (now (equations .entry)) (now (values .entry)) (now (marks .entry)) b s (e .first) (e .second)) (take count (now (changes .entry))))
+        || any (leadsGone sizes (now (equations .entry)) (now (values .entry)) (now (marks .entry)) b (e .block) (e .second)) (partOf s (e .first) (take n (now (moves .entry))))) ⌝ }
 {
+    let each = e.operator == 7;
+    let a = e.first;
+    let x = e.second;
     if touched(
         sizes,
         equations,
@@ -300,6 +287,7 @@ fn step_seeds(
     ) {
         return true;
     }
+    let block = e.block as usize;
     leans_gone(sizes, equations, moves, n, values, marks, b, block, s, a, x)
 }
 
@@ -341,19 +329,8 @@ fn seeds(
     }
     let own = pairs::own_value(sizes, equations, p);
     if pairs::other(own, pairs::old_value(sizes, equations, values, marks, p)) {
-        let block = e.block as usize;
         if o < 6 {
-            return join_seeds(
-                sizes,
-                equations,
-                values,
-                marks,
-                own,
-                block,
-                s,
-                e.first,
-                e.second,
-            );
+            return join_seeds(sizes, equations, values, marks, own, s, e);
         }
         return step_seeds(
             sizes,
@@ -365,11 +342,8 @@ fn seeds(
             values,
             marks,
             own,
-            block,
-            o == 7,
             s,
-            e.first,
-            e.second,
+            e,
         );
     }
     false

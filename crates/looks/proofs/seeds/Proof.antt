@@ -55,12 +55,9 @@ old-value-requires c κs =
 other-requires : tie.Need-other-requires
 other-requires c κs = search needs
 
-cast-block : tie.Need-cast-block
-cast-block c = search needs
-
 join-seeds-requires : tie.Need-join-seeds-requires
 join-seeds-requires c κs =
-    let s = c .before .before .before .before .before .before .before .before .before .before .before .before .before .before .before in
+    let s = c .before .before .before .before .before .before .before .before .before .before .before .before .before .before in
     let a = s .args in
     let g = some-states (a .sizes) (a .labels .now) (a .equations .now) (a .moves .now) (a .n) (s .pre .0) in
     let h = mod-lt (a .p) g in
@@ -68,16 +65,16 @@ join-seeds-requires c κs =
 
 returns-2 : tie.Need-returns-2
 returns-2 c =
-    let s = c .before .before .before .before .before .before .before .before .before .before .before .before .before .before .before .before in
+    let s = c .before .before .before .before .before .before .before .before .before .before .before .before .before .before .before in
     let a = s .args in
-    let e = c .before .before .before .before .before .before .before .before .formula-at .result in
-    let r = c .before .before .before .before .before .before .before .before .formula-at .ensures in
-    let w = c .before .before .before .before .before .before .own-value .result in
-    c .join-seeds .ensures ∙ sym (look-join (a .sizes) (a .labels .now) (a .equations .now) (a .moves .now) (a .n) (s .pre .0) (a .p) (s .pre .1 .0 .0) (e .operator) (e .first) (e .second) (e .block) (e .kind) r w (c .before .before .before .before .before .before .own-value .ensures) (a .values .now) (a .marks .now) (take (a .count) (a .changes .now)) (s .pre .1 .1) (ap (is (not w)) (sym (c .before .before .before .before .before .old-value .ensures)) ∙ sym (c .before .before .before .before .other .ensures) ∙ c .before .before .before .if2 .taken) (omega arith) (omega arith))
+    let e = c .before .before .before .before .before .before .before .formula-at .result in
+    let r = c .before .before .before .before .before .before .before .formula-at .ensures in
+    let w = c .before .before .before .before .before .own-value .result in
+    c .join-seeds .ensures ∙ sym (look-join (a .sizes) (a .labels .now) (a .equations .now) (a .moves .now) (a .n) (s .pre .0) (a .p) (s .pre .1 .0 .0) (e .operator) (e .first) (e .second) (e .block) (e .kind) r w (c .before .before .before .before .before .own-value .ensures) (a .values .now) (a .marks .now) (take (a .count) (a .changes .now)) (s .pre .1 .1) (ap (is (not w)) (sym (c .before .before .before .before .old-value .ensures)) ∙ sym (c .before .before .before .other .ensures) ∙ c .before .before .if2 .taken) (omega arith) (omega arith))
 
 step-seeds-requires : tie.Need-step-seeds-requires
 step-seeds-requires c κs =
-    let s = c .before .before .before .before .before .before .before .before .before .before .before .before .before .before .before in
+    let s = c .before .before .before .before .before .before .before .before .before .before .before .before .before .before in
     let a = s .args in
     let g = some-states (a .sizes) (a .labels .now) (a .equations .now) (a .moves .now) (a .n) (s .pre .0) in
     let h = mod-lt (a .p) g in
@@ -87,12 +84,12 @@ step-seeds-requires c κs =
 
 returns-3 : tie.Need-returns-3
 returns-3 c =
-    let s = c .before .before .before .before .before .before .before .before .before .before .before .before .before .before .before .before in
+    let s = c .before .before .before .before .before .before .before .before .before .before .before .before .before .before .before in
     let a = s .args in
-    let e = c .before .before .before .before .before .before .before .before .formula-at .result in
-    let r = c .before .before .before .before .before .before .before .before .formula-at .ensures in
-    let w = c .before .before .before .before .before .before .own-value .result in
-    c .step-seeds .ensures ∙ sym (look-step (a .sizes) (a .labels .now) (a .equations .now) (a .moves .now) (a .n) (s .pre .0) (a .p) (s .pre .1 .0 .0) (e .operator) (e .first) (e .second) (e .block) (e .kind) r w (c .before .before .before .before .before .before .own-value .ensures) (a .values .now) (a .marks .now) (take (a .count) (a .changes .now)) (s .pre .1 .1) (ap (is (not w)) (sym (c .before .before .before .before .before .old-value .ensures)) ∙ sym (c .before .before .before .before .other .ensures) ∙ c .before .before .before .if2 .taken) (omega arith))
+    let e = c .before .before .before .before .before .before .before .formula-at .result in
+    let r = c .before .before .before .before .before .before .before .formula-at .ensures in
+    let w = c .before .before .before .before .before .own-value .result in
+    c .step-seeds .ensures ∙ sym (look-step (a .sizes) (a .labels .now) (a .equations .now) (a .moves .now) (a .n) (s .pre .0) (a .p) (s .pre .1 .0 .0) (e .operator) (e .first) (e .second) (e .block) (e .kind) r w (c .before .before .before .before .before .own-value .ensures) (a .values .now) (a .marks .now) (take (a .count) (a .changes .now)) (s .pre .1 .1) (ap (is (not w)) (sym (c .before .before .before .before .old-value .ensures)) ∙ sym (c .before .before .before .other .ensures) ∙ c .before .before .if2 .taken) (omega arith))
 
 returns-4 : tie.Need-returns-4
 returns-4 c =
@@ -115,7 +112,6 @@ seeds-spec =
     own-value-requires
     old-value-requires
     other-requires
-    cast-block
     join-seeds-requires
     returns-2
     step-seeds-requires
