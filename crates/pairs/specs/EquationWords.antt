@@ -1,26 +1,26 @@
 -- The equation, the block and the kind of a pair are what the words in the rooms say. Assumes nothing.
 use mathlib.Core.Path.{_≡_, refl, sym, ap, _∙_}
-use mathlib.Core.Logic.{_⊎_, inl, inr}
-use mathlib.Core.Bool.{Bool, true, false, cond, _&&_, _||_}
+use mathlib.Core.Logic.{inl, inr}
+use mathlib.Core.Bool.{Bool, true, false, _&&_, _||_}
 use mathlib.Core.List.{List, [], _∷_, map}
 use Prim.Native.Nat.{ℕ, zero, suc, _/_, _≤_, _<_}
 use native.Mathlib.Nat.{not-suc-le-zero, le-of-suc-le-suc, div-lt-iff-lt-mul}
 use native.Mathlib.Omega.{arith}
-use lib.ListN.{length, getD, take, List·getD-map}
+use lib.ListN.{length, getD, take, length-take, length-map, List·getD-map, List·getD-eq-default}
 use lib.Seq.{getD-take}
 use lib.Dec.{eqb}
 use Rattle.lists.specs.Tests.{tell, and-is, eqb-is, eqb-in, eqb-out, eqb-same, or-out}
 use Rattle.systems.specs.Machine.{own}
-use Rattle.rules.specs.Model.{Equation, Model, equationsOk}
+use Rattle.rules.specs.Model.{Equation, equationsOk}
 use Rattle.rules.specs.Rooms.{pairsOf}
 use Rattle.rules.specs.Session.{unword}
-use Rattle.rules.specs.Values.{variable, blockOf, greatestIn, greatest}
-use Rattle.rules.specs.Values as values
+use Rattle.rules.specs.Values.{variable, nothing, blockOf, greatestIn, greatest}
 use Rattle.rules.specs.declared.Sizes.{Sizes}
+use Rattle.rules.specs.Values as values
 use Rattle.laws.specs.Named.{equationAt, blockAt}
 use Rattle.laws.specs.ModelSystem.{frame, block-at, Sound, sound}
 use Rattle.pairs.specs.Drawn.{tableOf, Drawn}
-use Rattle.pairs.specs.Words.{wordOf, kindIn, blockIn}
+use Rattle.pairs.specs.Words.{kindIn, blockIn}
 
 -- Block numbers never fall.
 head-block : (z : Sizes) (i b k : ℕ) (e : Equation) (es : List Equation) → equationsOk z i b k (e ∷ es) ≡ true → b ≤ suc (e .block)
@@ -92,11 +92,24 @@ greatest-kind z i b k (e ∷ es) (suc j) h l =
     eqb-in (equationAt es j .kind) 1 (same-kind z (suc i) (e .block) (e .kind) es j (f .1) (le-of-suc-le-suc l) (sym u) ∙ w) in
     ap (λ (x : Bool). (eqb (e .block) c && eqb (e .kind) 1) || x) ih ∙ covered (eqb (e .block) c && eqb (e .kind) 1) (eqb (equationAt es j .kind) 1) first
 
+-- Past the end of the room the word of a variable is that of no equation.
+pub word-past : (equations : List ℕ) (x : ℕ) → length equations ≤ x → unword (getD equations x 0) ≡ nothing
+word-past equations x h = ap unword (List·getD-eq-default equations 0 h)
+
+-- A model that lies in rooms.
 module _ (z : Sizes) (labels equations moves : List ℕ) (n : ℕ) (d : Drawn z labels equations moves n) where
   -- The equation of a variable is what its word says.
   pub formula-word : (x : ℕ) → x < z .variables → values.equationAt (tableOf z labels equations moves n) (variable x) ≡ unword (getD equations x 0)
   formula-word x h = List·getD-map unword (take (z .variables) equations) x 0 ∙ ap unword (getD-take (z .variables) equations x 0 h)
 
+  -- Past the last variable there is no equation.
+  pub equation-past : (x : ℕ) → z .variables ≤ x → values.equationAt (tableOf z labels equations moves n) (variable x) ≡ nothing
+  equation-past x h =
+      let l = length-take (z .variables) equations in
+      let e = length-map (take (z .variables) equations) unword in
+      List·getD-eq-default (map unword (take (z .variables) equations)) nothing {n = x} (omega arith)
+
+  -- The model in the rooms is inside the limits.
   pub drawn-sound : Sound (tableOf z labels equations moves n)
   drawn-sound = sound (tableOf z labels equations moves n) (d .model)
 

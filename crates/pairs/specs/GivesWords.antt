@@ -1,6 +1,6 @@
 -- What the equation of a pair gives, by the operator in its word. Assumes nothing.
 use mathlib.Core.Path.{_≡_, refl, sym, ap, _∙_, subst}
-use mathlib.Core.Logic.{_⊎_, inl, inr}
+use mathlib.Core.Logic.{inl, inr}
 use mathlib.Core.Bool.{Bool, true, false, not, cond, _&&_, _||_}
 use mathlib.Core.List.{List, [], _∷_, map}
 use Prim.Native.Nat.{ℕ, zero, suc, _+_, _*_, _/_, _%_, _^_, _≤_, _<_}
@@ -9,20 +9,17 @@ use native.Mathlib.Omega.{arith}
 use lib.ListN.{length, getD, take, drop, length-take}
 use lib.Seq.{slice, getD-take, take-take}
 use lib.Dec.{eqb, ltb}
-use Rattle.lists.specs.Lists.{is, any, all, bit, count}
+use Rattle.lists.specs.Lists.{is, any, all, bit}
 use Rattle.lists.specs.Tests.{tests, tell, and-is, ltb-no, ltb-is, eqb-out, eqb-no}
-use Rattle.rules.specs.Limits.{sizesOk}
 use Rattle.rules.specs.Moves.{target}
-use Rattle.rules.specs.Model.{Equation, Model, operandsOk, equationsOk, movesOk, wellFormed}
+use Rattle.rules.specs.Model.{Equation, Model, operandsOk, equationsOk, wellFormed}
 use Rattle.rules.specs.Rooms.{pairsOf}
 use Rattle.rules.specs.Calls.{valueAt}
-use Rattle.rules.specs.Values.{Values, Term, constant, state, variable, stateOf, terms, termOf, termAt, holds, targets, givesBy, gives}
+use Rattle.rules.specs.Values.{Values, constant, state, terms, termOf, termAt, holds, targets, givesBy, gives}
 use Rattle.rules.specs.declared.Sizes.{Sizes}
 use Rattle.rules.specs.declared.State.{State}
-use Rattle.rules.specs.declared.Action.{Action}
 use Rattle.laws.specs.Walks.{small}
 use Rattle.laws.specs.Named.{equationAt}
-use Rattle.laws.specs.ModelSystem.{Sound}
 use Rattle.pairs.specs.Drawn.{tableOf, Drawn}
 use Rattle.pairs.specs.Words.{ReadsAs, wordOf, leadsTo}
 use Rattle.pairs.specs.Part.{keyOf, below, partOf, part-targets}

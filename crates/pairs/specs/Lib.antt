@@ -8,3 +8,4 @@ pub mod Bits
 pub mod GivesWords
 pub mod LookWords
 pub mod DrawnLimits
+pub mod AsksWords

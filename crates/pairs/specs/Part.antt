@@ -1,16 +1,14 @@
 -- The moves of a state with an action stand side by side in an ascending table: they are the part between two counts.
 -- Assumes nothing.
-use mathlib.Core.Path.{_≡_, refl, sym, ap, _∙_}
-use mathlib.Core.Logic.{_⊎_, inl, inr}
-use mathlib.Core.Bool.{Bool, true, false, cond, _&&_}
+use mathlib.Core.Path.{_≡_, refl, ap}
+use mathlib.Core.Logic.{inl, inr}
+use mathlib.Core.Bool.{true, false}
 use mathlib.Core.List.{List, [], _∷_, map}
-use Prim.Native.Nat.{ℕ, zero, suc, _+_, _*_, _≤_, _<_}
-use native.Mathlib.Nat.{add-zero}
+use Prim.Native.Nat.{ℕ, suc, _+_, _*_, _≤_, _<_}
 use native.Mathlib.Omega.{arith}
-use lib.ListN.{length, take, drop}
 use lib.Seq.{slice}
 use lib.Dec.{ltb}
-use Rattle.lists.specs.Lists.{bit, count}
+use Rattle.lists.specs.Lists.{count}
 use Rattle.lists.specs.Tests.{tests, tell, and-is, and-in, no-way, ltb-in, ltb-out, ltb-no, eqb-in, leb-is}
 use Rattle.rules.specs.Moves.{target}
 use Rattle.rules.specs.Model.{movesOk}

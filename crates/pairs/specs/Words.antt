@@ -1,16 +1,15 @@
 -- What the words in the rooms say of one pair, before a model is made of them. Definitions only.
 use mathlib.Core.Path.{_≡_}
-use mathlib.Core.Bool.{Bool, true, false, not, _&&_}
+use mathlib.Core.Bool.{Bool, not}
 use mathlib.Core.List.{List}
-use Prim.Native.Nat.{ℕ, _+_, _*_, _/_, _%_}
+use Prim.Native.Nat.{ℕ, _+_, _*_, _/_}
 use lib.ListN.{getD}
-use lib.Dec.{eqb, ltb}
+use lib.Dec.{eqb}
 use Rattle.lists.specs.Lists.{is}
 use Rattle.systems.specs.Machine.{pastOf}
 use Rattle.rules.specs.Moves.{target}
 use Rattle.rules.specs.Model.{Equation}
 use Rattle.rules.specs.Session.{unword}
-use Rattle.rules.specs.Values.{state, own}
 use Rattle.rules.specs.Calls.{valueAt}
 use Rattle.rules.specs.declared.Sizes.{Sizes}
 
@@ -40,22 +39,3 @@ pastIn z equations values marks p = pastOf (eqb (kindIn z equations p) 1) (value
 -- Does the move q lead to a pair of variable x whose value is not b?
 unfoldable pub leadsTo : Sizes → List ℕ → ℕ → Bool → ℕ → Bool
 leadsTo z values x b q = is (not b) (valueAt values (x * z .states + target q))
-
--- Did the pair q, of a block before i, go from not b to b?
-unfoldable pub wentIn : Sizes → List ℕ → List ℕ → List ℕ → Bool → ℕ → ℕ → Bool
-wentIn z equations values marks b i q =
-    ltb (blockIn z equations q) i && (is (not b) (pastIn z equations values marks q) && is b (valueAt values q))
-
--- Does the move q lead to a pair of variable x that went so?
-unfoldable pub leadsGone : Sizes → List ℕ → List ℕ → List ℕ → Bool → ℕ → ℕ → ℕ → Bool
-leadsGone z equations values marks b i x q = wentIn z equations values marks b i (x * z .states + target q)
-
--- Is the change w an insert of a move of the state with the action?
-unfoldable pub addsOwn : ℕ → ℕ → ℕ → Bool
-addsOwn s a w = eqb (w % 2) 1 && own (state s) (record { 0 = a }) (w / 2)
-
--- Is it a delete of such a move, to a pair of variable x whose old value is not b?
-unfoldable pub dropsOwn : Sizes → List ℕ → List ℕ → List ℕ → Bool → ℕ → ℕ → ℕ → ℕ → Bool
-dropsOwn z equations values marks b s a x w =
-    not (eqb (w % 2) 1)
-    && (own (state s) (record { 0 = a }) (w / 2) && is (not b) (pastIn z equations values marks (x * z .states + target (w / 2))))

@@ -1,28 +1,25 @@
 // What is asked of one pair of a model: its equation, what it gives, its old value, and whether it must turn.
 use rules::Sizes;
 
-mod part;
+pub mod part;
 
 ghost use mathlib.Core.Path.{_≡_};
-ghost use mathlib.Core.Bool.{Bool, true, false, not, cond, _&&_, _||_};
-ghost use Prim.Native.Nat.{ℕ, _+_, _*_, _/_, _%_, _≤_, _<_};
+ghost use mathlib.Core.Bool.{true, false, not, cond, _&&_, _||_};
+ghost use Prim.Native.Nat.{_+_, _*_, _/_, _%_, _≤_, _<_};
 ghost use lib.ListN.{length, getD, take};
 ghost use lib.Seq.{slice};
-ghost use lib.Dec.{eqb, ltb};
+ghost use lib.Dec.{eqb};
 ghost use Rattle.lists.specs.Lists.{is, any};
-ghost use Rattle.rules.specs.Moves.{target};
+ghost use Rattle.systems.specs.Machine as machine;
 ghost use Rattle.rules.specs.Values.{state, holds};
 ghost use Rattle.rules.specs.Session.{unword};
 ghost use Rattle.rules.specs.Calls.{valueAt};
-ghost use Rattle.rules.specs.Values as rule;
-ghost use Rattle.rules.specs.Batch.{changesOk};
-ghost use Rattle.systems.specs.Machine as machine;
-ghost use Rattle.laws.specs.ModelSystem.{frame};
-ghost use Rattle.pairs.specs.Looks.{changesOf, lookTest};
 ghost use Rattle.rules.specs.Rooms.{pairsOf};
+ghost use Rattle.rules.specs.Values as rule;
+ghost use Rattle.laws.specs.ModelSystem.{frame};
 ghost use Rattle.pairs.specs.Drawn.{tableOf, Drawn};
 ghost use Rattle.pairs.specs.Part.{partOf};
-ghost use Rattle.pairs.specs.Words.{ReadsAs, kindIn, blockIn, pastIn, leadsTo, wentIn, leadsGone, addsOwn, dropsOwn};
+ghost use Rattle.pairs.specs.Words.{ReadsAs, kindIn, blockIn, pastIn, leadsTo};
 
 // An equation, taken out of its word: the operator, what it names, the block, and the block's kind.
 pub struct Formula {
@@ -76,7 +73,7 @@ pub fn block_of(sizes: Sizes, equations: &[u32], p: usize) -> usize
 }
 
 // Is v the value other than b?
-fn other(b: bool, v: bool) -> bool
+pub fn other(b: bool, v: bool) -> bool
     ensures { λ r. ⌜ r ≡ is (not b) v ⌝ }
 {
     if b {
@@ -237,158 +234,4 @@ pub fn asks(
         return other(own, gives(sizes, labels, equations, moves, n, values, r));
     }
     turned
-}
-
-// Did the pair q, of a block before this one, go to b?
-fn went(
-    sizes: Sizes,
-    equations: &[u32],
-    values: &[u8],
-    marks: &[u8],
-    b: bool,
-    block: usize,
-    q: usize,
-) -> bool
-    requires { ⌜ 0 < sizes .states ⌝ }
-    ensures { λ r. ⌜ r ≡ wentIn sizes (now (equations .entry)) (now (values .entry)) (now (marks .entry)) b block q ⌝ }
-{
-    if block <= block_of(sizes, equations, q) {
-        return false;
-    }
-    if other(b, value_at(values, q)) {
-        return false;
-    }
-    other(b, old_value(sizes, equations, values, marks, q))
-}
-
-// Does the move lead to a pair of x that went to b?
-fn leads_gone_to(
-    sizes: Sizes,
-    equations: &[u32],
-    values: &[u8],
-    marks: &[u8],
-    b: bool,
-    block: usize,
-    x: u8,
-    q: u32,
-) -> bool
-    requires { ⌜ 0 < sizes .states ⌝ }
-    ensures { λ r. ⌜ r ≡ leadsGone sizes (now (equations .entry)) (now (values .entry)) (now (marks .entry)) b block x q ⌝ }
-{
-    let p = pair_at(sizes, (q % 1024) as usize, x);
-    went(sizes, equations, values, marks, b, block, p)
-}
-
-// Does a move of the part lead to a pair of x that went to b?
-fn leads_gone(
-    sizes: Sizes,
-    equations: &[u32],
-    moves: &[u32],
-    values: &[u8],
-    marks: &[u8],
-    b: bool,
-    block: usize,
-    x: u8,
-    from: usize,
-    end: usize,
-) -> bool
-    requires { ⌜ (0 < sizes .states) × (end ≤ length (now moves)) ⌝ }
-    ensures { λ r. ⌜ r ≡ any (leadsGone sizes (now (equations .entry)) (now (values .entry)) (now (marks .entry)) b block x) (slice from end (now (moves .entry))) ⌝ }
-{
-    let mut i = from;
-    while i < end {
-        let q = rooms::word_at(moves, i);
-        if leads_gone_to(sizes, equations, values, marks, b, block, x, q) {
-            return true;
-        }
-        i = i + 1;
-    }
-    false
-}
-
-// Is the move one of the state's moves with the action?
-fn owns(q: u32, s: usize, a: u8) -> bool
-    ensures { λ r. ⌜ r ≡ rule.own (state s) (record { 0 = a }) q ⌝ }
-{
-    if (q / 65536) as usize == s {
-        return q % 65536 / 1024 == a as u32;
-    }
-    false
-}
-
-// Is the change an insert of such a move?
-fn adds_own(w: u32, s: usize, a: u8) -> bool
-    ensures { λ r. ⌜ r ≡ addsOwn s a w ⌝ }
-{
-    if w % 2 == 1 {
-        return owns(w / 2, s, a);
-    }
-    false
-}
-
-// Is the change a delete of such a move, to a pair of x whose old value is not b?
-fn drops_own(
-    sizes: Sizes,
-    equations: &[u32],
-    values: &[u8],
-    marks: &[u8],
-    b: bool,
-    s: usize,
-    a: u8,
-    x: u8,
-    w: u32,
-) -> bool
-    requires { ⌜ 0 < sizes .states ⌝ }
-    ensures { λ r. ⌜ r ≡ dropsOwn sizes (now (equations .entry)) (now (values .entry)) (now (marks .entry)) b s a x w ⌝ }
-{
-    if w % 2 == 1 {
-        return false;
-    }
-    if owns(w / 2, s, a) {
-        let p = pair_at(sizes, (w / 2 % 1024) as usize, x);
-        return other(b, old_value(sizes, equations, values, marks, p));
-    }
-    false
-}
-
-// Do the changes insert such a move?
-fn gains(changes: &[u32], count: usize, s: usize, a: u8) -> bool
-    requires { ⌜ count ≤ length (now changes) ⌝ }
-    ensures { λ r. ⌜ r ≡ any (addsOwn s a) (take count (now (changes .entry))) ⌝ }
-{
-    let mut i: usize = 0;
-    while i < count {
-        if adds_own(rooms::word_at(changes, i), s, a) {
-            return true;
-        }
-        i = i + 1;
-    }
-    false
-}
-
-// Do the changes delete such a move, to a pair of x whose old value is not b?
-fn loses(
-    sizes: Sizes,
-    equations: &[u32],
-    changes: &[u32],
-    count: usize,
-    values: &[u8],
-    marks: &[u8],
-    b: bool,
-    s: usize,
-    a: u8,
-    x: u8,
-) -> bool
-    requires { ⌜ (0 < sizes .states) × (count ≤ length (now changes)) ⌝ }
-    ensures { λ r. ⌜ r ≡ any (dropsOwn sizes (now (equations .entry)) (now (values .entry)) (now (marks .entry)) b s a x) (take count (now (changes .entry))) ⌝ }
-{
-    let mut i: usize = 0;
-    while i < count {
-        let w = rooms::word_at(changes, i);
-        if drops_own(sizes, equations, values, marks, b, s, a, x, w) {
-            return true;
-        }
-        i = i + 1;
-    }
-    false
 }

@@ -1,10 +1,10 @@
 -- While settling, the value first, then what the equation gives. Assumes nothing.
-use Rattle.pairs.specs.LookWords.{asks-shift, asks-turned, asks-given}
-use Rattle.pairs.specs.GivesWords.{some-states}
-use Rattle.lists.specs.Lists.{is}
-use mathlib.Core.Bool.{Bool, not}
-use mathlib.Core.Path.{_≡_, refl, sym, ap, _∙_}
+use mathlib.Core.Path.{sym, ap, _∙_}
+use mathlib.Core.Bool.{not}
 use borrow.Author.Needs.{needs}
+use Rattle.lists.specs.Lists.{is}
+use Rattle.pairs.specs.AsksWords.{asks-shift, asks-turned, asks-given}
+use Rattle.pairs.specs.GivesWords.{some-states}
 use Rattle.pairs.proofs.asks.Statement.{statement}
 use Rattle.pairs.proofs.asks.Tie as tie
 

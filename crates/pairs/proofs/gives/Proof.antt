@@ -1,15 +1,15 @@
 -- One operator after the other. Assumes nothing.
-use Rattle.rules.specs.Calls.{valueAt}
-use Rattle.lists.specs.Lists.{is}
+use mathlib.Core.Path.{sym, ap, _∙_}
+use mathlib.Core.Bool.{not}
+use Prim.Native.Nat.{_≤_}
+use native.Mathlib.Nat.{mod-lt}
+use native.Mathlib.Omega.{arith}
 use lib.ListN.{length}
 use lib.Dec.{eqb}
-use mathlib.Core.Bool.{Bool, not, cond, _&&_, _||_}
-use Prim.Native.Nat.{ℕ, _<_, _*_, _+_, _%_, _≤_}
-use native.Mathlib.Nat.{mod-lt}
-use Rattle.pairs.specs.GivesWords.{some-states, gives-constant, gives-proposition, gives-join, gives-step}
-use native.Mathlib.Omega.{arith}
-use mathlib.Core.Path.{_≡_, refl, sym, ap, _∙_}
 use borrow.Author.Needs.{needs}
+use Rattle.lists.specs.Lists.{is}
+use Rattle.rules.specs.Calls.{valueAt}
+use Rattle.pairs.specs.GivesWords.{some-states, gives-constant, gives-proposition, gives-join, gives-step}
 use Rattle.pairs.proofs.gives.Statement.{statement}
 use Rattle.pairs.proofs.gives.Tie as tie
 

@@ -1,11 +1,11 @@
 -- A word has no bit from 32 on. Assumes nothing.
+use mathlib.Core.Path.{sym, ap}
+use Prim.Native.Nat.{ℕ, _/_, _%_, _^_}
 use native.Mathlib.Omega.{arith}
-use Rattle.pairs.specs.Bits.{no-bit}
 use lib.ListN.{getD}
 use lib.Dec.{eqb}
-use Prim.Native.Nat.{ℕ, _/_, _%_, _^_}
-use mathlib.Core.Path.{_≡_, refl, sym, ap, _∙_}
 use borrow.Author.Needs.{needs}
+use Rattle.pairs.specs.Bits.{no-bit}
 use Rattle.pairs.proofs.holds_at.Statement.{statement}
 use Rattle.pairs.proofs.holds_at.Tie as tie
 

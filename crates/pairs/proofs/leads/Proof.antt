@@ -1,12 +1,12 @@
 -- The moves before place i do not lead so. Assumes nothing.
+use mathlib.Core.Path.{_≡_, refl, sym, ap, _∙_}
+use Prim.Native.Nat.{_-_}
+use native.Mathlib.Omega.{arith}
+use lib.Seq.{slice}
+use borrow.Author.Needs.{needs}
+use Rattle.lists.specs.Lists.{any}
 use Rattle.pairs.specs.SliceWalks.{any-hit, any-pass, any-end}
 use Rattle.pairs.specs.Words.{leadsTo}
-use Rattle.lists.specs.Lists.{any}
-use lib.Seq.{slice}
-use Prim.Native.Nat.{_-_}
-use borrow.Author.Needs.{needs}
-use native.Mathlib.Omega.{arith}
-use mathlib.Core.Path.{_≡_, refl, sym, ap, _∙_}
 use Rattle.pairs.proofs.leads.Statement.{statement}
 use Rattle.pairs.proofs.leads.Tie as tie
 

@@ -1,11 +1,10 @@
 -- What it finds at the pair. Assumes nothing.
-use Rattle.pairs.specs.Words.{leadsTo}
-use Rattle.rules.specs.Calls.{valueAt}
-use mathlib.Core.Bool.{Bool, not}
-use Rattle.lists.specs.Lists.{is}
-use native.Mathlib.Omega.{arith}
-use mathlib.Core.Path.{_≡_, refl, sym, ap, _∙_}
+use mathlib.Core.Path.{ap, _∙_}
+use mathlib.Core.Bool.{not}
 use borrow.Author.Needs.{needs}
+use Rattle.lists.specs.Lists.{is}
+use Rattle.rules.specs.Calls.{valueAt}
+use Rattle.pairs.specs.Words.{leadsTo}
 use Rattle.pairs.proofs.leads_to.Statement.{statement}
 use Rattle.pairs.proofs.leads_to.Tie as tie
 

@@ -1,11 +1,11 @@
 -- The three marks, one by one. Assumes nothing.
-use lib.ListN.{getD}
-use Prim.Native.Nat.{_≤_, _<_}
+use mathlib.Core.Path.{sym, ap, _∙_}
 use mathlib.Core.Bool.{not}
-use Rattle.pairs.specs.Bits.{past-kept, past-shifted, past-settled}
+use Prim.Native.Nat.{_≤_, _<_}
 use native.Mathlib.Omega.{arith}
-use mathlib.Core.Path.{_≡_, refl, sym, ap, _∙_}
+use lib.ListN.{getD}
 use borrow.Author.Needs.{needs}
+use Rattle.pairs.specs.Bits.{past-kept, past-shifted, past-settled}
 use Rattle.pairs.proofs.old_value.Statement.{statement}
 use Rattle.pairs.proofs.old_value.Tie as tie
 

@@ -1,7 +1,7 @@
 -- The product is small. Assumes nothing.
-use Rattle.pairs.specs.Bits.{small-product}
 use native.Mathlib.Omega.{arith}
 use borrow.Author.Needs.{needs}
+use Rattle.pairs.specs.Bits.{small-product}
 use Rattle.pairs.proofs.pair_at.Statement.{statement}
 use Rattle.pairs.proofs.pair_at.Tie as tie
 

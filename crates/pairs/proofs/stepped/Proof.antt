@@ -1,17 +1,15 @@
 -- The part that was found is the part of the first n moves. Assumes nothing.
-use Prim.Native.Nat.{_+_}
+use mathlib.Core.Path.{sym, ap, _∙_}
+use mathlib.Core.Bool.{not}
+use Prim.Native.Nat.{_+_, ℕ}
+use native.Mathlib.Omega.{arith}
 use lib.ListN.{take}
+use lib.Seq.{slice}
+use borrow.Author.Needs.{needs}
+use Rattle.lists.specs.Lists.{is, any}
 use Rattle.pairs.specs.GivesWords.{below-most, part-in}
 use Rattle.pairs.specs.Part.{keyOf, below}
 use Rattle.pairs.specs.Words.{leadsTo}
-use Rattle.lists.specs.Lists.{is, any}
-use lib.Seq.{slice}
-use mathlib.Core.List.{List}
-use mathlib.Core.Bool.{Bool, not}
-use Prim.Native.Nat.{ℕ}
-use native.Mathlib.Omega.{arith}
-use mathlib.Core.Path.{_≡_, refl, sym, ap, _∙_}
-use borrow.Author.Needs.{needs}
 use Rattle.pairs.proofs.stepped.Statement.{statement}
 use Rattle.pairs.proofs.stepped.Tie as tie
 

@@ -1,8 +1,8 @@
 -- A test on two numbers, as a count. Assumes nothing.
-use Rattle.lists.specs.Lists.{bit}
-use Rattle.lists.specs.Tests.{ltb-in, ltb-no}
 use mathlib.Core.Path.{ap, sym}
 use native.Mathlib.Omega.{arith}
+use Rattle.lists.specs.Lists.{bit}
+use Rattle.lists.specs.Tests.{ltb-in, ltb-no}
 use Rattle.pairs.proofs.part.counts.Statement.{statement}
 use Rattle.pairs.proofs.part.counts.Tie as tie
 

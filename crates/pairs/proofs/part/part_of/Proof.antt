@@ -1,15 +1,14 @@
 -- The counts so far, and what is left to count. Assumes nothing.
-use Prim.Native.Nat.{ℕ}
+use mathlib.Core.Path.{_≡_, ap, _∙_}
+use Prim.Native.Nat.{ℕ, _+_, _-_, _≤_}
+use native.Mathlib.Omega.{arith}
+use lib.ListN.{take}
+use lib.Seq.{slice}
 use lib.Dec.{ltb}
+use borrow.Author.Needs.{needs}
 use Rattle.lists.specs.Lists.{bit}
 use Rattle.pairs.specs.SliceWalks.{below-more, below-end}
 use Rattle.pairs.specs.Part.{keyOf, below}
-use lib.Seq.{slice}
-use lib.ListN.{take}
-use Prim.Native.Nat.{_+_, _-_, _≤_}
-use borrow.Author.Needs.{needs}
-use native.Mathlib.Omega.{arith}
-use mathlib.Core.Path.{_≡_, refl, sym, ap, _∙_}
 use Rattle.pairs.proofs.part.part_of.Statement.{statement}
 use Rattle.pairs.proofs.part.part_of.Tie as tie
 

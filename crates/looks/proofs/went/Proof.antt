@@ -1,12 +1,12 @@
 -- The three tests, one after the other. Assumes nothing.
-use Rattle.pairs.specs.LookWords.{went-later, went-off, went-on}
-use Rattle.lists.specs.Lists.{is}
-use mathlib.Core.Bool.{Bool, not}
+use mathlib.Core.Path.{sym, ap, _∙_}
+use mathlib.Core.Bool.{not}
 use native.Mathlib.Omega.{arith}
-use mathlib.Core.Path.{_≡_, refl, sym, ap, _∙_}
 use borrow.Author.Needs.{needs}
-use Rattle.pairs.proofs.went.Statement.{statement}
-use Rattle.pairs.proofs.went.Tie as tie
+use Rattle.lists.specs.Lists.{is}
+use Rattle.looks.specs.LookWords.{went-later, went-off, went-on}
+use Rattle.looks.proofs.went.Statement.{statement}
+use Rattle.looks.proofs.went.Tie as tie
 
 block-of-requires : tie.Need-block-of-requires
 block-of-requires c κs = search needs

@@ -1,13 +1,14 @@
 -- An even change is a delete. Assumes nothing.
-use Rattle.pairs.specs.Words.{pastIn, dropsOwn}
-use Rattle.lists.specs.Lists.{is}
+use mathlib.Core.Path.{refl, sym, ap, _∙_}
+use mathlib.Core.Bool.{not}
 use Prim.Native.Nat.{_%_}
-use mathlib.Core.Bool.{Bool, not}
-use Rattle.lists.specs.Tests.{eqb-in, eqb-no}
-use mathlib.Core.Path.{_≡_, refl, sym, ap, _∙_}
 use borrow.Author.Needs.{needs}
-use Rattle.pairs.proofs.drops_own.Statement.{statement}
-use Rattle.pairs.proofs.drops_own.Tie as tie
+use Rattle.lists.specs.Lists.{is}
+use Rattle.lists.specs.Tests.{eqb-in, eqb-no}
+use Rattle.pairs.specs.Words.{pastIn}
+use Rattle.looks.specs.LookTests.{dropsOwn}
+use Rattle.looks.proofs.drops_own.Statement.{statement}
+use Rattle.looks.proofs.drops_own.Tie as tie
 
 returns : tie.Need-returns
 unfolding dropsOwn

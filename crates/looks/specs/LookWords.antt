@@ -1,34 +1,35 @@
 -- Whether a pair must turn, by its word, its value, its mark and the words of the changes. Assumes nothing.
 use mathlib.Core.Path.{_≡_, refl, sym, ap, _∙_, subst}
-use mathlib.Core.Logic.{_⊎_, inl, inr}
+use mathlib.Core.Logic.{inl, inr}
 use mathlib.Core.Bool.{Bool, true, false, not, cond, _&&_, _||_}
 use mathlib.Core.List.{List, [], _∷_, map, List·Memᴰ·head, List·Memᴰ·tail, List·Memᴰ·not-nil, List·Memᴰ·cases-cons}
-use Prim.Native.Nat.{ℕ, zero, suc, _+_, _*_, _/_, _%_, _≤_, _<_}
+use Prim.Native.Nat.{ℕ, _+_, _*_, _/_, _%_, _≤_, _<_}
 use native.Mathlib.Omega.{arith}
-use lib.ListN.{length, getD, take}
+use lib.ListN.{getD, take}
 use lib.Dec.{eqb, ltb}
 use Rattle.lists.specs.Lists.{is, any}
 use Rattle.lists.specs.Sets.{none}
 use Rattle.lists.specs.Tests.{_∈_, tests, tell, and-is, and-no, or-false, eqb-same, ltb-in, ltb-no}
-use Rattle.systems.specs.System.{eval}
 use Rattle.systems.specs.Machine as machine
 use Rattle.rules.specs.Moves.{source, action, target}
 use Rattle.rules.specs.Model.{Model, moveOk}
 use Rattle.rules.specs.Rooms.{pairsOf}
 use Rattle.rules.specs.Batch.{Change, changesOk, inserts, deletes}
 use Rattle.rules.specs.Calls.{valueAt}
-use Rattle.rules.specs.Values.{Values, Term, constant, step, state, variable, pair, stateOf, terms, termAt, blockOf, own, targets, leaningsBy, leanings, gives}
+use Rattle.rules.specs.Values.{Values, Term, constant, step, state, variable, terms, termAt, blockOf, own, targets, leaningsBy, leanings}
 use Rattle.rules.specs.Update.{gains, loses, went, shifts}
 use Rattle.rules.specs.declared.Sizes.{Sizes}
 use Rattle.rules.specs.declared.State.{State}
 use Rattle.rules.specs.declared.Action.{Action}
-use Rattle.laws.specs.ModelSystem.{frame, gives-eval, leanings-at, Sound, pairs-full, pair-below, model-fits}
+use Rattle.laws.specs.ModelSystem.{frame, leanings-at, pairs-full, pair-below, model-fits}
 use Rattle.pairs.specs.Drawn.{tableOf, Drawn}
-use Rattle.pairs.specs.Looks.{changeOf, changesOf, lookTest}
-use Rattle.pairs.specs.Words.{ReadsAs, wordOf, kindIn, blockIn, pastIn, wentIn, leadsGone, addsOwn, dropsOwn}
+use Rattle.pairs.specs.Looks.{changesOf, lookTest}
+use Rattle.pairs.specs.Words.{ReadsAs, wordOf, kindIn, blockIn, pastIn}
 use Rattle.pairs.specs.Part.{partOf}
-use Rattle.pairs.specs.EquationWords.{drawn-sound, block-word, own-kind}
-use Rattle.pairs.specs.GivesWords.{two, term-read, join-names, step-names, targets-read}
+use Rattle.pairs.specs.EquationWords.{drawn-sound, block-word}
+use Rattle.pairs.specs.GivesWords.{two, term-read, step-names, targets-read}
+use Rattle.pairs.specs.AsksWords.{is-both, past-word, own-value}
+use Rattle.looks.specs.LookTests.{wentIn, leadsGone, addsOwn, dropsOwn}
 
 -- Tests that say the same of each entry say the same of some entry.
 any-same : (f g : ℕ → Bool) (l : List ℕ) → ((q : ℕ) → q ∈ l → f q ≡ g q) → any f l ≡ any g l
@@ -73,12 +74,6 @@ delete-range z q (c ∷ cs) h m = go (c .insert) (delete-range z q cs (simp and-
           | inr k ↦ f k
         ]
 
--- A truth value that is not the other one is this one.
-is-both : (b x : Bool) → is b x ≡ not (is (not b) x)
-is-both true true = refl
-is-both true false = refl
-is-both false x = refl
-
 -- What turns a diamond or a box, by its kind: what it gains, or what it loses.
 either : (b k g l : Bool) → ((is (not b) k && g) || (is b k && l)) ≡ cond (is (not b) k) g l
 either true true g l = refl
@@ -107,6 +102,13 @@ module _ (z : Sizes) (equations values marks : List ℕ) (b : Bool) (i q : ℕ) 
       last : (x : Bool) → (x && true) ≡ x
       last true = refl
       last false = refl
+
+-- The old values, and the look at a pair while its block shifts, where values, marks and changes lie in rooms.
+abbrev pastBy : Model → List ℕ → List ℕ → Values
+pastBy m values marks = machine.past (frame m) (valueAt values) (λ q. getD marks q 0)
+
+abbrev shiftTest : Model → List ℕ → List ℕ → List ℕ → ℕ → Bool
+shiftTest m l values marks p = lookTest m (changesOf l) false (valueAt values) (λ q. getD marks q 0) p
 
 -- What makes a pair turn, where it was not b (x) and where it leans on a pair that went (y).
 abbrev seedOf : Model → List Change → Values → State → Bool → Bool → Term → Bool → Bool
@@ -158,52 +160,7 @@ module _ (m : Model) (l : List ℕ) (old : Values) (s : ℕ) (b x : Bool) (f : �
       two (λ o. seedOf m (changesOf l) old (state s) b x (getD (terms c e) o (constant false)) (any f (leaningsBy m (state s) (getD (terms c e) o (constant false))))
       ≡ (cond (is (not b) (eqb o 7)) (any (addsOwn s c) l) (any g l) || any (λ q. f (e * m .sizes .states + target q)) t)) 6 o h k (seed-kind false) (seed-kind true)
 
--- The old value of a pair is what its word, its value and its mark say.
-pub past-word : (z : Sizes) (labels equations moves : List ℕ) (n : ℕ) → Drawn z labels equations moves n → (values marks : List ℕ) (p : ℕ) → p < pairsOf z
-    → machine.past (frame (tableOf z labels equations moves n)) (valueAt values) (λ q. getD marks q 0) p ≡ pastIn z equations values marks p
-unfolding pastIn
-past-word z labels equations moves n d values marks p h =
-    ap (λ (b : Bool). machine.pastOf b (valueAt values p) (getD marks p 0)) (own-kind z labels equations moves n d p h)
-
--- The pair p of a model that lies in rooms, and the own value w of its block, as it was read.
-module _ (z : Sizes) (labels equations moves : List ℕ) (n : ℕ) (d : Drawn z labels equations moves n) (p : ℕ) (h : p < pairsOf z)
-    (w : Bool) (own-read : w ≡ eqb (kindIn z equations p) 1) where
-  own-value : machine.own (frame (tableOf z labels equations moves n)) p ≡ w
-  own-value = own-kind z labels equations moves n d p h ∙ sym own-read
-
-  -- Must the pair turn, where one that it leans on has turned? While shifting, and twice while settling.
-  pub asks-shift : (values : List ℕ) (t : Bool) → t ≡ false
-      → machine.asks (frame (tableOf z labels equations moves n)) (leanings (tableOf z labels equations moves n)) t (valueAt values) p ≡ is (not w) (valueAt values p)
-  unfolding machine.asks
-  asks-shift values t e = rw e (ap (λ (b : Bool). is (not b) (valueAt values p)) own-value)
-
-  asks-settle : (values : List ℕ)
-      → machine.asks (frame (tableOf z labels equations moves n)) (leanings (tableOf z labels equations moves n)) true (valueAt values) p
-      ≡ (not (is (not w) (valueAt values p)) && is (not w) (gives (tableOf z labels equations moves n) (valueAt values) p))
-  unfolding machine.asks
-  asks-settle values =
-      let m = tableOf z labels equations moves n in
-      let v = valueAt values in
-      ap (λ (b : Bool). is b (v p) && is (not b) (eval (frame m) (leanings m) v p)) own-value
-      ∙ ap (λ (x : Bool). x && is (not w) (eval (frame m) (leanings m) v p)) (is-both w (v p))
-      ∙ ap (λ (x : Bool). not (is (not w) (v p)) && is (not w) x) (sym (gives-eval m v p h))
-
-  pub asks-turned : (values : List ℕ) (t : Bool) → t ≡ true → is (not w) (valueAt values p) ≡ true
-      → machine.asks (frame (tableOf z labels equations moves n)) (leanings (tableOf z labels equations moves n)) t (valueAt values) p ≡ false
-  asks-turned values t e k =
-      ap (λ (u : Bool). machine.asks (frame (tableOf z labels equations moves n)) (leanings (tableOf z labels equations moves n)) u (valueAt values) p) e
-      ∙ asks-settle values
-      ∙ ap (λ (x : Bool). not x && is (not w) (gives (tableOf z labels equations moves n) (valueAt values) p)) k
-
-  pub asks-given : (values : List ℕ) (t : Bool) → t ≡ true → is (not w) (valueAt values p) ≡ false
-      → machine.asks (frame (tableOf z labels equations moves n)) (leanings (tableOf z labels equations moves n)) t (valueAt values) p
-      ≡ is (not w) (gives (tableOf z labels equations moves n) (valueAt values) p)
-  asks-given values t e k =
-      ap (λ (u : Bool). machine.asks (frame (tableOf z labels equations moves n)) (leanings (tableOf z labels equations moves n)) u (valueAt values) p) e
-      ∙ asks-settle values
-      ∙ ap (λ (x : Bool). not x && is (not w) (gives (tableOf z labels equations moves n) (valueAt values) p)) k
-
--- The same pair, with the numbers that were read out of its word, the values, the marks, and the words of the changes.
+-- The pair p of a model that lies in rooms, the own value w of its block, with the numbers that were read out of its word, the values, the marks, and the words of the changes.
 module _ (z : Sizes) (labels equations moves : List ℕ) (n : ℕ) (d : Drawn z labels equations moves n) (p : ℕ) (h : p < pairsOf z)
     (o a b i k : ℕ) (r : ReadsAs (wordOf z equations p) o a b i k) (w : Bool) (own-read : w ≡ eqb (kindIn z equations p) 1)
     (values marks l : List ℕ) (ok : changesOk z (changesOf l) ≡ true) where
@@ -217,12 +174,12 @@ module _ (z : Sizes) (labels equations moves : List ℕ) (n : ℕ) (d : Drawn z 
       let u = pairs-full m s p h in
       f .inside q (omega arith)
 
-  gone : any (λ q. none q || went (tableOf z labels equations moves n) (blockOf (tableOf z labels equations moves n) p) w (machine.past (frame (tableOf z labels equations moves n)) (valueAt values) (λ q. getD marks q 0)) (valueAt values) q) (leanings (tableOf z labels equations moves n) p)
+  gone : any (λ q. none q || went (tableOf z labels equations moves n) (blockOf (tableOf z labels equations moves n) p) w (pastBy (tableOf z labels equations moves n) values marks) (valueAt values) q) (leanings (tableOf z labels equations moves n) p)
       ≡ any (wentIn z equations values marks w i) (leaningsBy (tableOf z labels equations moves n) (state (p % z .states)) (getD (terms a b) o (constant false)))
   unfolding wentIn
   gone =
       let m = tableOf z labels equations moves n in
-      let old : Values = machine.past (frame m) (valueAt values) (λ q. getD marks q 0) in
+      let old = pastBy m values marks in
       any-same (λ q. none q || went m (blockOf m p) w old (valueAt values) q) (wentIn z equations values marks w i) (leanings m p)
       (λ q g. let l = leant-below q g in
       ap (λ (x : ℕ). ltb x (blockOf m p) && (is (not w) (old q) && is w (valueAt values q))) (block-word z labels equations moves n d q l)
@@ -230,14 +187,14 @@ module _ (z : Sizes) (labels equations moves : List ℕ) (n : ℕ) (d : Drawn z 
       ∙ ap (λ (x : Bool). ltb (blockIn z equations q) i && (is (not w) x && is w (valueAt values q))) (past-word z labels equations moves n d values marks q l))
       ∙ ap (any (wentIn z equations values marks w i)) (leanings-at m p h ∙ ap (leaningsBy m (state (p % z .states))) (term-read z labels equations moves n d p h o a b i k r))
 
-  looked : lookTest (tableOf z labels equations moves n) (changesOf l) false (valueAt values) (λ q. getD marks q 0) p
-      ≡ seedOf (tableOf z labels equations moves n) (changesOf l) (machine.past (frame (tableOf z labels equations moves n)) (valueAt values) (λ q. getD marks q 0)) (state (p % z .states)) w
+  looked : shiftTest (tableOf z labels equations moves n) l values marks p
+      ≡ seedOf (tableOf z labels equations moves n) (changesOf l) (pastBy (tableOf z labels equations moves n) values marks) (state (p % z .states)) w
       (pastIn z equations values marks p) (getD (terms a b) o (constant false))
       (any (wentIn z equations values marks w i) (leaningsBy (tableOf z labels equations moves n) (state (p % z .states)) (getD (terms a b) o (constant false))))
   unfolding lookTest shifts
   looked =
       let m = tableOf z labels equations moves n in
-      let old : Values = machine.past (frame m) (valueAt values) (λ q. getD marks q 0) in
+      let old = pastBy m values marks in
       let s = state (p % z .states) in
       let T = getD (terms a b) o (constant false) in
       ap (λ (c : Bool). c && seedOf m (changesOf l) old s (machine.own (frame m) p) (old p) (termAt m p) (any (λ q. none q || went m (blockOf m p) (machine.own (frame m) p) old (valueAt values) q) (leanings m p))) (eqb-same (blockOf m p))
@@ -246,12 +203,12 @@ module _ (z : Sizes) (labels equations moves : List ℕ) (n : ℕ) (d : Drawn z 
       ∙ ap (λ (t : Term). seedOf m (changesOf l) old s w (pastIn z equations values marks p) t (any (λ q. none q || went m (blockOf m p) w old (valueAt values) q) (leanings m p))) (term-read z labels equations moves n d p h o a b i k r)
       ∙ ap (λ (c : Bool). seedOf m (changesOf l) old s w (pastIn z equations values marks p) T c) gone
 
-  lost : 6 ≤ o → any (λ q. own (state (p % z .states)) (record { 0 = a }) q && is (not w) (machine.past (frame (tableOf z labels equations moves n)) (valueAt values) (λ q. getD marks q 0) (b * z .states + target q))) (deletes (changesOf l))
+  lost : 6 ≤ o → any (λ q. own (state (p % z .states)) (record { 0 = a }) q && is (not w) (pastBy (tableOf z labels equations moves n) values marks (b * z .states + target q))) (deletes (changesOf l))
       ≡ any (dropsOwn z equations values marks w (p % z .states) a b) l
   unfolding dropsOwn moveOk
   lost g =
       let m = tableOf z labels equations moves n in
-      let old : Values = machine.past (frame m) (valueAt values) (λ q. getD marks q 0) in
+      let old = pastBy m values marks in
       let c : Action = record { 0 = a } in
       let s = state (p % z .states) in
       let u = step-names z labels equations moves n d p h o a b i k r g in
@@ -261,35 +218,35 @@ module _ (z : Sizes) (labels equations moves : List ℕ) (n : ℕ) (d : Drawn z 
       ∙ deletes-any (λ q. own s c q && is (not w) (pastIn z equations values marks (b * z .states + target q))) l
 
   -- Must the pair turn when it is looked at, while shifting? Not where it has been shifted to the own value before.
-  pub look-kept : is (not w) (pastIn z equations values marks p) ≡ false → lookTest (tableOf z labels equations moves n) (changesOf l) false (valueAt values) (λ q. getD marks q 0) p ≡ false
+  pub look-kept : is (not w) (pastIn z equations values marks p) ≡ false → shiftTest (tableOf z labels equations moves n) l values marks p ≡ false
   look-kept e =
       let m = tableOf z labels equations moves n in
-      let old : Values = machine.past (frame m) (valueAt values) (λ q. getD marks q 0) in
+      let old = pastBy m values marks in
       let s = state (p % z .states) in
       let T = getD (terms a b) o (constant false) in
       looked ∙ ap (λ (x : Bool). x && ((gains w (inserts (changesOf l)) s T || loses w m (deletes (changesOf l)) old s T) || any (wentIn z equations values marks w i) (leaningsBy m s T))) e
 
   -- Not where it leans on nothing.
-  pub look-low : o < 4 → lookTest (tableOf z labels equations moves n) (changesOf l) false (valueAt values) (λ q. getD marks q 0) p ≡ false
+  pub look-low : o < 4 → shiftTest (tableOf z labels equations moves n) l values marks p ≡ false
   look-low e =
       let m = tableOf z labels equations moves n in
-      looked ∙ seed-low m (changesOf l) (machine.past (frame m) (valueAt values) (λ q. getD marks q 0)) (state (p % z .states)) w (pastIn z equations values marks p) (wentIn z equations values marks w i) a b o e
+      looked ∙ seed-low m (changesOf l) (pastBy m values marks) (state (p % z .states)) w (pastIn z equations values marks p) (wentIn z equations values marks w i) a b o e
 
   -- An "or" or an "and": where one of its two pairs went.
   pub look-join : is (not w) (pastIn z equations values marks p) ≡ true → 4 ≤ o → o < 6
-      → lookTest (tableOf z labels equations moves n) (changesOf l) false (valueAt values) (λ q. getD marks q 0) p
+      → shiftTest (tableOf z labels equations moves n) l values marks p
       ≡ (wentIn z equations values marks w i (a * z .states + p % z .states) || wentIn z equations values marks w i (b * z .states + p % z .states))
   look-join e g u =
       let m = tableOf z labels equations moves n in
-      looked ∙ seed-join m (changesOf l) (machine.past (frame m) (valueAt values) (λ q. getD marks q 0)) (state (p % z .states)) w (pastIn z equations values marks p) (wentIn z equations values marks w i) a b o e g u
+      looked ∙ seed-join m (changesOf l) (pastBy m values marks) (state (p % z .states)) w (pastIn z equations values marks p) (wentIn z equations values marks w i) a b o e g u
 
   -- A diamond or a box: where it gains or loses so, or one of its moves leads to a pair that went.
   pub look-step : is (not w) (pastIn z equations values marks p) ≡ true → 6 ≤ o
-      → lookTest (tableOf z labels equations moves n) (changesOf l) false (valueAt values) (λ q. getD marks q 0) p
+      → shiftTest (tableOf z labels equations moves n) l values marks p
       ≡ (cond (is (not w) (eqb o 7)) (any (addsOwn (p % z .states) a) l) (any (dropsOwn z equations values marks w (p % z .states) a b) l)
       || any (leadsGone z equations values marks w i b) (partOf (p % z .states) a (take n moves)))
   unfolding leadsGone
   look-step e g =
       let m = tableOf z labels equations moves n in
-      looked ∙ seed-step m l (machine.past (frame m) (valueAt values) (λ q. getD marks q 0)) (p % z .states) w (pastIn z equations values marks p) (wentIn z equations values marks w i) a b
+      looked ∙ seed-step m l (pastBy m values marks) (p % z .states) w (pastIn z equations values marks p) (wentIn z equations values marks w i) a b
       (partOf (p % z .states) a (take n moves)) (dropsOwn z equations values marks w (p % z .states) a b) (lost g) (targets-read z labels equations moves n d p h o a b i k r g) e o g (step-names z labels equations moves n d p h o a b i k r g .0)

@@ -1,9 +1,9 @@
 -- The pair that the move leads to. Assumes nothing.
-use Rattle.pairs.specs.Words.{wentIn, leadsGone}
-use mathlib.Core.Path.{_≡_, refl, sym, ap, _∙_}
+use mathlib.Core.Path.{ap, _∙_}
 use borrow.Author.Needs.{needs}
-use Rattle.pairs.proofs.leads_gone_to.Statement.{statement}
-use Rattle.pairs.proofs.leads_gone_to.Tie as tie
+use Rattle.looks.specs.LookTests.{wentIn, leadsGone}
+use Rattle.looks.proofs.leads_gone_to.Statement.{statement}
+use Rattle.looks.proofs.leads_gone_to.Tie as tie
 
 cast-pair-at : tie.Need-cast-pair-at
 cast-pair-at c = search needs

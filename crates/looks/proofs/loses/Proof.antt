@@ -1,15 +1,15 @@
 -- The changes before place i do not delete one. Assumes nothing.
-use lib.ListN.{take}
-use Rattle.pairs.specs.SliceWalks.{any-hit, any-pass, any-end}
-use Rattle.pairs.specs.Words.{dropsOwn}
-use Rattle.lists.specs.Lists.{any}
-use lib.Seq.{slice}
-use Prim.Native.Nat.{_-_}
-use borrow.Author.Needs.{needs}
-use native.Mathlib.Omega.{arith}
 use mathlib.Core.Path.{_≡_, refl, sym, ap, _∙_}
-use Rattle.pairs.proofs.loses.Statement.{statement}
-use Rattle.pairs.proofs.loses.Tie as tie
+use Prim.Native.Nat.{_-_}
+use native.Mathlib.Omega.{arith}
+use lib.ListN.{take}
+use lib.Seq.{slice}
+use borrow.Author.Needs.{needs}
+use Rattle.lists.specs.Lists.{any}
+use Rattle.pairs.specs.SliceWalks.{any-hit, any-pass, any-end}
+use Rattle.looks.specs.LookTests.{dropsOwn}
+use Rattle.looks.proofs.loses.Statement.{statement}
+use Rattle.looks.proofs.loses.Tie as tie
 
 abbrev Inv-loop : tie.InvT-loop
 Inv-loop sizes equations changes count values marks b s a x i₀ i = any (dropsOwn sizes equations values marks b s a x) (take count changes) ≡ any (dropsOwn sizes equations values marks b s a x) (slice i count changes)

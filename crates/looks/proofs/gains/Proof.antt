@@ -1,15 +1,15 @@
 -- The changes before place i do not add one. Assumes nothing.
-use lib.ListN.{take}
-use Rattle.pairs.specs.SliceWalks.{any-hit, any-pass, any-end}
-use Rattle.pairs.specs.Words.{addsOwn}
-use Rattle.lists.specs.Lists.{any}
-use lib.Seq.{slice}
-use Prim.Native.Nat.{_-_}
-use borrow.Author.Needs.{needs}
-use native.Mathlib.Omega.{arith}
 use mathlib.Core.Path.{_≡_, refl, sym, ap, _∙_}
-use Rattle.pairs.proofs.gains.Statement.{statement}
-use Rattle.pairs.proofs.gains.Tie as tie
+use Prim.Native.Nat.{_-_}
+use native.Mathlib.Omega.{arith}
+use lib.ListN.{take}
+use lib.Seq.{slice}
+use borrow.Author.Needs.{needs}
+use Rattle.lists.specs.Lists.{any}
+use Rattle.pairs.specs.SliceWalks.{any-hit, any-pass, any-end}
+use Rattle.looks.specs.LookTests.{addsOwn}
+use Rattle.looks.proofs.gains.Statement.{statement}
+use Rattle.looks.proofs.gains.Tie as tie
 
 abbrev Inv-loop : tie.InvT-loop
 Inv-loop changes count s a i₀ i = any (addsOwn s a) (take count changes) ≡ any (addsOwn s a) (slice i count changes)

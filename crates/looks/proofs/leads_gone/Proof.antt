@@ -1,14 +1,14 @@
 -- The moves before place i do not lead so. Assumes nothing.
-use Rattle.pairs.specs.SliceWalks.{any-hit, any-pass, any-end}
-use Rattle.pairs.specs.Words.{leadsGone}
-use Rattle.lists.specs.Lists.{any}
-use lib.Seq.{slice}
-use Prim.Native.Nat.{_-_}
-use borrow.Author.Needs.{needs}
-use native.Mathlib.Omega.{arith}
 use mathlib.Core.Path.{_≡_, refl, sym, ap, _∙_}
-use Rattle.pairs.proofs.leads_gone.Statement.{statement}
-use Rattle.pairs.proofs.leads_gone.Tie as tie
+use Prim.Native.Nat.{_-_}
+use native.Mathlib.Omega.{arith}
+use lib.Seq.{slice}
+use borrow.Author.Needs.{needs}
+use Rattle.lists.specs.Lists.{any}
+use Rattle.pairs.specs.SliceWalks.{any-hit, any-pass, any-end}
+use Rattle.looks.specs.LookTests.{leadsGone}
+use Rattle.looks.proofs.leads_gone.Statement.{statement}
+use Rattle.looks.proofs.leads_gone.Tie as tie
 
 abbrev Inv-loop : tie.InvT-loop
 Inv-loop sizes equations moves values marks b block x from end i₀ i = any (leadsGone sizes equations values marks b block x) (slice from end moves) ≡ any (leadsGone sizes equations values marks b block x) (slice i end moves)

@@ -1,11 +1,11 @@
 -- An odd change is an insert. Assumes nothing.
-use Rattle.pairs.specs.Words.{addsOwn}
+use mathlib.Core.Path.{refl}
 use Prim.Native.Nat.{_%_}
-use Rattle.lists.specs.Tests.{eqb-in, eqb-no}
-use mathlib.Core.Path.{_≡_, refl, sym, ap, _∙_}
 use borrow.Author.Needs.{needs}
-use Rattle.pairs.proofs.adds_own.Statement.{statement}
-use Rattle.pairs.proofs.adds_own.Tie as tie
+use Rattle.lists.specs.Tests.{eqb-in, eqb-no}
+use Rattle.looks.specs.LookTests.{addsOwn}
+use Rattle.looks.proofs.adds_own.Statement.{statement}
+use Rattle.looks.proofs.adds_own.Tie as tie
 
 owns-requires : tie.Need-owns-requires
 owns-requires c κs = search needs

@@ -1,10 +1,10 @@
 -- The two tests, one after the other. Assumes nothing.
+use mathlib.Core.Path.{refl}
 use Prim.Native.Nat.{_/_}
-use Rattle.lists.specs.Tests.{eqb-in, eqb-no}
-use mathlib.Core.Path.{_≡_, refl, sym, ap, _∙_}
 use borrow.Author.Needs.{needs}
-use Rattle.pairs.proofs.owns.Statement.{statement}
-use Rattle.pairs.proofs.owns.Tie as tie
+use Rattle.lists.specs.Tests.{eqb-in, eqb-no}
+use Rattle.looks.proofs.owns.Statement.{statement}
+use Rattle.looks.proofs.owns.Tie as tie
 
 cast-if1 : tie.Need-cast-if1
 cast-if1 c = search needs

@@ -1,0 +1,2 @@
+pub mod LookTests
+pub mod LookWords
