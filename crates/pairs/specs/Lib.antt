@@ -6,6 +6,5 @@ pub mod Part
 pub mod SliceWalks
 pub mod Bits
 pub mod GivesWords
-pub mod LookWords
 pub mod DrawnLimits
 pub mod AsksWords
