@@ -1,4 +1,5 @@
 pub mod Visits
+pub mod Pushes
 pub mod VisitLaws
 pub mod SourceLaws
 pub mod LeanerWords

@@ -63,25 +63,10 @@ module _ (m : Model) (ph : Bool) (vs : List ℕ) where
   unfolding visited
   visited-one r v = refl
 
-  -- One visit as code makes it: the mark is read and tested, then the pair is asked.
-  module _ (r : ℕ) (h : Pile) (n mark : ℕ) (ready : Bool) (is : mark ≡ getD (h .marks) r 0) (test : ready ≡ free ph mark) where
-    visit-by : (g : Bool) → (ready && askOf m ph vs r) ≡ g
-        → record { pile = cond g (waitL (nextMark ph) r h) h; visits = n + 1 } ≡ visited m ph vs (r ∷ []) (record { pile = h; visits = n })
-    unfolding visited
-    visit-by g e =
-        ap (λ (b : Bool). record { pile = cond b (waitL (nextMark ph) r h) h; visits = n + 1 })
-        (sym e ∙ ap (λ (b : Bool). b && askOf m ph vs r) (test ∙ ap (free ph) is))
-
-    pub visit-shut : ready ≡ false → record { pile = h; visits = n + 1 } ≡ visited m ph vs (r ∷ []) (record { pile = h; visits = n })
-    visit-shut e = visit-by false (rw e refl)
-
-    pub visit-open : ready ≡ true → (ask : Bool) → ask ≡ askOf m ph vs r → ask ≡ false
-        → record { pile = h; visits = n + 1 } ≡ visited m ph vs (r ∷ []) (record { pile = h; visits = n })
-    visit-open e ask f g = visit-by false (rw (e, sym f, g) refl)
-
-    pub visit-waits : ready ≡ true → (ask : Bool) → ask ≡ askOf m ph vs r → ask ≡ true → (w : Pile) → w ≡ waitL (nextMark ph) r h
-        → record { pile = w; visits = n + 1 } ≡ visited m ph vs (r ∷ []) (record { pile = h; visits = n })
-    visit-waits e ask f g w k = ap (λ (p : Pile). record { pile = p; visits = n + 1 }) k ∙ visit-by true (rw (e, sym f, g) refl)
+  -- One visit, by what becomes of the pile.
+  pub visit-push : (r : ℕ) (h : Pile) (n : ℕ) (w : Pile) → w ≡ pushL (free ph) (nextMark ph) (askOf m ph vs) r h
+      → record { pile = w; visits = n + 1 } ≡ visited m ph vs (r ∷ []) (record { pile = h; visits = n })
+  visit-push r h n w e = ap (λ (p : Pile). record { pile = p; visits = n + 1 }) e ∙ sym (visited-one r (record { pile = h; visits = n }))
 
   -- A visit that a test decides.
   pub visit-yes : (b : Bool) (r : ℕ) (v w : Visit) → b ≡ true → w ≡ visited m ph vs (r ∷ []) v → w ≡ visited m ph vs (cond b (r ∷ []) []) v

@@ -21,7 +21,7 @@ ghost use Rattle.visits.specs.Visits.{visited, sourcesTo, pairsAt};
 ghost use Rattle.visits.specs.LeanerWords.{leanersBy};
 
 // Does the mark leave a pair free to wait?
-fn is_free(settling: bool, mark: u8) -> bool
+pub fn is_free(settling: bool, mark: u8) -> bool
     ensures { λ r. ⌜ r ≡ free settling mark ⌝ }
 {
     if settling {
@@ -44,7 +44,7 @@ fn next_mark(settling: bool, mark: u8) -> u8
 }
 
 // The pair r waits.
-fn wait(marks: &mut [u8], stack: &mut [u16], top: usize, settling: bool, r: usize) -> usize
+pub fn wait(marks: &mut [u8], stack: &mut [u16], top: usize, settling: bool, r: usize) -> usize
     requires { ⌜ (top < 1000000000) × (r < 65536) ⌝ }
     ensures { λ t. ⌜ (record { marks = now (marks .exit); stack = now (stack .exit); top = t }) ≡ waitL (nextMark settling) r (record { marks = now (marks .entry); stack = now (stack .entry); top = top }) ⌝ }
 {

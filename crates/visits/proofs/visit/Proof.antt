@@ -1,7 +1,8 @@
 use Rattle.pairs.specs.Drawn.{tableOf}
 use Rattle.systems.specs.ListMachine.{Pile}
-use Rattle.visits.specs.VisitLaws.{visit-shut, visit-open, visit-waits}
-use Rattle.visits.specs.Visits.{visited}
+use Rattle.visits.specs.VisitLaws.{visit-push}
+use Rattle.visits.specs.Pushes.{push-shut, push-not, push-waits}
+use Rattle.visits.specs.Visits.{askOf}
 use native.Mathlib.Omega.{arith}
 use Rattle.pairs.specs.DrawnLimits.{pairs-few}
 use borrow.Author.Needs.{needs}
@@ -36,7 +37,7 @@ returns c = let s = c .before .before .before .before .before .before .before .b
     let a = s .args in
     let m = tableOf (a .sizes) (a .labels .now) (a .equations .now) (a .moves .now) (a .n) in
     let h : Pile = record { marks = a .marks .now; stack = a .stack .now; top = a .at .top } in
-    visit-waits m (a .settling) (a .values .now) (a .r) h (a .at .visits) (c .before .before .before .before .before .before .before .before .before .before .before .byte-at .result) (c .before .before .before .before .before .before .before .before .before .before .is-free .result) (c .before .before .before .before .before .before .before .before .before .before .before .byte-at .ensures) (c .before .before .before .before .before .before .before .before .before .before .is-free .ensures) (c .before .before .before .before .before .before .before .before .before .if1 .taken) (c .before .before .before .before .before .before .before .before .asks .result) (c .before .before .before .before .before .before .before .before .asks .ensures) (c .before .before .before .before .before .before .before .if2 .taken) _ (c .before .before .before .before .wait .ensures)
+    visit-push m (a .settling) (a .values .now) (a .r) h (a .at .visits) _ (push-waits (a .settling) (askOf m (a .settling) (a .values .now)) (a .r) h (c .before .before .before .before .before .before .before .before .before .before .before .byte-at .result) (c .before .before .before .before .before .before .before .before .before .before .is-free .result) (c .before .before .before .before .before .before .before .before .before .before .before .byte-at .ensures) (c .before .before .before .before .before .before .before .before .before .before .is-free .ensures) (c .before .before .before .before .before .before .before .before .before .if1 .taken) (c .before .before .before .before .before .before .before .before .asks .result) (c .before .before .before .before .before .before .before .before .asks .ensures) (c .before .before .before .before .before .before .before .if2 .taken) _ (c .before .before .before .before .wait .ensures))
 
 same-length-3 : tie.Need-same-length-3
 same-length-3 c = search needs
@@ -46,7 +47,7 @@ returns-2 c = let s = c .before .before .before .before .before .before .before 
     let a = s .args in
     let m = tableOf (a .sizes) (a .labels .now) (a .equations .now) (a .moves .now) (a .n) in
     let h : Pile = record { marks = a .marks .now; stack = a .stack .now; top = a .at .top } in
-    visit-open m (a .settling) (a .values .now) (a .r) h (a .at .visits) (c .before .before .before .before .byte-at .result) (c .before .before .before .is-free .result) (c .before .before .before .before .byte-at .ensures) (c .before .before .before .is-free .ensures) (c .before .before .if1 .taken) (c .before .asks .result) (c .before .asks .ensures) (c .if2 .left)
+    visit-push m (a .settling) (a .values .now) (a .r) h (a .at .visits) _ (push-not (a .settling) (askOf m (a .settling) (a .values .now)) (a .r) h (c .before .before .before .before .byte-at .result) (c .before .before .before .is-free .result) (c .before .before .before .before .byte-at .ensures) (c .before .before .before .is-free .ensures) (c .before .before .if1 .taken) (c .before .asks .result) (c .before .asks .ensures) (c .if2 .left))
 
 same-length-4 : tie.Need-same-length-4
 same-length-4 c = search needs
@@ -56,7 +57,7 @@ returns-3 c = let s = c .before .before .before .before .before .before .before 
     let a = s .args in
     let m = tableOf (a .sizes) (a .labels .now) (a .equations .now) (a .moves .now) (a .n) in
     let h : Pile = record { marks = a .marks .now; stack = a .stack .now; top = a .at .top } in
-    visit-shut m (a .settling) (a .values .now) (a .r) h (a .at .visits) (c .before .before .byte-at .result) (c .before .is-free .result) (c .before .before .byte-at .ensures) (c .before .is-free .ensures) (c .if1 .left)
+    visit-push m (a .settling) (a .values .now) (a .r) h (a .at .visits) _ (push-shut (a .settling) (askOf m (a .settling) (a .values .now)) (a .r) h (c .before .before .byte-at .result) (c .before .is-free .result) (c .before .before .byte-at .ensures) (c .before .is-free .ensures) (c .if1 .left))
 
 pub visit-spec : {M : Type 1} → statement M
 visit-spec =
