@@ -1,2 +1,4 @@
 pub mod Engine
 pub mod EngineRuns
+pub mod Jobs
+pub mod TurnLaws

@@ -1,12 +1,153 @@
 // The step machine that moves the values: pairs are looked at, wait, and turn. One unit is one look or one turn.
 use rules::Sizes;
+use visits::Spread;
 ghost use mathlib.Core.Path.{_≡_};
-ghost use Prim.Native.Nat.{ℕ, _+_, _*_, _-_, _≤_, _<_};
-ghost use lib.ListN.{getD, length};
+ghost use mathlib.Core.Bool.{true, cond};
+ghost use Prim.Native.Nat.{ℕ, suc, _+_, _*_, _-_, _≤_, _<_};
+ghost use lib.ListN.{getD, length, set, take};
 ghost use Rattle.systems.specs.Machine.{free, nextMark};
-ghost use Rattle.systems.specs.ListMachine.{waitL};
+ghost use Rattle.systems.specs.ListMachine.{turned, pushL, turnL};
+ghost use Rattle.rules.specs.Batch.{changesOk};
 ghost use Rattle.rules.specs.Rooms.{pairsOf};
-ghost use Rattle.pairs.specs.Drawn.{Drawn, tableOf};
+ghost use Rattle.rules.specs.Calls.{valueAt};
+ghost use Rattle.rules.specs.Values.{leanings};
 ghost use Rattle.laws.specs.ModelSystem.{frame};
-ghost use Rattle.systems.specs.ListMachine.{nextPair, seek, phases};
-ghost use Rattle.engine.specs.Seeking.{aheadOf, startAfter, placeOf, SeeksOn};
+ghost use Rattle.laws.specs.ModelLeaners.{leanersOf};
+ghost use Rattle.pairs.specs.Drawn.{Drawn, tableOf};
+ghost use Rattle.pairs.specs.Looks.{changesOf, lookTest};
+ghost use Rattle.chains.specs.ChainLaws.{Chained};
+ghost use Rattle.engine.specs.Jobs.{jobAs};
+ghost use Rattle.engine.specs.Engine.{lookE};
+
+// Where an update stands: the block, the phase and the pair of the next look, the height of the stack, and the visits.
+pub struct Progress {
+    pub block: usize,
+    pub settling: bool,
+    pub place: usize,
+    pub top: usize,
+    pub shifts: usize,
+    pub settles: usize,
+}
+
+// The value of the pair q becomes the other.
+fn flip(values: &mut [u8], q: usize)
+    ensures { λ _. ⌜ now (values .exit) ≡ set (now (values .entry)) q (turned (getD (now (values .entry)) q 0)) ⌝ }
+{
+    if rooms::byte_at(values, q) == 1 {
+        rooms::set_byte(values, q, 0);
+    } else {
+        rooms::set_byte(values, q, 1);
+    }
+}
+
+// One of two counts added.
+fn added(base: usize, first: bool, x: usize, y: usize) -> usize
+    requires { ⌜ (base < 100000000000) × ((x < 10000000) × (y < 10000000)) ⌝ }
+    ensures { λ r. ⌜ r ≡ base + cond first x y ⌝ }
+{
+    if first {
+        return base + x;
+    }
+    base + y
+}
+
+// The pair at the top of the stack turns, and the pairs that lean on it are visited.
+fn turn(
+    sizes: Sizes,
+    labels: &[u32],
+    equations: &[u32],
+    moves: &[u32],
+    n: usize,
+    last: &[u16],
+    next: &[u16],
+    values: &mut [u8],
+    marks: &mut [u8],
+    stack: &mut [u16],
+    at: Progress,
+) -> Progress
+    requires { ⌜ Drawn sizes (now labels) (now equations) (now moves) n ⌝ }
+    requires { ⌜ Chained (now moves) n (now last) (now next) ⌝ }
+    requires { ⌜ (sizes .states ≤ length (now last)) × (((0 < at .top) × (at .top ≤ 8192)) × ((getD (now stack) (at .top - 1) 0 < pairsOf sizes) × ((at .shifts < 100000000000) × (at .settles < 100000000000)))) ⌝ }
+    ensures { λ r. ⌜ jobAs (now (values .exit)) (now (marks .exit)) (now (stack .exit)) (r .block) (r .settling) (r .place) (r .top) (r .shifts) (r .settles)
+        ≡ turnL (frame (tableOf sizes (now (labels .entry)) (now (equations .entry)) (now (moves .entry)) n))
+        (leanings (tableOf sizes (now (labels .entry)) (now (equations .entry)) (now (moves .entry)) n))
+        (leanersOf (tableOf sizes (now (labels .entry)) (now (equations .entry)) (now (moves .entry)) n)) (at .top - 1)
+        (jobAs (now (values .entry)) (now (marks .entry)) (now (stack .entry)) (at .block) (at .settling) (at .place) (at .top) (at .shifts) (at .settles)) ⌝ }
+{
+    let top = at.top - 1;
+    let q = rooms::half_at(stack, top) as usize;
+    let settling = rooms::byte_at(marks, q) != 1;
+    flip(values, q);
+    let from = Spread {
+        top: top,
+        visits: 0,
+    };
+    let s = visits::visit_leaners(
+        sizes,
+        labels,
+        equations,
+        moves,
+        n,
+        last,
+        next,
+        values,
+        marks,
+        stack,
+        from,
+        settling,
+        q,
+    );
+    Progress {
+        block: at.block,
+        settling: at.settling,
+        place: at.place,
+        top: s.top,
+        shifts: added(at.shifts, settling, 0, s.visits),
+        settles: added(at.settles, settling, s.visits, 0),
+    }
+}
+
+// The pair p waits if its mark leaves it free and it must turn when it is looked at. The answer is the height of the stack.
+fn look_at(
+    sizes: Sizes,
+    labels: &[u32],
+    equations: &[u32],
+    moves: &[u32],
+    n: usize,
+    changes: &[u32],
+    count: usize,
+    values: &[u8],
+    marks: &mut [u8],
+    stack: &mut [u16],
+    top: usize,
+    settling: bool,
+    p: usize,
+) -> usize
+    requires { ⌜ Drawn sizes (now labels) (now equations) (now moves) n ⌝ }
+    requires { ⌜ (p < pairsOf sizes) × (top ≤ 8192) ⌝ }
+    requires { ⌜ changesOk sizes (changesOf (take count (now changes))) ≡ true ⌝ }
+    ensures { λ t. ⌜ (record { marks = now (marks .exit); stack = now (stack .exit); top = t })
+        ≡ pushL (free settling) (nextMark settling)
+        (lookTest (tableOf sizes (now (labels .entry)) (now (equations .entry)) (now (moves .entry)) n) (changesOf (take count (now (changes .entry)))) settling (valueAt (now (values .entry))) (λ q. getD (now (marks .entry)) q 0))
+        p (record { marks = now (marks .entry); stack = now (stack .entry); top = top }) ⌝ }
+{
+    let m = rooms::byte_at(marks, p);
+    if visits::is_free(settling, m) {
+        if looks::look(
+            sizes,
+            labels,
+            equations,
+            moves,
+            n,
+            changes,
+            count,
+            values,
+            marks,
+            settling,
+            p,
+        ) {
+            return visits::wait(marks, stack, top, settling, p);
+        }
+    }
+    top
+}

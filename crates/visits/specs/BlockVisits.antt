@@ -2,17 +2,19 @@
 use mathlib.Core.Path.{_≡_, refl, sym, ap, ap₂, _∙_}
 use mathlib.Core.Bool.{Bool, true, false, cond}
 use mathlib.Core.List.{List, [], _∷_, _++_}
-use Prim.Native.Nat.{ℕ, zero, suc, _+_, _*_, _≤_, _<_}
+use Prim.Native.Nat.{ℕ, zero, suc, _+_, _*_, _/_, _%_, _≤_, _<_}
 use native.Mathlib.Numerals.{add-one}
 use native.Mathlib.Omega.{arith}
-use lib.ListN.{length, getD}
+use lib.ListN.{length, getD, length-append}
 use lib.Dec.{eqb}
 use Rattle.lists.specs.Tests.{eqb-in, eqb-no}
+use Rattle.rules.specs.Rooms.{pairsOf}
 use Rattle.rules.specs.Session.{unword}
 use Rattle.rules.specs.Values.{state, variable}
 use Rattle.rules.specs.declared.Sizes.{Sizes}
-use Rattle.laws.specs.ModelLeaners.{leanersOn, leanersTo}
+use Rattle.laws.specs.ModelLeaners.{leanersOn, leanersTo, leanersOf}
 use Rattle.pairs.specs.Drawn.{tableOf, Drawn}
+use Rattle.pairs.specs.EquationWords.{variable-in}
 use Rattle.pairs.specs.DrawnLimits.{limits}
 use Rattle.visits.specs.Visits.{Visit, visited}
 use Rattle.visits.specs.VisitLaws.{visited-none, visited-append, visited-top, visited-count}
@@ -63,3 +65,21 @@ module _ (z : Sizes) (labels equations moves : List ℕ) (n : ℕ) (d : Drawn z 
           many = let a = o .many in let c = visited-count m ph vs l v in let g = ap (λ (u : Visit). u .visits) e in omega arith;
           below = omega arith;
         })
+
+  -- At most 1,026 pairs of each variable lean on one pair.
+  to-few : (x t : ℕ) → x < z .variables → (y : ℕ) → y ≤ z .variables → length (leanersTo (tableOf z labels equations moves n) (variable x) (state t) y) ≤ 1026 * y
+  to-few x t hx zero h = omega arith
+  to-few x t hx (suc y) h =
+      let m = tableOf z labels equations moves n in
+      let a = to-few x t hx y (omega arith) in
+      let b = on-few z labels equations moves n d x y t hx (omega arith) in
+      let c = limits z labels equations moves n d in
+      let e = length-append (leanersTo m (variable x) (state t) y) (leanersOn m (variable x) (state t) (variable y)) in
+      omega arith
+
+  pub leaners-of-few : (q : ℕ) → q < pairsOf z → length (leanersOf (tableOf z labels equations moves n) q) ≤ 32832
+  unfolding leanersOf
+  leaners-of-few q h =
+      let a = to-few (q / z .states) (q % z .states) (variable-in z labels equations moves n d q h) (z .variables) (omega arith) in
+      let c = limits z labels equations moves n d in
+      omega arith

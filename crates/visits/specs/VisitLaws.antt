@@ -52,6 +52,9 @@ module _ (m : Model) (ph : Bool) (vs : List ℕ) where
   unfolding visited
   visited-count l v = refl
 
+  pub count-after : (l : List ℕ) (v w : Visit) → w ≡ visited m ph vs l v → w .visits ≡ v .visits + length l
+  count-after l v w e = ap (λ (x : Visit). x .visits) e ∙ visited-count l v
+
   -- Rooms keep their lengths.
   pub visited-long : (l : List ℕ) (v : Visit)
       → (length (visited m ph vs l v .pile .marks) ≡ length (v .pile .marks)) × (length (visited m ph vs l v .pile .stack) ≡ length (v .pile .stack))
