@@ -2,3 +2,4 @@ pub mod Engine
 pub mod EngineRuns
 pub mod Jobs
 pub mod TurnLaws
+pub mod UnitLaws

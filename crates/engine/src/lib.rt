@@ -17,7 +17,8 @@ ghost use Rattle.pairs.specs.Drawn.{Drawn, tableOf};
 ghost use Rattle.pairs.specs.Looks.{changesOf, lookTest};
 ghost use Rattle.chains.specs.ChainLaws.{Chained};
 ghost use Rattle.engine.specs.Jobs.{jobAs};
-ghost use Rattle.engine.specs.Engine.{lookE};
+ghost use Rattle.engine.specs.Engine.{unitE};
+ghost use Rattle.engine.specs.UnitLaws.{Ready};
 
 // Where an update stands: the block, the phase and the pair of the next look, the height of the stack, and the visits.
 pub struct Progress {
@@ -150,4 +151,91 @@ fn look_at(
         }
     }
     top
+}
+
+// One unit: a pair that waits turns; where none waits, the next pair is looked at.
+fn unit(
+    sizes: Sizes,
+    labels: &[u32],
+    equations: &[u32],
+    moves: &[u32],
+    n: usize,
+    last: &[u16],
+    next: &[u16],
+    changes: &[u32],
+    count: usize,
+    values: &mut [u8],
+    marks: &mut [u8],
+    stack: &mut [u16],
+    at: Progress,
+) -> Progress
+    requires { ⌜ Drawn sizes (now labels) (now equations) (now moves) n ⌝ }
+    requires { ⌜ Chained (now moves) n (now last) (now next) ⌝ }
+    requires { ⌜ changesOk sizes (changesOf (take count (now changes))) ≡ true ⌝ }
+    requires { ⌜ Ready (tableOf sizes (now labels) (now equations) (now moves) n)
+        (jobAs (now values) (now marks) (now stack) (at .block) (at .settling) (at .place) (at .top) (at .shifts) (at .settles)) ⌝ }
+    requires { ⌜ (sizes .states ≤ length (now last)) × ((at .shifts < 100000000000) × (at .settles < 100000000000)) ⌝ }
+    ensures { λ r. ⌜ jobAs (now (values .exit)) (now (marks .exit)) (now (stack .exit)) (r .block) (r .settling) (r .place) (r .top) (r .shifts) (r .settles)
+        ≡ unitE (tableOf sizes (now (labels .entry)) (now (equations .entry)) (now (moves .entry)) n) (changesOf (take count (now (changes .entry))))
+        (jobAs (now (values .entry)) (now (marks .entry)) (now (stack .entry)) (at .block) (at .settling) (at .place) (at .top) (at .shifts) (at .settles)) ⌝ }
+{
+    let waiting = at.top;
+    if 0 < waiting {
+        return turn(
+            sizes,
+            labels,
+            equations,
+            moves,
+            n,
+            last,
+            next,
+            values,
+            marks,
+            stack,
+            at,
+        );
+    }
+    let s = seeks::seek_look(
+        sizes,
+        labels,
+        equations,
+        moves,
+        n,
+        at.block,
+        at.settling,
+        at.place,
+    );
+    if s.block < sizes.blocks as usize {
+        let top = look_at(
+            sizes,
+            labels,
+            equations,
+            moves,
+            n,
+            changes,
+            count,
+            values,
+            marks,
+            stack,
+            waiting,
+            s.settling,
+            s.place,
+        );
+        return Progress {
+            block: s.block,
+            settling: s.settling,
+            place: s.place + 1,
+            top: top,
+            shifts: at.shifts,
+            settles: at.settles,
+        };
+    }
+    Progress {
+        block: s.block,
+        settling: s.settling,
+        place: s.place,
+        top: waiting,
+        shifts: at.shifts,
+        settles: at.settles,
+    }
 }

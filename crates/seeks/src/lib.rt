@@ -124,7 +124,7 @@ fn seek_phase(
 }
 
 // The place of the next look.
-fn seek_look(
+pub fn seek_look(
     sizes: Sizes,
     labels: &[u32],
     equations: &[u32],

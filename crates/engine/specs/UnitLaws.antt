@@ -1,0 +1,96 @@
+-- One unit, put together from what code does. Assumes nothing.
+use mathlib.Core.Path.{_≡_, refl, sym, ap, _∙_, subst}
+use mathlib.Core.Logic.{inl, inr}
+use mathlib.Core.Bool.{Bool, true, false, not, cond}
+use mathlib.Core.List.{List}
+use Prim.Native.Nat.{ℕ, zero, suc, _+_, _-_, _≤_, _<_}
+use native.Mathlib.Omega.{arith}
+use lib.ListN.{length, getD}
+use lib.Dec.{eqb, ltb}
+use Rattle.lists.specs.Tests.{tell, ltb-in, ltb-no}
+use Rattle.systems.specs.Machine.{free, nextMark}
+use Rattle.systems.specs.ListMachine.{valOf, Pile, Place, Job, pushL, turnL, seek, phases, seekL}
+use Rattle.systems.specs.ListsMove.{Formed, seek-sought}
+use Rattle.systems.specs.Seeks.{Sought}
+use Rattle.rules.specs.Model.{Model}
+use Rattle.rules.specs.Batch.{Change}
+use Rattle.rules.specs.Rooms.{pairsOf}
+use Rattle.rules.specs.Values.{leanings}
+use Rattle.laws.specs.ModelSystem.{frame}
+use Rattle.laws.specs.ModelLeaners.{leanersOf}
+use Rattle.pairs.specs.Looks.{lookTest}
+use Rattle.seeks.specs.Seeking.{placeOf}
+use Rattle.engine.specs.Engine.{lookE, unitByE, unitE}
+use Rattle.engine.specs.Jobs.{jobAs}
+use Rattle.engine.specs.TurnLaws.{look-made}
+
+-- The lists are well formed, and what waits is a pair.
+pub record Ready (m : Model) (c : Job) : Type 0 where
+  pub formed : Formed (frame m) c
+  pub high : c .pile .top ≤ pairsOf (m .sizes)
+  pub waits : (top : ℕ) → c .pile .top ≡ suc top → getD (c .pile .stack) top 0 < pairsOf (m .sizes)
+
+module _ (m : Model) (cs : List Change) (values marks stack : List ℕ) (block : ℕ) (settling : Bool) (place top shifts settles : ℕ) where
+  abbrev c : Job
+  c = jobAs values marks stack block settling place top shifts settles
+
+  -- A pair waits, and turns.
+  pub unit-turns : 0 < top → (d : Job) → d ≡ turnL (frame m) (leanings m) (leanersOf m) (top - 1) c → d ≡ unitE m cs c
+  unit-turns h d e = e ∙ ap (λ (x : ℕ). unitByE m cs x c) (let k : suc (top - 1) ≡ top = omega arith in k)
+
+  pub top-waits : Ready m c → 0 < top → getD stack (top - 1) 0 < pairsOf (m .sizes)
+  top-waits r h = r .waits (top - 1) (omega arith)
+
+  -- No pair waits, and the next look is at the pair p of block i.
+  module _ (i : ℕ) (ph : Bool) (p : ℕ) (found : placeOf i ph p ≡ seek (frame m) (phases (m .sizes .blocks - block) settling) block settling place) (none : top ≡ 0) where
+    sought : jobAs values marks stack i ph p top shifts settles ≡ seekL (frame m) c
+    unfolding seekL
+    sought = ap (λ (s : Place). jobAs values marks stack (s .block) (s .settling) (s .place) top shifts settles) found
+
+    unit-by : (b : Bool) → ltb i (m .sizes .blocks) ≡ b → cond b (lookE m cs (seekL (frame m) c)) (seekL (frame m) c) ≡ unitE m cs c
+    unit-by b e =
+        ap (λ (x : Bool). cond x (lookE m cs (seekL (frame m) c)) (seekL (frame m) c)) (sym e ∙ ap (λ (s : Job). ltb (s .block) (m .sizes .blocks)) sought)
+        ∙ ap (λ (x : ℕ). unitByE m cs x c) (sym none)
+
+    pub unit-looks : i < m .sizes .blocks → (w : Pile)
+        → w ≡ pushL (free ph) (nextMark ph) (lookTest m cs ph (valOf values) (λ q. getD marks q 0)) p (record { marks = marks; stack = stack; top = top })
+        → jobAs values (w .marks) (w .stack) i ph (p + 1) (w .top) shifts settles ≡ unitE m cs c
+    unit-looks h w e =
+        ap (λ (x : ℕ). jobAs values (w .marks) (w .stack) i ph x (w .top) shifts settles) (let k : p + 1 ≡ suc p = omega arith in k)
+        ∙ look-made m values marks stack i ph p top shifts settles cs w e ∙ ap (lookE m cs) sought ∙ unit-by true (ltb-in i (m .sizes .blocks) h)
+
+    -- The looks are over.
+    pub unit-rests : m .sizes .blocks ≤ i → jobAs values marks stack i ph p top shifts settles ≡ unitE m cs c
+    unit-rests h = sought ∙ unit-by false (ltb-no i (m .sizes .blocks) .1 h)
+
+    -- What is looked at is a pair.
+    pub look-inside : Ready m c → i < m .sizes .blocks → p < pairsOf (m .sizes)
+    look-inside r h =
+        let s : Sought (frame m) block (m .sizes .blocks - block) settling place (placeOf i ph p)
+        = subst (Sought (frame m) block (m .sizes .blocks - block) settling place) (sym found) (seek-sought (r .formed)) in
+        s .here h .0
+
+-- One unit adds at most as many visits as pairs lean on one pair.
+module _ (m : Model) (cs : List Change) (most : ℕ) (few : (q : ℕ) → q < pairsOf (m .sizes) → length (leanersOf m q) ≤ most) where
+  abbrev Grows : Job → Job → Type 0
+  Grows c d = (d .shiftVisits ≤ c .shiftVisits + most) × (d .settleVisits ≤ c .settleVisits + most)
+
+  turn-grows : (top : ℕ) (c : Job) → getD (c .pile .stack) top 0 < pairsOf (m .sizes) → Grows c (turnL (frame m) (leanings m) (leanersOf m) top c)
+  unfolding turnL
+  turn-grows top c h = go (not (eqb (getD (c .pile .marks) (getD (c .pile .stack) top 0) 0) 1)) (length (leanersOf m (getD (c .pile .stack) top 0))) (few (getD (c .pile .stack) top 0) h)
+    where
+      go : (ph : Bool) (k : ℕ) → k ≤ most → (c .shiftVisits + cond ph 0 k ≤ c .shiftVisits + most) × (c .settleVisits + cond ph k 0 ≤ c .settleVisits + most)
+      go true k h = (omega arith, omega arith)
+      go false k h = (omega arith, omega arith)
+
+  look-grows : (b : Bool) (c : Job) → Grows c (cond b (lookE m cs (seekL (frame m) c)) (seekL (frame m) c))
+  unfolding lookE seekL
+  look-grows true c = (omega arith, omega arith)
+  look-grows false c = (omega arith, omega arith)
+
+  by-top : (t : ℕ) (c : Job) → ((top : ℕ) → t ≡ suc top → getD (c .pile .stack) top 0 < pairsOf (m .sizes)) → Grows c (unitByE m cs t c)
+  by-top zero c f = look-grows (ltb (seekL (frame m) c .block) (m .sizes .blocks)) c
+  by-top (suc top) c f = turn-grows top c (f top refl)
+
+  pub unit-grows : (c : Job) → Ready m c → Grows c (unitE m cs c)
+  unit-grows c r = by-top (c .pile .top) c (r .waits)
