@@ -2,11 +2,11 @@
 use mathlib.Core.Path.{_≡_, refl, sym, ap, _∙_}
 use mathlib.Core.List.{List, [], _∷_, _++_, append-assoc}
 use Prim.Native.Nat.{ℕ, zero, suc, _+_, _≤_, _<_}
-use native.Mathlib.Nat.{add-zero, add-suc, suc-add, zero-add}
+use native.Mathlib.Nat.{add-zero, add-suc, suc-add, zero-add, not-suc-le-zero, le-of-suc-le-suc}
 use native.Mathlib.Numerals.{add-one}
 use native.Mathlib.Omega.{arith}
 use lib.IntN.{ℤ, pos, _-ℤ_}
-use lib.ListN.{length, getD, set, drop, replicate, length-replicate}
+use lib.ListN.{length, getD, set, take, drop, replicate, length-replicate, take-append-drop}
 use lib.Seq.{drop-cons, set-at}
 use lib.Dec.{eqb}
 use Rattle.lists.specs.Lists.{bit, listed, fill}
@@ -80,6 +80,21 @@ filled-zeros n room = ap (λ (l : List ℕ). fill l room) (listed-zeros 0 n)
 pub filled-bits : (n : ℕ) (v : Values) (room : List ℕ) → filled n (λ p. bit (v p)) room ≡ fill (bits n v) room
 unfolding filled
 filled-bits n v room = refl
+
+-- What was written into a part of a room, from the room's start to n, with the rest of the room behind it.
+pub part-filled : (n : ℕ) (new room : List ℕ) → length new ≤ n → fill new (take n room) ++ drop n room ≡ fill new room
+part-filled n new room h =
+    append-assoc new (drop (length new) (take n room)) (drop n room) ∙ ap (λ (l : List ℕ). new ++ l) (rest (length new) n room h)
+  where
+    rest : (k n : ℕ) (l : List ℕ) → k ≤ n → drop k (take n l) ++ drop n l ≡ drop k l
+    rest zero n l h = take-append-drop n l
+    rest (suc k) zero l h = absurd (not-suc-le-zero h)
+    rest (suc k) (suc n) [] h = refl
+    rest (suc k) (suc n) (x ∷ l) h = rest k n l (le-of-suc-le-suc h)
+
+-- A part that was changed as a whole.
+pub part-changed : (n : ℕ) (part room : List ℕ) → length part ≡ n → part ++ drop n room ≡ fill part room
+part-changed n part room e = ap (λ (k : ℕ). part ++ drop k room) (sym e)
 
 -- A place that was set to 0 reads 0.
 pub cleared-at : (n : ℕ) (room : List ℕ) (p : ℕ) → p < n → _≡_ {A = ℕ} (getD (fill (replicate n 0) room) p 0) 0
