@@ -1,0 +1,79 @@
+// What is done once for each update, before its first unit and after its last: rooms are set to where the machine starts,
+// and the pairs that are true are counted.
+use rules::Sizes;
+ghost use mathlib.Core.Path.{_≡_};
+ghost use Prim.Native.Nat.{_≤_, _<_};
+ghost use lib.IntN.{pos, _-ℤ_};
+ghost use lib.ListN.{length, replicate};
+ghost use lib.Dec.{eqb};
+ghost use Rattle.lists.specs.Lists.{bit, fill};
+ghost use Rattle.rules.specs.Update.{trues};
+ghost use Rattle.rules.specs.Calls.{valueAt, bits};
+ghost use Rattle.pairs.specs.Words.{kindIn};
+
+// Sets the first n places to 0.
+pub fn clear(room: &mut [u8], n: usize)
+    requires { ⌜ n ≤ length (now room) ⌝ }
+    ensures { λ _. ⌜ now (room .exit) ≡ fill (replicate n 0) (now (room .entry)) ⌝ }
+{
+    let mut j: usize = 0;
+    while j < n {
+        rooms::set_byte(room, j, 0);
+        j = j + 1;
+    }
+}
+
+// The own value of a pair's block, as it is written into a room.
+fn own_byte(sizes: Sizes, equations: &[u32], p: usize) -> u8
+    requires { ⌜ 0 < sizes .states ⌝ }
+    ensures { λ r. ⌜ r ≡ bit (eqb (kindIn sizes (now (equations .entry)) p) 1) ⌝ }
+{
+    if pairs::own_value(sizes, equations, p) {
+        return 1;
+    }
+    0
+}
+
+// Gives each of the first n pairs the own value of its block.
+pub fn own_values(sizes: Sizes, equations: &[u32], n: usize, values: &mut [u8])
+    requires { ⌜ (0 < sizes .states) × (n ≤ length (now values)) ⌝ }
+    ensures { λ _. ⌜ now (values .exit) ≡ fill (bits n (λ p. eqb (kindIn sizes (now (equations .entry)) p) 1)) (now (values .entry)) ⌝ }
+{
+    let mut p: usize = 0;
+    while p < n {
+        let v = own_byte(sizes, equations, p);
+        rooms::set_byte(values, p, v);
+        p = p + 1;
+    }
+}
+
+// 1 for a true pair, 0 for a false one.
+fn one_if(values: &[u8], p: usize) -> usize
+    ensures { λ r. ⌜ (r ≡ bit (valueAt (now (values .entry)) p)) × (r ≤ 1) ⌝ }
+{
+    if pairs::value_at(values, p) {
+        return 1;
+    }
+    0
+}
+
+// How many of the first n pairs are true.
+pub fn count_true(values: &[u8], n: usize) -> usize
+    ensures { λ r. ⌜ (r ≡ trues n (valueAt (now (values .entry)))) × (r ≤ n) ⌝ }
+{
+    let mut r: usize = 0;
+    let mut p: usize = 0;
+    while p < n {
+        r = r + one_if(values, p);
+        p = p + 1;
+    }
+    r
+}
+
+// The change from one count to another, below zero where it fell.
+pub fn net(before: usize, after: usize) -> i32
+    requires { ⌜ (before < 65536) × (after < 65536) ⌝ }
+    ensures { λ r. ⌜ r ≡ pos after -ℤ pos before ⌝ }
+{
+    (after as i32) - (before as i32)
+}
