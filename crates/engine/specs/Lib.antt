@@ -3,3 +3,4 @@ pub mod EngineRuns
 pub mod Jobs
 pub mod TurnLaws
 pub mod UnitLaws
+pub mod Runs

@@ -2,14 +2,15 @@
 use mathlib.Core.Path.{_≡_, refl, sym, ap, _∙_, subst}
 use mathlib.Core.Logic.{inl, inr}
 use mathlib.Core.Bool.{Bool, true, false, not, cond}
-use mathlib.Core.List.{List}
+use mathlib.Core.List.{List, [], _∷_}
 use Prim.Native.Nat.{ℕ, zero, suc, _+_, _-_, _≤_, _<_}
 use native.Mathlib.Omega.{arith}
-use lib.ListN.{length, getD}
+use lib.ListN.{length, getD, set}
 use lib.Dec.{eqb, ltb}
 use Rattle.lists.specs.Tests.{tell, ltb-in, ltb-no}
-use Rattle.systems.specs.Machine.{free, nextMark}
-use Rattle.systems.specs.ListMachine.{valOf, Pile, Place, Job, pushL, turnL, seek, phases, seekL}
+use Rattle.systems.specs.Machine.{free, nextMark, asks}
+use Rattle.systems.specs.ListMachine.{valOf, turned, Pile, Place, Job, pushL, turnL, seek, phases, seekL}
+use Rattle.systems.specs.ListUnits.{spread-long}
 use Rattle.systems.specs.ListsMove.{Formed, seek-sought}
 use Rattle.systems.specs.Seeks.{Sought}
 use Rattle.rules.specs.Model.{Model}
@@ -94,3 +95,27 @@ module _ (m : Model) (cs : List Change) (most : ℕ) (few : (q : ℕ) → q < pa
 
   pub unit-grows : (c : Job) → Ready m c → Grows c (unitE m cs c)
   unit-grows c r = by-top (c .pile .top) c (r .waits)
+
+-- The stack keeps its length.
+module _ (m : Model) (cs : List Change) where
+  turn-long : (top : ℕ) (c : Job) → length (turnL (frame m) (leanings m) (leanersOf m) top c .pile .stack) ≡ length (c .pile .stack)
+  unfolding turnL
+  turn-long top c =
+      let q = getD (c .pile .stack) top 0 in
+      let ph = not (eqb (getD (c .pile .marks) q 0) 1) in
+      spread-long (free ph) (nextMark ph) (asks (frame m) (leanings m) ph (valOf (set (c .vals) q (turned (getD (c .vals) q 0))))) (leanersOf m q)
+      (record { marks = c .pile .marks; stack = c .pile .stack; top = top }) .1
+
+  look-long : (b : Bool) (c : Job) → length (cond b (lookE m cs (seekL (frame m) c)) (seekL (frame m) c) .pile .stack) ≡ length (c .pile .stack)
+  unfolding lookE seekL
+  look-long true c =
+      let d = seekL (frame m) c in
+      spread-long (free (d .settling)) (nextMark (d .settling)) (lookTest m cs (d .settling) (valOf (d .vals)) (λ p. getD (d .pile .marks) p 0)) (d .place ∷ []) (d .pile) .1
+  look-long false c = refl
+
+  long-by : (t : ℕ) (c : Job) → length (unitByE m cs t c .pile .stack) ≡ length (c .pile .stack)
+  long-by zero c = look-long (ltb (seekL (frame m) c .block) (m .sizes .blocks)) c
+  long-by (suc top) c = turn-long top c
+
+  pub unit-long : (c : Job) → length (unitE m cs c .pile .stack) ≡ length (c .pile .stack)
+  unit-long c = long-by (c .pile .top) c

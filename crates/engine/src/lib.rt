@@ -2,9 +2,10 @@
 use rules::Sizes;
 use visits::Spread;
 ghost use mathlib.Core.Path.{_≡_};
+ghost use mathlib.Core.Logic.{_⊎_};
 ghost use mathlib.Core.Bool.{true, cond};
 ghost use Prim.Native.Nat.{ℕ, suc, _+_, _*_, _-_, _≤_, _<_};
-ghost use lib.ListN.{getD, length, set, take};
+ghost use lib.ListN.{getD, length, set, take, replicate};
 ghost use Rattle.systems.specs.Machine.{free, nextMark};
 ghost use Rattle.systems.specs.ListMachine.{turned, pushL, turnL};
 ghost use Rattle.rules.specs.Batch.{changesOk};
@@ -19,6 +20,7 @@ ghost use Rattle.chains.specs.ChainLaws.{Chained};
 ghost use Rattle.engine.specs.Jobs.{jobAs};
 ghost use Rattle.engine.specs.Engine.{unitE};
 ghost use Rattle.engine.specs.UnitLaws.{Ready};
+ghost use Rattle.engine.specs.Runs.{Started, Ran};
 
 // Where an update stands: the block, the phase and the pair of the next look, the height of the stack, and the visits.
 pub struct Progress {
@@ -238,4 +240,70 @@ fn unit(
         shifts: at.shifts,
         settles: at.settles,
     }
+}
+
+// How many units are left after one more: none where nothing waits and no block is left.
+fn left_after(sizes: Sizes, block: usize, top: usize, left: usize) -> usize
+    requires { ⌜ 0 < left ⌝ }
+    ensures { λ r. ⌜ (r ≡ left - 1) ⊎ ((r ≡ 0) × ((top ≡ 0) × (sizes .blocks ≤ block))) ⌝ }
+{
+    if top == 0 {
+        if sizes.blocks as usize <= block {
+            return 0;
+        }
+    }
+    left - 1
+}
+
+// Unit after unit, until nothing waits and no block is left.
+fn run(
+    sizes: Sizes,
+    labels: &[u32],
+    equations: &[u32],
+    moves: &[u32],
+    n: usize,
+    last: &[u16],
+    next: &[u16],
+    changes: &[u32],
+    count: usize,
+    values: &mut [u8],
+    marks: &mut [u8],
+    stack: &mut [u16],
+) -> Progress
+    requires { ⌜ Drawn sizes (now labels) (now equations) (now moves) n ⌝ }
+    requires { ⌜ Chained (now moves) n (now last) (now next) ⌝ }
+    requires { ⌜ changesOk sizes (changesOf (take count (now changes))) ≡ true ⌝ }
+    requires { ⌜ Started (tableOf sizes (now labels) (now equations) (now moves) n) (changesOf (take count (now changes))) (now values) ⌝ }
+    requires { ⌜ (sizes .states ≤ length (now last)) × ((now marks ≡ replicate (pairsOf sizes) 0) × (pairsOf sizes ≤ length (now stack))) ⌝ }
+    ensures { λ r. ⌜ Ran (tableOf sizes (now (labels .entry)) (now (equations .entry)) (now (moves .entry)) n) (changesOf (take count (now (changes .entry)))) (now (values .entry)) (now (stack .entry))
+        (jobAs (now (values .exit)) (now (marks .exit)) (now (stack .exit)) (r .block) (r .settling) (r .place) (r .top) (r .shifts) (r .settles)) ⌝ }
+{
+    let mut at = Progress {
+        block: 0,
+        settling: false,
+        place: 0,
+        top: 0,
+        shifts: 0,
+        settles: 0,
+    };
+    let mut left = 4 * seeks::pair_count(sizes);
+    while 0 < left {
+        at = unit(
+            sizes,
+            labels,
+            equations,
+            moves,
+            n,
+            last,
+            next,
+            changes,
+            count,
+            values,
+            marks,
+            stack,
+            at,
+        );
+        left = left_after(sizes, at.block, at.top, left);
+    }
+    at
 }
