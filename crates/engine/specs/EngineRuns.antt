@@ -160,11 +160,10 @@ module _ (m : Model) (cs : List Change) (j : Judged (m .moves) cs) (ok : Sound m
         let k : q ∈ run F L M on n (start F (valOf vs)) .held .queue = subst (λ (s : State). q ∈ s .held .queue) (job-stands n .state) h in
         block-inside (changed cs m) q (queue-block {u = update} (run-at {u = update} (model-finds (changed cs m) ok′) n) q k)
 
-    -- Where nothing waits and no block is left, or four units per pair are spent, the lists are the rule's answer.
-    pub job-answers : (n : ℕ) → ((job n .pile .top ≡ 0) × (m .sizes .blocks ≤ job n .block)) ⊎ (4 * pairsOf (m .sizes) ≤ n)
-        → Answers (changed cs m) (turnAll (changed cs m) cs (valueAt vs)) (job n)
+    -- Where nothing waits and no block is left, or four units per pair are spent, the last unit has been.
+    pub job-enough : (n : ℕ) → ((job n .pile .top ≡ 0) × (m .sizes .blocks ≤ job n .block)) ⊎ (4 * pairsOf (m .sizes) ≤ n) → unitCount F L M (valOf vs) ≤ n
     unfolding units jobOf todoAt
-    job-answers n h = subst (Answers (changed cs m) (turnAll (changed cs m) cs (valueAt vs))) (sym (run-same n)) (machine-answers m cs j ok ok′ vs stack long small room n (enough h))
+    job-enough n h = enough h
       where
         t : Turned
         t = turnAll (changed cs m) cs (valueAt vs)
@@ -176,14 +175,22 @@ module _ (m : Model) (cs : List Change) (j : Judged (m .moves) cs) (ok : Sound m
             (sym (ap (λ (s : State). s .todo) (job-stands n .state))
             ∙ ap (λ (y : ℕ). todoAt F (job n .block) y (job n .settling) (job n .place)) (let e : m .sizes .blocks - job n .block ≡ 0 = omega (arith, k .1) in e))
 
-        enough : ((job n .pile .top ≡ 0) × (m .sizes .blocks ≤ job n .block)) ⊎ (4 * pairsOf (m .sizes) ≤ n) → units m cs j ok ok′ vs stack long small room ≤ n
+        enough : ((job n .pile .top ≡ 0) × (m .sizes .blocks ≤ job n .block)) ⊎ (4 * pairsOf (m .sizes) ≤ n) → unitCount F L M (valOf vs) ≤ n
         enough (inr k) =
+            let e = units-are m cs j ok ok′ vs stack long small room in
             let a = size-le (pairsOf (m .sizes)) (at (t .shifted)) in
             let b = size-le (pairsOf (m .sizes)) (at (t .settled)) in
             omega arith
         enough (inl k) =
-            let e = units-are m cs j ok ok′ vs stack long small room in
             elim (decLt n (unitCount F L M (valOf vs))) [
               | yes l ↦ absurd (fresh k l)
               | no l ↦ omega arith
             ]
+
+    -- Then the lists are the rule's answer.
+    pub job-answers : (n : ℕ) → ((job n .pile .top ≡ 0) × (m .sizes .blocks ≤ job n .block)) ⊎ (4 * pairsOf (m .sizes) ≤ n)
+        → Answers (changed cs m) (turnAll (changed cs m) cs (valueAt vs)) (job n)
+    job-answers n h =
+        let e = units-are m cs j ok ok′ vs stack long small room in
+        let k = job-enough n h in
+        subst (Answers (changed cs m) (turnAll (changed cs m) cs (valueAt vs))) (sym (run-same n)) (machine-answers m cs j ok ok′ vs stack long small room n (omega arith))

@@ -4,3 +4,4 @@ pub mod Jobs
 pub mod TurnLaws
 pub mod UnitLaws
 pub mod Runs
+pub mod Updates

@@ -60,6 +60,8 @@ pub record Ran (m : Model) (cs : List Change) (vs stack : List ℕ) (c : Job) : 
   pub units : ℕ
   pub is : c ≡ jobAfter m cs vs stack units
   pub over : Over m units c
+  pub shifts : c .shiftVisits ≤ 32832 * (4 * pairsOf (m .sizes))
+  pub settles : c .settleVisits ≤ 32832 * (4 * pairsOf (m .sizes))
 
 module _ (m : Model) (cs : List Change) (vs stack : List ℕ) (s : Started m cs vs) (room : pairsOf (m .sizes) ≤ length stack) where
   same-model : changed cs (withMoves (s .old) m) ≡ m
@@ -119,6 +121,8 @@ running-ends m cs vs stack c left r e = record {
   units = r .units;
   is = r .is;
   over = elim (r .spent) [ inl a ↦ inr (omega arith) | inr a ↦ inl (a .1) ];
+  shifts = let a = r .shifts in let b = r .few in omega arith;
+  settles = let a = r .settles in let b = r .few in omega arith;
 }
 
 -- The stack keeps its length.
