@@ -1,5 +1,6 @@
 // The step machine that moves the values: pairs are looked at, wait, and turn. One unit is one look or one turn.
 use rules::Sizes;
+use rules::Visits;
 use visits::Spread;
 ghost use mathlib.Core.Path.{_≡_};
 ghost use mathlib.Core.Logic.{_⊎_};
@@ -21,6 +22,7 @@ ghost use Rattle.engine.specs.Jobs.{jobAs};
 ghost use Rattle.engine.specs.Engine.{unitE};
 ghost use Rattle.engine.specs.UnitLaws.{Ready};
 ghost use Rattle.engine.specs.Runs.{Started, Ran};
+ghost use Rattle.engine.specs.Updates.{Moved};
 
 // Where an update stands: the block, the phase and the pair of the next look, the height of the stack, and the visits.
 pub struct Progress {
@@ -306,4 +308,47 @@ fn run(
         left = left_after(sizes, at.block, at.top, left);
     }
     at
+}
+
+// From values and marks as long as there are pairs to the end of the update, with a stack and chains of its own.
+fn drive(
+    sizes: Sizes,
+    labels: &[u32],
+    equations: &[u32],
+    moves: &[u32],
+    n: usize,
+    changes: &[u32],
+    count: usize,
+    values: &mut [u8],
+    marks: &mut [u8],
+) -> Visits
+    requires { ⌜ Drawn sizes (now labels) (now equations) (now moves) n ⌝ }
+    requires { ⌜ changesOk sizes (changesOf (take count (now changes))) ≡ true ⌝ }
+    requires { ⌜ Started (tableOf sizes (now labels) (now equations) (now moves) n) (changesOf (take count (now changes))) (now values) ⌝ }
+    requires { ⌜ now marks ≡ replicate (pairsOf sizes) 0 ⌝ }
+    ensures { λ r. ⌜ Moved (tableOf sizes (now (labels .entry)) (now (equations .entry)) (now (moves .entry)) n) (changesOf (take count (now (changes .entry)))) (now (values .entry))
+        (now (values .exit)) (now (marks .exit)) (r .shift) (r .settle) ⌝ }
+{
+    let mut last = [0u16; 256];
+    let mut next = [0u16; 1024];
+    let mut stack = [0u16; 8192];
+    chains::index(moves, n, &mut last, &mut next);
+    let at = run(
+        sizes,
+        labels,
+        equations,
+        moves,
+        n,
+        &last,
+        &next,
+        changes,
+        count,
+        values,
+        marks,
+        &mut stack,
+    );
+    Visits {
+        shift: at.shifts as u32,
+        settle: at.settles as u32,
+    }
 }
