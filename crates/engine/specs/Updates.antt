@@ -2,14 +2,14 @@
 use mathlib.Core.Path.{_≡_, refl, sym, ap, ap₂, _∙_, subst, fun-ext}
 use mathlib.Core.Logic.{_⊎_, inl, inr}
 use mathlib.Core.Bool.{Bool, false}
-use mathlib.Core.List.{List, []}
+use mathlib.Core.List.{List, [], _++_}
 use Prim.Native.Nat.{ℕ, _+_, _*_, _≤_, _<_}
 use native.Mathlib.Decide.{decLt}
 use native.Mathlib.Omega.{arith}
-use lib.ListN.{length, getD, take}
-use lib.Seq.{ext-getD, getD-take}
+use lib.ListN.{length, getD, take, drop, replicate, length-replicate}
+use lib.Seq.{ext-getD, getD-take, take-at, drop-append-seam}
 use lib.Dec.{eqb}
-use Rattle.lists.specs.Lists.{bit}
+use Rattle.lists.specs.Lists.{bit, fill}
 use Rattle.lists.specs.Smallest.{at, table}
 use Rattle.lists.specs.TableLaws.{table-at, table-past, listed-is, listed-length, listed-same}
 use Rattle.systems.specs.System as S
@@ -47,6 +47,14 @@ pub record Follows (m : Model) (t : Turned) (values marks : List ℕ) (shift set
   pub marks-are : marks ≡ marksOf (pairsOf (m .sizes)) t
   pub shift-is : shift ≡ visitsOn m (at (t .shifted))
   pub settle-is : settle ≡ visitsOn m (at (t .settled))
+
+-- The same in rooms that may be longer.
+pub record MovedIn (m : Model) (cs : List Change) (values₀ marks₀ values marks : List ℕ) (shift settle : ℕ) : Type 0 where
+  pub part : List ℕ
+  pub part-marks : List ℕ
+  pub moved : Moved m cs (take (pairsOf (m .sizes)) values₀) part part-marks shift settle
+  pub values-are : values ≡ part ++ drop (pairsOf (m .sizes)) values₀
+  pub marks-are : marks ≡ part-marks ++ drop (pairsOf (m .sizes)) marks₀
 
 -- Old values that agree on the pairs lead to the same answer.
 module _ (m : Model) (cs : List Change) (j : Judged (m .moves) cs) (ok : Sound m) (ok′ : Sound (changed cs m)) (v w : Values)
@@ -140,3 +148,28 @@ moved-loads m vs values marks shift settle s start d =
     found p h =
         run-loads m (s .is-sound) vs (d .stack) (s .long) (s .small) (d .room) start (d .ran .units)
         (subst (Over m (d .ran .units)) (d .ran .is) (d .ran .over)) p h
+
+-- The first p places of a room that was cleared so far, and the places past them.
+module _ (p : ℕ) (room cleared : List ℕ) (e : cleared ≡ fill (replicate p 0) room) where
+  abbrev zs : List ℕ
+  zs = replicate p 0
+
+  pub cleared-part : take p cleared ≡ replicate p 0
+  cleared-part = ap (take p) e ∙ take-at zs (drop (length zs) room) p (length-replicate p 0)
+
+  pub cleared-rest : drop p cleared ≡ drop p room
+  cleared-rest =
+      ap (drop p) e ∙ ap (λ (k : ℕ). drop k (fill zs room)) (sym (length-replicate p 0)) ∙ drop-append-seam zs (drop (length zs) room)
+      ∙ ap (λ (k : ℕ). drop k room) (length-replicate p 0)
+
+-- An update of the first places, cut out of their rooms.
+pub moved-in : (m : Model) (cs : List Change) (values₀ marks₀ cleared : List ℕ) (p : ℕ) (values marks : List ℕ) (shift settle : ℕ) → p ≡ pairsOf (m .sizes)
+    → cleared ≡ fill (replicate p 0) marks₀ → Moved m cs (take p values₀) values marks shift settle
+    → MovedIn m cs values₀ marks₀ (values ++ drop p values₀) (marks ++ drop p cleared) shift settle
+moved-in m cs values₀ marks₀ cleared p values marks shift settle is-p e d = record {
+  part = values;
+  part-marks = marks;
+  moved = subst (λ (q : ℕ). Moved m cs (take q values₀) values marks shift settle) is-p d;
+  values-are = ap (λ (q : ℕ). values ++ drop q values₀) is-p;
+  marks-are = ap (λ (l : List ℕ). marks ++ l) (cleared-rest p marks₀ cleared e ∙ ap (λ (q : ℕ). drop q marks₀) is-p);
+}

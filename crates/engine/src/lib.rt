@@ -22,7 +22,7 @@ ghost use Rattle.engine.specs.Jobs.{jobAs};
 ghost use Rattle.engine.specs.Engine.{unitE};
 ghost use Rattle.engine.specs.UnitLaws.{Ready};
 ghost use Rattle.engine.specs.Runs.{Started, Ran};
-ghost use Rattle.engine.specs.Updates.{Moved};
+ghost use Rattle.engine.specs.Updates.{Moved, MovedIn};
 
 // Where an update stands: the block, the phase and the pair of the next look, the height of the stack, and the visits.
 pub struct Progress {
@@ -351,4 +351,38 @@ fn drive(
         shift: at.shifts as u32,
         settle: at.settles as u32,
     }
+}
+
+// The same in rooms that may be longer. The marks are cleared first.
+fn move_values(
+    sizes: Sizes,
+    labels: &[u32],
+    equations: &[u32],
+    moves: &[u32],
+    n: usize,
+    changes: &[u32],
+    count: usize,
+    values: &mut [u8],
+    marks: &mut [u8],
+) -> Visits
+    requires { ⌜ Drawn sizes (now labels) (now equations) (now moves) n ⌝ }
+    requires { ⌜ changesOk sizes (changesOf (take count (now changes))) ≡ true ⌝ }
+    requires { ⌜ Started (tableOf sizes (now labels) (now equations) (now moves) n) (changesOf (take count (now changes))) (take (pairsOf sizes) (now values)) ⌝ }
+    requires { ⌜ (pairsOf sizes ≤ length (now values)) × (pairsOf sizes ≤ length (now marks)) ⌝ }
+    ensures { λ r. ⌜ MovedIn (tableOf sizes (now (labels .entry)) (now (equations .entry)) (now (moves .entry)) n) (changesOf (take count (now (changes .entry))))
+        (now (values .entry)) (now (marks .entry)) (now (values .exit)) (now (marks .exit)) (r .shift) (r .settle) ⌝ }
+{
+    let p = seeks::pair_count(sizes);
+    starts::clear(marks, p);
+    drive(
+        sizes,
+        labels,
+        equations,
+        moves,
+        n,
+        changes,
+        count,
+        &mut values[..p],
+        &mut marks[..p],
+    )
 }
