@@ -1,0 +1,53 @@
+-- Lists of moves in ascending order, and how many of them lie below a number. Definitions, and what they have to do with
+-- each other. Assumes nothing.
+use mathlib.Core.Path.{_≡_, refl, ap, _∙_}
+use mathlib.Core.Logic.{inl, inr}
+use mathlib.Core.Bool.{Bool, true, cond, _&&_}
+use mathlib.Core.List.{List, [], _∷_}
+use Prim.Native.Nat.{ℕ, suc, _+_, _≤_, _<_}
+use native.Mathlib.Omega.{arith}
+use lib.Dec.{ltb, leb}
+use Rattle.lists.specs.Lists.{bit, count}
+use Rattle.lists.specs.Tests.{tell, and-is, leb-is, ltb-is, ltb-no}
+use Rattle.rules.specs.Model.{movesOk}
+use Rattle.rules.specs.declared.Sizes.{Sizes}
+
+-- The list strictly ascends, the first entry from `least` on.
+abbrev pub ascends : ℕ → List ℕ → Bool
+ascends least [] = true
+ascends least (q ∷ l) = leb least q && ascends (suc q) l
+
+-- How many entries lie below the key.
+abbrev pub below : ℕ → List ℕ → ℕ
+below key l = count (λ q. ltb q key) l
+
+-- How many entries, from the first on, lie below the key.
+abbrev pub leading : ℕ → List ℕ → ℕ
+leading key [] = 0
+leading key (q ∷ l) = cond (ltb q key) (suc (leading key l)) 0
+
+-- The moves of a model ascend.
+pub moves-ascend : (z : Sizes) (n : ℕ) (l : List ℕ) → movesOk z n l ≡ true → ascends n l ≡ true
+moves-ascend z n [] h = refl
+moves-ascend z n (q ∷ l) h =
+    let f = simp and-is at h in
+    simp and-is (f .0 .0, moves-ascend z (suc q) l (f .1))
+
+-- Nothing lies below a key that the list starts from.
+pub none-below : (key n : ℕ) (l : List ℕ) → ascends n l ≡ true → key ≤ n → below key l ≡ 0
+none-below key n [] h k = refl
+none-below key n (q ∷ l) h k =
+    let f = simp and-is at h in
+    let g = leb-is n q .0 (f .0) in
+    let e = ltb-no q key .1 (omega arith) in
+    rw (e, none-below key (suc q) l (f .1) (omega arith)) refl
+
+-- In an ascending list the entries below a key stand in front.
+pub leading-below : (key n : ℕ) (l : List ℕ) → ascends n l ≡ true → leading key l ≡ below key l
+leading-below key n [] h = refl
+leading-below key n (q ∷ l) h =
+    let f = simp and-is at h in
+    elim (tell true (ltb q key)) [
+      | inl t ↦ let ih = leading-below key (suc q) l (f .1) in rw t (omega arith)
+      | inr t ↦ let k = ltb-no q key .0 t in let z = none-below key (suc q) l (f .1) (omega arith) in rw t (omega arith)
+    ]
