@@ -1,0 +1,4 @@
+pub mod Tested
+pub mod LabelHeight
+pub mod EquationWalk
+pub mod MoveWalk
