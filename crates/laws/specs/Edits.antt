@@ -231,7 +231,7 @@ passed : (x : Bool) (r : ℕ × ℕ) (o : Option (ℕ × ℕ)) → cond x (some 
 passed true r o e = let z : _≡_ {A = ℕ} 0 1 = cc in absurd (omega arith)
 passed false r o e = (refl, e)
 
-wrong-in : (ms : List ℕ) (at : ℕ) (cs : List Change) → misplaced ms at cs ≡ none → AllAre false (inserts cs) ms × AllAre true (deletes cs) ms
+pub wrong-in : (ms : List ℕ) (at : ℕ) (cs : List Change) → misplaced ms at cs ≡ none → AllAre false (inserts cs) ms × AllAre true (deletes cs) ms
 wrong-in ms at [] e = (tt, tt)
 wrong-in ms at (c ∷ cs) e =
     let u = passed (is (c .insert) (elem (c .move) ms)) _ (misplaced ms (at + 6) cs) e in
@@ -245,7 +245,7 @@ wrong-in ms at (c ∷ cs) e =
     there true e = refl
     there false e = absurd (true≢false e)
 
-repeated-in : (seen : List ℕ) (at : ℕ) (cs : List Change) → repeated seen at cs ≡ none
+pub repeated-in : (seen : List ℕ) (at : ℕ) (cs : List Change) → repeated seen at cs ≡ none
     → Distinct (inserts cs) × Distinct (deletes cs) × ((p : ℕ) → elem p seen ≡ true → (elem p (inserts cs) ≡ false) × (elem p (deletes cs) ≡ false))
 repeated-in seen at [] e = (tt, tt, λ p h. (refl, refl))
 repeated-in seen at (c ∷ cs) e =

@@ -7,9 +7,10 @@ use mathlib.Core.List.{List, [], _∷_}
 use Prim.Native.Nat.{ℕ, suc, _+_, _≤_, _<_}
 use native.Mathlib.Omega.{arith}
 use lib.Dec.{ltb, leb}
-use Rattle.lists.specs.Lists.{bit, count}
-use Rattle.lists.specs.Tests.{tell, and-is, leb-is, ltb-is, ltb-no}
-use Rattle.rules.specs.Model.{movesOk}
+use Rattle.lists.specs.Lists.{bit, count, sumOf}
+use Rattle.lists.specs.Tests.{tell, and-is, and-in, leb-is, ltb-is, ltb-no}
+use Rattle.rules.specs.Moves.{source, action, target}
+use Rattle.rules.specs.Model.{moveOk, movesOk}
 use Rattle.rules.specs.declared.Sizes.{Sizes}
 
 -- The list strictly ascends, the first entry from `least` on.
@@ -51,3 +52,21 @@ leading-below key n (q ∷ l) h =
       | inl t ↦ let ih = leading-below key (suc q) l (f .1) in rw t (omega arith)
       | inr t ↦ let k = ltb-no q key .0 t in let z = none-below key (suc q) l (f .1) (omega arith) in rw t (omega arith)
     ]
+
+-- Sizes that every number up to N is inside of.
+abbrev wide : ℕ → Sizes
+wide N = record { states = suc N; actions = suc N; propositions = 0; variables = 0; blocks = 0 }
+
+in-range : (N n : ℕ) (l : List ℕ) → sumOf (λ q. q) l ≤ N → ascends n l ≡ true → movesOk (wide N) n l ≡ true
+unfolding moveOk
+in-range N n [] k h = refl
+in-range N n (q ∷ l) k h =
+    let f = simp and-is at h in
+    let a : source q < suc N = omega arith in
+    let b : action q < suc N = omega arith in
+    let c : target q < suc N = omega arith in
+    and-in (and-in (f .0) (and-in (and-in (ltb-is _ _ .1 a) (ltb-is _ _ .1 b)) (ltb-is _ _ .1 c))) (in-range N (suc q) l (omega arith) (f .1))
+
+-- An ascending list is the list of moves of some sizes.
+pub some-sizes : (n : ℕ) (l : List ℕ) → ascends n l ≡ true → (z : Sizes) × (movesOk z n l ≡ true)
+some-sizes n l h = (wide (sumOf (λ q. q) l), in-range (sumOf (λ q. q) l) n l (omega arith) h)
