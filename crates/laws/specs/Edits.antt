@@ -180,11 +180,11 @@ abbrev pub AllOk : Sizes → List ℕ → Type 0
 AllOk z [] = Unit {0}
 AllOk z (p ∷ ps) = (moveOk z (source p) (action p) (target p) ≡ true) × AllOk z ps
 
-removeAll-ok : (z : Sizes) (ps l : List ℕ) → movesOk z 0 l ≡ true → movesOk z 0 (removeAll ps l) ≡ true
+pub removeAll-ok : (z : Sizes) (ps l : List ℕ) → movesOk z 0 l ≡ true → movesOk z 0 (removeAll ps l) ≡ true
 removeAll-ok z [] l h = h
 removeAll-ok z (p ∷ ps) l h = remove-ok z 0 p (removeAll ps l) (removeAll-ok z ps l h)
 
-removeAll-elem : (x : ℕ) (ps l : List ℕ) → elem x (removeAll ps l) ≡ (elem x l && not (elem x ps))
+pub removeAll-elem : (x : ℕ) (ps l : List ℕ) → elem x (removeAll ps l) ≡ (elem x l && not (elem x ps))
 removeAll-elem x [] l = go (elem x l)
   where
     go : (a : Bool) → a ≡ (a && true)
@@ -206,7 +206,7 @@ removeAll-sum f z (p ∷ ps) l h d a =
     let s = remove-sum f z 0 p (removeAll ps l) (removeAll-ok z ps l h) e in
     let ih = removeAll-sum f z ps l h (d .1) (a .1) in omega arith
 
-insertAll-elem : (x : ℕ) (ps l : List ℕ) → elem x (insertAll ps l) ≡ (elem x ps || elem x l)
+pub insertAll-elem : (x : ℕ) (ps l : List ℕ) → elem x (insertAll ps l) ≡ (elem x ps || elem x l)
 insertAll-elem x [] l = refl
 insertAll-elem x (p ∷ ps) l = insert-elem x p (insertAll ps l) ∙ rw (insertAll-elem x ps l) (go (eqb x p))
   where

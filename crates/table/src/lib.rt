@@ -95,7 +95,7 @@ pub fn holds_move(moves: &[u32], n: usize, q: u32) -> bool
 }
 
 // The place of the first of the n moves, from `from` on, that does not lie below the key.
-fn passed(moves: &[u32], n: usize, from: usize, key: u64) -> usize
+pub fn passed(moves: &[u32], n: usize, from: usize, key: u64) -> usize
     ensures { λ r. ⌜ r ≡ from + leading key (drop from (take n (now (moves .entry)))) ⌝ }
 {
     let end = least(n, moves.len());
