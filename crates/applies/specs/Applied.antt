@@ -1,22 +1,20 @@
 -- What the code does to the room is what the batch makes of the moves. Assumes nothing.
-use mathlib.Core.Path.{_≡_, refl, sym, ap, ap₂, _∙_, subst}
-use mathlib.Core.Logic.{inl, inr, _≢_}
-use mathlib.Core.Bool.{Bool, true, false, cond, _||_, false≢true, true≢false}
+use mathlib.Core.Path.{_≡_, refl, sym, ap, _∙_, subst}
+use mathlib.Core.Logic.{inl, inr}
+use mathlib.Core.Bool.{true, false, false≢true}
 use mathlib.Core.List.{List, [], _∷_, _++_, append-assoc}
-use Prim.Native.Nat.{ℕ, zero, suc, _+_, _-_, _≤_, _<_}
-use native.Mathlib.Nat.{add-zero}
+use Prim.Native.Nat.{ℕ, suc, _+_, _-_, _≤_, _<_}
 use native.Mathlib.Decide.{decLt}
-use native.Mathlib.Numerals.{add-one}
 use native.Mathlib.Omega.{arith}
 use lib.ListN.{length, getD, take, drop, set, replicate, length-append, length-replicate, take-append-drop}
 use lib.Seq.{take-at, drop-at, set-at, drop-cons, length-take-le}
 use lib.Dec.{eqb, ltb}
 use Rattle.lists.specs.Lists.{elem, fill}
-use Rattle.lists.specs.Tests.{tell, and-is, and-in, leb-is, eqb-is, eqb-no, ltb-is, ltb-no, or-other, or-no}
+use Rattle.lists.specs.Tests.{tell, and-is, leb-is, eqb-is, eqb-no, ltb-is, ltb-no, or-other, or-no}
 use Rattle.rules.specs.Batch.{Change, remove, insert, removeAll, insertAll, inserts, deletes, edited}
 use Rattle.laws.specs.Edits.{AllAre, Distinct, Judged, removeAll-elem, removeAll-ok, insertAll-elem}
 use Rattle.table.specs.Ascending.{ascends, leading, some-sizes, moves-ascend}
-use Rattle.applies.specs.Kept.{Kept, pulled, pushed, pulledIn, pushedIn, removedFrom, insertedInto, deletedBy, insertedBy, deletedAll, insertedAll, appliedTo}
+use Rattle.applies.specs.Kept.{Kept, pulled, pushed, pulledIn, pushedIn, removedFrom, insertedInto, deletedAll, insertedAll, appliedTo}
 
 -- Where a move stands in a list, and the list without it.
 record Found (p : ℕ) (l : List ℕ) : Type 0 where

@@ -1,13 +1,13 @@
 -- A shift entry by entry. Assumes nothing.
-use mathlib.Core.Path.{_≡_, refl, sym, ap, ap₂, _∙_}
-use mathlib.Core.List.{List, [], _∷_, _++_, append-assoc}
+use mathlib.Core.Path.{_≡_, refl, sym, ap, _∙_}
+use mathlib.Core.List.{List, [], append-assoc}
 use Prim.Native.Nat.{ℕ, zero, suc, _+_, _-_, _≤_, _<_}
 use native.Mathlib.Nat.{add-zero}
 use native.Mathlib.Decide.{decLt}
 use native.Mathlib.Numerals.{add-one}
 use native.Mathlib.Omega.{arith}
-use lib.ListN.{length, getD, take, drop, set, drop-of-length-le, take-append-drop}
-use lib.Seq.{take-all, drop-cons, take-suc-set, drop-set-lt, set-out, getD-drop, append-snoc}
+use lib.ListN.{length, getD, drop, set, drop-of-length-le, take-append-drop}
+use lib.Seq.{take-all, drop-cons, take-suc-set, drop-set-lt, set-out, getD-drop}
 use Rattle.applies.specs.Kept.{pulled, pushed, pulledIn, pushedIn}
 
 pulled-nil : (m : ℕ) → pulled m [] ≡ []

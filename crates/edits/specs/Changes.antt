@@ -1,16 +1,15 @@
 -- The changes of a batch as numbers, and how a walk meets them. Assumes nothing.
 use mathlib.Core.Path.{_≡_, refl, ap, _∙_}
 use mathlib.Core.Logic.{inl, inr}
-use mathlib.Core.Bool.{Bool, true, false, cond}
+use mathlib.Core.Bool.{true, cond}
 use mathlib.Core.List.{List, [], _∷_, map}
-use Prim.Native.Nat.{ℕ, suc, _+_, _-_, _/_, _%_, _≤_, _<_, min}
+use Prim.Native.Nat.{ℕ, _+_, _-_, _/_, _%_, _≤_, _<_, min}
 use native.Mathlib.Omega.{arith}
 use lib.ListN.{length, getD, take, drop, length-map, length-take}
 use lib.Dec.{eqb}
 use Rattle.lists.specs.Tests.{tell, eqb-is, eqb-no}
 use Rattle.rules.specs.Moves.{weight, wrap}
 use Rattle.rules.specs.Batch.{Change, inserts, deletes}
-use Rattle.laws.specs.Edits.{carry}
 use Rattle.table.specs.Fronts.{rest-more, rest-less, rest-over}
 
 -- A change as one number: twice the packed move, and 1 more for an insert.

@@ -1,9 +1,9 @@
 -- The length after a batch, by counts; and the whole judgement from what the code finds. Assumes nothing.
 use mathlib.Core.Path.{_≡_, refl, sym, ap, _∙_}
-use mathlib.Core.Bool.{Bool, true, false}
+use mathlib.Core.Bool.{Bool, true}
 use mathlib.Core.List.{List, [], _∷_}
 use mathlib.Core.Option.{Option, none, some}
-use Prim.Native.Nat.{ℕ, suc, _+_, _≤_, min}
+use Prim.Native.Nat.{ℕ, _+_, _≤_, min}
 use native.Mathlib.Decide.{decLe}
 use native.Mathlib.Omega.{arith}
 use lib.ListN.{length}
@@ -12,8 +12,7 @@ use Rattle.lists.specs.Lists.{sumOf}
 use Rattle.lists.specs.Tests.{leb-is, no-way}
 use Rattle.rules.specs.Limits.{most-moves}
 use Rattle.rules.specs.Moves.{stampOf}
-use Rattle.rules.specs.Records.{Outcome, refused, accepted}
-use Rattle.rules.specs.Batch.{Change, Batch, inserts, deletes, edited, repeated, misplaced, unless, firstOf, judgements, judge}
+use Rattle.rules.specs.Batch.{Change, Batch, inserts, deletes, edited, repeated, misplaced, unless, firstOf, judge}
 use Rattle.laws.specs.Edits.{Judged, edited-sum, wrong-in, repeated-in}
 use Rattle.table.specs.Ascending.{ascends, some-sizes}
 use Rattle.edits.specs.Judging.{faultOf, verdictSays, orElse}

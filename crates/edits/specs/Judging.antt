@@ -1,19 +1,14 @@
 -- A batch judged in the order of the code: what is found wrong, and where. Assumes nothing.
-use mathlib.Core.Path.{_≡_, refl, sym, ap, _∙_}
-use mathlib.Core.Logic.{inl, inr}
+use mathlib.Core.Path.{_≡_, refl}
 use mathlib.Core.Bool.{Bool, true, false, not, cond, _&&_, _||_}
-use mathlib.Core.List.{List, [], _∷_, map}
+use mathlib.Core.List.{List, [], _∷_}
 use mathlib.Core.Option.{Option, none, some}
-use Prim.Native.Nat.{ℕ, zero, suc, _+_, _-_, _*_, _/_, _%_, _≤_, _<_, min}
+use Prim.Native.Nat.{ℕ, zero, suc, _+_, _/_, _≤_, _<_, min}
 use native.Mathlib.Numerals.{add-one}
-use native.Mathlib.Omega.{arith}
-use lib.ListN.{length, getD, take, drop}
-use lib.Dec.{eqb, leb}
+use lib.ListN.{length, getD}
 use Rattle.lists.specs.Lists.{is, elem}
-use Rattle.lists.specs.Tests.{tell}
-use Rattle.rules.specs.Limits.{most-moves}
 use Rattle.rules.specs.Records.{Outcome, refused, accepted}
-use Rattle.rules.specs.Batch.{Change, Batch, inserts, deletes, edited, repeated, misplaced, unless, firstOf, judgements, judge}
+use Rattle.rules.specs.Batch.{Change, Batch, repeated, misplaced}
 use Rattle.rules.specs.Answers.{numberOf}
 use Rattle.edits.specs.Changes.{changeOf, changesFrom, changes-more, changes-over}
 use Rattle.edits.specs.declared.Verdict.{Verdict}

@@ -1,9 +1,8 @@
 // The check of a whole session: its counts, its rooms, and whether they hold a model inside the limits.
 ghost use mathlib.Core.Path.{_≡_};
-ghost use mathlib.Core.Bool.{_&&_};
 ghost use mathlib.Core.List.{map};
 ghost use Prim.Native.Nat.{_+_, _<_};
-ghost use lib.ListN.{length, take};
+ghost use lib.ListN.{take};
 ghost use lib.Dec.{leb};
 ghost use Rattle.lists.specs.Lists.{all};
 ghost use Rattle.rules.specs.Limits.{sizesOk};

@@ -1,13 +1,13 @@
 -- Lists of moves in ascending order, and how many of them lie below a number. Definitions, and what they have to do with
 -- each other. Assumes nothing.
-use mathlib.Core.Path.{_≡_, refl, ap, _∙_}
+use mathlib.Core.Path.{_≡_, refl}
 use mathlib.Core.Logic.{inl, inr}
 use mathlib.Core.Bool.{Bool, true, cond, _&&_}
 use mathlib.Core.List.{List, [], _∷_}
-use Prim.Native.Nat.{ℕ, suc, _+_, _≤_, _<_}
+use Prim.Native.Nat.{ℕ, suc, _≤_, _<_}
 use native.Mathlib.Omega.{arith}
 use lib.Dec.{ltb, leb}
-use Rattle.lists.specs.Lists.{bit, count, sumOf}
+use Rattle.lists.specs.Lists.{count, sumOf}
 use Rattle.lists.specs.Tests.{tell, and-is, and-in, leb-is, ltb-is, ltb-no}
 use Rattle.rules.specs.Moves.{source, action, target}
 use Rattle.rules.specs.Model.{moveOk, movesOk}

@@ -1,5 +1,5 @@
 -- First the deletes, then the inserts. Assumes nothing.
-use mathlib.Core.Path.{_≡_, refl, sym, ap, _∙_}
+use mathlib.Core.Path.{ap, _∙_}
 use lib.ListN.{take}
 use Rattle.edits.specs.Changes.{changesOf}
 use Rattle.applies.specs.Kept.{Kept, insertedAll}

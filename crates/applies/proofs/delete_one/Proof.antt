@@ -1,5 +1,4 @@
 -- By whether the change is an insert. Assumes nothing.
-use mathlib.Core.Path.{_≡_, refl, sym, ap, _∙_}
 use borrow.Author.Tests.{eq-eqb, ne-eqb}
 use borrow.Author.Needs.{needs}
 use Rattle.applies.proofs.delete_one.Statement.{statement}

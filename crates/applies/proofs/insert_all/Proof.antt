@@ -2,7 +2,7 @@
 use mathlib.Core.Path.{_≡_, refl, sym, ap, ap₂, _∙_}
 use mathlib.Core.List.{List}
 use Prim.Native.Nat.{ℕ, _≤_, min}
-use lib.ListN.{length, take, drop}
+use lib.ListN.{length}
 use Rattle.rules.specs.Batch.{Change}
 use Rattle.edits.specs.Changes.{changeOf, changesFrom, changes-less, changes-over}
 use Rattle.applies.specs.Kept.{Kept, insertedBy, insertedAll}

@@ -1,12 +1,11 @@
 -- By whether there is room. Assumes nothing.
-use mathlib.Core.Path.{_≡_, refl, sym, ap, _∙_}
-use mathlib.Core.List.{List}
-use Prim.Native.Nat.{ℕ, _+_, _≤_, _<_}
+use mathlib.Core.Path.{ap, _∙_}
+use Prim.Native.Nat.{ℕ, _+_}
 use native.Mathlib.Nat.{zero-add}
 use borrow.Author.Tests.{lt-ltb, le-ltb}
 use lib.ListN.{length, take}
 use Rattle.table.specs.Ascending.{leading}
-use Rattle.applies.specs.Kept.{Kept, pushedIn, insertedInto}
+use Rattle.applies.specs.Kept.{pushedIn, insertedInto}
 use borrow.Author.Needs.{needs}
 use Rattle.applies.proofs.insert_move.Statement.{statement}
 use Rattle.applies.proofs.insert_move.Tie as tie

@@ -1,12 +1,12 @@
 -- By whether a place was found below n. Assumes nothing.
-use mathlib.Core.Path.{_≡_, refl, sym, ap, _∙_}
+use mathlib.Core.Path.{ap, _∙_}
 use mathlib.Core.List.{List}
 use Prim.Native.Nat.{ℕ, _-_, _≤_, _<_}
 use native.Mathlib.Nat.{zero-add}
 use borrow.Author.Tests.{lt-ltb, le-ltb}
 use lib.ListN.{take, set}
 use Rattle.table.specs.Ascending.{leading}
-use Rattle.applies.specs.Kept.{Kept, pulledIn, removedFrom}
+use Rattle.applies.specs.Kept.{pulledIn, removedFrom}
 use borrow.Author.Needs.{needs}
 use native.Mathlib.Omega.{arith}
 use Rattle.applies.proofs.remove_move.Statement.{statement}

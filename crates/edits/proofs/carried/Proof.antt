@@ -1,7 +1,7 @@
 -- A walk from the front: the stamp carried from the start is the stamp carried from here. Assumes nothing.
-use mathlib.Core.Path.{_≡_, refl, sym, ap, _∙_}
-use Prim.Native.Nat.{_-_, _≤_, min}
-use lib.ListN.{length, take, drop}
+use mathlib.Core.Path.{_≡_, refl, sym}
+use Prim.Native.Nat.{_-_}
+use lib.ListN.{take}
 use Rattle.laws.specs.Edits.{carry}
 use Rattle.edits.specs.Changes.{changesOf, changesFrom, changes-more, changes-over}
 use borrow.Author.Needs.{needs}

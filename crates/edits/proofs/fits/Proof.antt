@@ -1,6 +1,6 @@
 -- Inserts and deletes together are the changes, so no count falls below 0. Assumes nothing.
-use mathlib.Core.Path.{_≡_, refl, sym, ap, _∙_}
-use Prim.Native.Nat.{_+_, _-_, _≤_, min}
+use mathlib.Core.Path.{_≡_}
+use Prim.Native.Nat.{_+_, _-_, min}
 use lib.ListN.{length, take, length-take}
 use Rattle.rules.specs.Batch.{inserts, deletes}
 use Rattle.edits.specs.Changes.{changesOf, changes-count}

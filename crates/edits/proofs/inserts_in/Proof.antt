@@ -1,7 +1,7 @@
 -- A walk from the last change to the first. Assumes nothing.
-use mathlib.Core.Path.{_≡_, refl, sym, ap, _∙_}
-use Prim.Native.Nat.{_+_, _-_, _≤_, min}
-use lib.ListN.{length, take, drop}
+use mathlib.Core.Path.{_≡_}
+use Prim.Native.Nat.{_+_, _≤_, min}
+use lib.ListN.{length}
 use Rattle.rules.specs.Batch.{inserts}
 use Rattle.edits.specs.Changes.{changesFrom, changes-less, changes-over, inserts-more}
 use borrow.Author.Needs.{needs}

@@ -1,5 +1,4 @@
 -- Present and inserted, or absent and deleted. Assumes nothing.
-use mathlib.Core.Path.{_≡_, refl, sym, ap, _∙_}
 use lib.Dec.{eqb}
 use lib.ListN.{take}
 use Prim.Native.Nat.{_/_, _%_}

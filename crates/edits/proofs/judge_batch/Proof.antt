@@ -1,5 +1,4 @@
 -- The four questions in their order. Assumes nothing.
-use mathlib.Core.Path.{_≡_, refl, sym, ap, _∙_}
 use lib.ListN.{take}
 use Rattle.edits.specs.Changes.{changesOf}
 use Rattle.edits.specs.Fits.{verdict-judges}

@@ -1,10 +1,10 @@
 -- A walk from the front: what is misplaced from the start is what is misplaced from here. Assumes nothing.
-use mathlib.Core.Path.{_≡_, refl, sym, ap, _∙_}
-use Prim.Native.Nat.{ℕ, _+_, _*_, _-_, _≤_, min}
-use lib.ListN.{length, take, drop}
+use mathlib.Core.Path.{_≡_, refl, sym, _∙_}
+use Prim.Native.Nat.{_+_, _*_, _-_, _≤_}
+use lib.ListN.{take}
 use Rattle.rules.specs.Batch.{misplaced}
-use Rattle.edits.specs.Changes.{changeOf, changesOf, changesFrom}
-use Rattle.edits.specs.Judging.{wrong, misplaced-here, misplaced-on, misplaced-over}
+use Rattle.edits.specs.Changes.{changesOf, changesFrom}
+use Rattle.edits.specs.Judging.{misplaced-here, misplaced-on, misplaced-over}
 use borrow.Author.Needs.{needs}
 use native.Mathlib.Omega.{arith}
 use Rattle.edits.proofs.misplaces.Statement.{statement}

@@ -1,5 +1,5 @@
 -- A walk from the front: the changes passed are the changes seen. Assumes nothing.
-use mathlib.Core.Path.{_≡_, refl, sym, ap, _∙_}
+use mathlib.Core.Path.{_≡_, refl}
 use Prim.Native.Nat.{_-_, _≤_}
 use native.Mathlib.Numerals.{add-one}
 use Rattle.lists.specs.Lists.{elem}

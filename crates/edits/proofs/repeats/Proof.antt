@@ -1,8 +1,8 @@
 -- A walk from the front: what repeats from the start is what repeats from here. Assumes nothing.
-use mathlib.Core.Path.{_≡_, refl, sym, ap, _∙_}
+use mathlib.Core.Path.{_≡_, refl, sym, _∙_}
 use mathlib.Core.List.{[]}
-use Prim.Native.Nat.{ℕ, _+_, _*_, _-_, _≤_, min}
-use lib.ListN.{length, take, drop}
+use Prim.Native.Nat.{_+_, _*_, _-_, _≤_}
+use lib.ListN.{take}
 use Rattle.rules.specs.Batch.{repeated}
 use Rattle.edits.specs.Changes.{changesOf, changesFrom}
 use Rattle.edits.specs.Judging.{seenAt, repeated-here, repeated-on, repeated-over}

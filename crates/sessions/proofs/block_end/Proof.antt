@@ -1,7 +1,6 @@
 -- The walk from the front: where the block ends from the start is where it ends from here. Assumes nothing.
-use mathlib.Core.Path.{_≡_, refl, sym, ap, _∙_}
-use Prim.Native.Nat.{_+_, _-_, _≤_, min}
-use lib.ListN.{length, take, drop}
+use mathlib.Core.Path.{_≡_, refl, sym, _∙_}
+use Prim.Native.Nat.{_+_, _-_}
 use Rattle.lists.specs.Tests.{tests}
 use Rattle.rules.specs.Model.{runOf}
 use Rattle.sessions.specs.EquationWalk.{equationsFrom, block-on, block-over}

@@ -1,5 +1,4 @@
 -- The sizes, and the move count against the limit and the room. Assumes nothing.
-use mathlib.Core.Path.{_≡_, refl, sym, ap, _∙_}
 use Rattle.sessions.specs.Tested.{countsBy}
 use borrow.Author.Needs.{needs}
 use Rattle.sessions.proofs.counts_ok.Statement.{statement}

@@ -3,8 +3,8 @@
 use mathlib.Core.Path.{_≡_, refl, sym, ap, _∙_}
 use mathlib.Core.Bool.{Bool, _&&_}
 use mathlib.Core.List.{map}
-use Prim.Native.Nat.{ℕ, _+_, _-_, _≤_, min}
-use lib.ListN.{length, take, drop}
+use Prim.Native.Nat.{ℕ, _+_, _-_}
+use lib.ListN.{take}
 use Rattle.rules.specs.Model.{equationsOk}
 use Rattle.rules.specs.Session.{unword}
 use Rattle.sessions.specs.EquationWalk.{equationsFrom, equations-turn, equations-over}

@@ -1,5 +1,4 @@
 -- The leading zeros are 32 at most. Assumes nothing.
-use mathlib.Core.Path.{_≡_, refl, sym, ap, _∙_}
 use lib.Count.{leading-le}
 use Rattle.sessions.specs.LabelHeight.{label-height}
 use borrow.Author.Needs.{needs}

@@ -1,5 +1,5 @@
 -- A walk from the last of the n sets to the first. Assumes nothing.
-use mathlib.Core.Path.{_≡_, refl, sym, ap, _∙_}
+use mathlib.Core.Path.{_≡_}
 use Prim.Native.Nat.{_≤_, min}
 use lib.ListN.{length, take, drop}
 use Rattle.lists.specs.Lists.{all}

@@ -1,5 +1,4 @@
 -- The three numbers against their counts. Assumes nothing.
-use mathlib.Core.Path.{_≡_, refl, sym, ap, _∙_}
 use Rattle.rules.specs.Model.{moveOk}
 use borrow.Author.Needs.{needs}
 use Rattle.sessions.proofs.move_ok.Statement.{statement}

@@ -1,8 +1,8 @@
 -- A walk from the front: what is asked of all moves is what was found so far and what is asked of the others. Assumes nothing.
-use mathlib.Core.Path.{_≡_, refl, sym, ap, _∙_}
+use mathlib.Core.Path.{_≡_, refl, sym, _∙_}
 use mathlib.Core.Bool.{_&&_}
-use Prim.Native.Nat.{_-_, _≤_, min}
-use lib.ListN.{length, take, drop}
+use Prim.Native.Nat.{_-_}
+use lib.ListN.{take, drop}
 use Rattle.rules.specs.Model.{movesOk}
 use Rattle.sessions.specs.MoveWalk.{moves-turn, moves-over}
 use borrow.Author.Needs.{needs}

@@ -1,5 +1,5 @@
 -- Each room against what the sizes need. Assumes nothing.
-use mathlib.Core.Path.{_≡_, refl, sym, ap, _∙_}
+use mathlib.Core.Path.{refl}
 use Rattle.rules.specs.Rooms.{roomsOk}
 use borrow.Author.Needs.{needs}
 use Rattle.sessions.proofs.rooms_ok.Statement.{statement}

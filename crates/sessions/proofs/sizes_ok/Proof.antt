@@ -1,5 +1,5 @@
 -- Each size against its limits. Assumes nothing.
-use mathlib.Core.Path.{_≡_, refl, sym, ap, _∙_}
+use mathlib.Core.Path.{refl}
 use Rattle.rules.specs.Limits.{sizesOk}
 use borrow.Author.Needs.{needs}
 use Rattle.sessions.proofs.sizes_ok.Statement.{statement}

@@ -1,5 +1,5 @@
 -- In an ascending list the two walks pass exactly what lies below the two keys. Assumes nothing.
-use mathlib.Core.Path.{_≡_, refl, sym, ap, _∙_}
+use mathlib.Core.Path.{_≡_, ap, _∙_}
 use Prim.Native.Nat.{ℕ, _+_, _*_}
 use native.Mathlib.Nat.{zero-add}
 use lib.ListN.{take, drop}

@@ -1,7 +1,7 @@
 -- The walk from the front: what it passes from the start is what it has passed and what it has still to pass. Assumes nothing.
-use mathlib.Core.Path.{_≡_, refl, sym, ap, _∙_}
-use Prim.Native.Nat.{_+_, _-_, _≤_, min}
-use lib.ListN.{length, take, drop}
+use mathlib.Core.Path.{_≡_, refl, sym, _∙_}
+use Prim.Native.Nat.{_+_, _-_}
+use lib.ListN.{take, drop}
 use Rattle.lists.specs.Tests.{tests}
 use Rattle.table.specs.Ascending.{leading}
 use Rattle.table.specs.Leading.{walk-on, walk-over}

@@ -1,5 +1,5 @@
 -- In an ascending list the walk passes exactly what lies below. Assumes nothing.
-use mathlib.Core.Path.{_≡_, refl, sym, ap, _∙_}
+use mathlib.Core.Path.{_∙_}
 use native.Mathlib.Nat.{zero-add}
 use lib.ListN.{take}
 use Rattle.table.specs.Ascending.{leading-below}

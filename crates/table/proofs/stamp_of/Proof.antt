@@ -1,5 +1,5 @@
 -- A walk from the last of the n moves to the first: the stamp so far is that of the moves passed. Assumes nothing.
-use mathlib.Core.Path.{_≡_, refl, sym, ap, _∙_}
+use mathlib.Core.Path.{_≡_}
 use Prim.Native.Nat.{_≤_, min}
 use lib.ListN.{length, take, drop}
 use Rattle.rules.specs.Moves.{stampOf}

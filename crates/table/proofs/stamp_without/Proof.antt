@@ -1,7 +1,5 @@
 -- The wrapping difference is the sum with what the weight leaves of 2 to the 32nd. Assumes nothing.
-use mathlib.Core.Path.{_≡_, refl, sym, ap, _∙_}
-use Rattle.rules.specs.Moves.{weight}
-use Rattle.table.specs.Stamps.{wrap-less, wrap-small}
+use Rattle.table.specs.Stamps.{wrap-less}
 use borrow.Author.Needs.{needs}
 use native.Mathlib.Omega.{arith}
 use Rattle.table.proofs.stamp_without.Statement.{statement}
