@@ -10,6 +10,7 @@ use lib.ListN.{length, getD, drop, set, drop-of-length-le, take-append-drop}
 use lib.Seq.{take-all, drop-cons, take-suc-set, drop-set-lt, set-out, getD-drop}
 use Rattle.applies.specs.Kept.{pulled, pushed, pulledIn, pushedIn}
 
+-- Of nothing, nothing is shifted.
 pulled-nil : (m : ℕ) → pulled m [] ≡ []
 pulled-nil zero = refl
 pulled-nil (suc m) = refl
@@ -31,6 +32,7 @@ past-push l i end x y h =
     let k : length l ≤ suc i = omega arith in
     rw (set-out l i x h, take-all i l h, take-all (suc i) l k, drop-of-length-le l h, drop-of-length-le l k, pushed-nil (end - suc i) y, pushed-nil (end - i) x) refl
 
+-- Inside the list one entry is stored.
 inside-pull : (l : List ℕ) (i end x : ℕ) → i < length l → i < end → x ≡ getD l (i + 1) 0 → pulledIn (suc i) end (set l i x) ≡ pulledIn i end l
 unfolding pulledIn
 inside-pull l i end x h k e =

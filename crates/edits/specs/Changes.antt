@@ -24,12 +24,15 @@ abbrev pub changesFrom : List ℕ → ℕ → ℕ → List Change
 changesFrom l n i = changesOf (drop i (take n l))
 
 module _ (l : List ℕ) (n i : ℕ) where
+  -- The next change, and the rest.
   pub changes-more : i < min n (length l) → changesFrom l n i ≡ changeOf (getD l i 0) ∷ changesFrom l n (i + 1)
   changes-more h = ap changesOf (rest-more l n i h)
 
+  -- The change before, in front of the rest.
   pub changes-less : 0 < i → i ≤ min n (length l) → changesFrom l n (i - 1) ≡ changeOf (getD l (i - 1) 0) ∷ changesFrom l n i
   changes-less p h = ap changesOf (rest-less l n i p h)
 
+  -- At the end nothing is left.
   pub changes-over : min n (length l) ≤ i → changesFrom l n i ≡ []
   changes-over h = ap changesOf (rest-over l n i h)
 

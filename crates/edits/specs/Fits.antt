@@ -19,6 +19,7 @@ use Rattle.edits.specs.Judging.{faultOf, verdictSays, orElse}
 use Rattle.edits.specs.declared.Verdict.{Verdict}
 use Rattle.edits.specs.declared.Verdict.the-variants as Found
 
+-- A list has as many entries as ones.
 ones : (l : List ℕ) → sumOf (λ q. 1) l ≡ length l
 ones [] = refl
 ones (q ∷ l) = let h = ones l in omega arith
@@ -33,6 +34,7 @@ edited-length ms cs h j =
     let c = ones ms in
     let d = ones (inserts cs) in omega arith
 
+-- Both sides of a test raised by the same number.
 same-test : (a b k d : ℕ) → a + d ≡ b → leb b (k + d) ≡ leb a k
 same-test a b k d e =
     elim (decLe a k) [
@@ -44,10 +46,12 @@ same-test a b k d e =
 abbrev pub fitsBy : ℕ → ℕ → List Change → Bool
 fitsBy room n cs = leb (n + length (inserts cs)) (min most-moves room + length (deletes cs))
 
+-- A verdict says what its fault says.
 first-one : (b : Batch) (v : Verdict) → verdictSays b v ≡ firstOf (faultOf v ∷ []) b
 first-one b (Found.Refused r p) = refl
 first-one b Found.Good = refl
 
+-- The first of two faults decides.
 first-two : (b : Batch) (x o : Option (ℕ × ℕ)) → firstOf (orElse x o ∷ []) b ≡ firstOf (x ∷ o ∷ []) b
 first-two b none o = refl
 first-two b (some r) o = refl

@@ -45,6 +45,7 @@ module _ (l : List ℕ) (n i at : ℕ) where
       → repeated (seenAt l i) at (changesFrom l n i) ≡ repeated (seenAt l (i + 1)) (at + 6) (changesFrom l n (i + 1))
   repeated-on h t = rw (changes-more l n i h, t, add-one i) refl
 
+  -- At the end nothing repeats.
   pub repeated-over : min n (length l) ≤ i → repeated (seenAt l i) at (changesFrom l n i) ≡ none
   repeated-over h = rw (changes-over l n i h) refl
 
@@ -53,14 +54,17 @@ abbrev pub wrong : List ℕ → Change → Bool
 wrong ms c = is (c .insert) (elem (c .move) ms)
 
 module _ (ms l : List ℕ) (n i at : ℕ) where
+  -- A change that is wrong is the first that is.
   pub misplaced-here : i < min n (length l) → wrong ms (changeOf (getD l i 0)) ≡ true
       → misplaced ms at (changesFrom l n i) ≡ some (cond (changeOf (getD l i 0) .insert) 7 8, at)
   misplaced-here h t = rw (changes-more l n i h, t) refl
 
+  -- One that is not is passed.
   pub misplaced-on : i < min n (length l) → wrong ms (changeOf (getD l i 0)) ≡ false
       → misplaced ms at (changesFrom l n i) ≡ misplaced ms (at + 6) (changesFrom l n (i + 1))
   misplaced-on h t = rw (changes-more l n i h, t) refl
 
+  -- At the end nothing is wrong.
   pub misplaced-over : min n (length l) ≤ i → misplaced ms at (changesFrom l n i) ≡ none
   misplaced-over h = rw (changes-over l n i h) refl
 

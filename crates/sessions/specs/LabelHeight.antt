@@ -19,6 +19,7 @@ shorter v m p h k l =
     let b : 2 ^ suc p ≡ 2 ^ p * 2 = pow-suc 2 p in
     omega arith
 
+-- The code's test is the rule's.
 pub label-height : (z : Sizes) (v : ℕ) → v < 4294967296 → leb (32 - leadingZeros 32 v) (z .propositions) ≡ labelOk z v
 unfolding labelOk
 label-height z v h =

@@ -1,4 +1,4 @@
--- The session's check, in the words of the code. Definitions only.
+-- The session's check, in the words of the code. Assumes nothing.
 use mathlib.Core.Path.{_≡_, refl}
 use mathlib.Core.Bool.{Bool, cond, _&&_}
 use mathlib.Core.List.{List, []}
@@ -7,7 +7,7 @@ use lib.ListN.{length}
 use lib.Dec.{eqb, ltb, leb}
 use Rattle.rules.specs.Limits.{most-moves, sizesOk}
 use Rattle.rules.specs.Model.{Equation, Model, operandsOk, namesOk}
-use Rattle.rules.specs.Rooms.{Rooms}
+use Rattle.rules.specs.Rooms.{Rooms, lengthsOf, roomsOk}
 use Rattle.rules.specs.Session.{held, countsOk}
 use Rattle.rules.specs.declared.Sizes.{Sizes}
 use Rattle.rules.specs.declared.Session.{Session}
@@ -20,6 +20,13 @@ countsBy s room = sizesOk (s .sizes) && leb (s .moves) (min most-moves room)
 pub counts-by : (s : Session) (l : Rooms) → countsOk s l ≡ countsBy s (length (l .moves))
 unfolding countsOk countsBy
 counts-by s l = refl
+
+-- 13 does not look at the move room.
+pub rooms-by : (l : Rooms) (z : Sizes)
+    → roomsOk (record { labels = length (l .labels); equations = length (l .equations); values = length (l .values); marks = length (l .marks); moves = 0 }) z
+    ≡ roomsOk (lengthsOf l) z
+unfolding roomsOk
+rooms-by l z = refl
 
 -- The five rooms, and the model that a session holds in three of them.
 abbrev pub roomsOf : List ℕ → List ℕ → List ℕ → List ℕ → List ℕ → Rooms

@@ -57,6 +57,7 @@ leading-below key n (q ∷ l) h =
 abbrev wide : ℕ → Sizes
 wide N = record { states = suc N; actions = suc N; propositions = 0; variables = 0; blocks = 0 }
 
+-- Every move is in range of wide sizes.
 in-range : (N n : ℕ) (l : List ℕ) → sumOf (λ q. q) l ≤ N → ascends n l ≡ true → movesOk (wide N) n l ≡ true
 unfolding moveOk
 in-range N n [] k h = refl

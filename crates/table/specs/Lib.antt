@@ -3,3 +3,4 @@ pub mod Fronts
 pub mod Stamps
 pub mod Leading
 pub mod OwnMoves
+pub mod PartWalk

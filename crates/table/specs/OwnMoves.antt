@@ -11,10 +11,12 @@ use lib.ListN.{take, drop}
 use lib.Dec.{ltb}
 use Rattle.lists.specs.Tests.{tell, and-is, and-in, leb-is, ltb-is, ltb-no, eqb-is, no-way}
 use Rattle.rules.specs.Moves.{pack, source, action, target}
+use Rattle.rules.specs.Model.{movesOk}
 use Rattle.rules.specs.Values.{own, targets}
 use Rattle.rules.specs.declared.State.{State}
 use Rattle.rules.specs.declared.Action.{Action}
-use Rattle.table.specs.Ascending.{ascends, below, none-below}
+use Rattle.rules.specs.declared.Sizes.{Sizes}
+use Rattle.table.specs.Ascending.{ascends, below, moves-ascend, none-below}
 use Rattle.table.specs.declared.Part.{Part}
 
 -- Where the moves of a state with an action begin, and where they end, in an ascending list.
@@ -25,11 +27,13 @@ partOf s a ms = record { from = below (pack s a 0) ms; end = below (pack s (a + 
 abbrev pub within : Part → List ℕ → List ℕ
 within p l = take (p .end - p .from) (drop (p .from) l)
 
+-- The state's moves with the action are the numbers between two keys.
 own-between : (s : State) (a : Action) (q : ℕ) → a .0 < 64 → pack (s .0) (a .0) 0 ≤ q → q < pack (s .0) (a .0 + 1) 0 → own s a q ≡ true
 own-between s a q h l u =
     let e : source q ≡ s .0 = omega arith in
     let f : action q ≡ a .0 = omega arith in and-in (eqb-is _ _ .1 e) (eqb-is _ _ .1 f)
 
+-- And no others are.
 own-back : (s : State) (a : Action) (q : ℕ) → own s a q ≡ true → (pack (s .0) (a .0) 0 ≤ q) × (q < pack (s .0) (a .0 + 1) 0)
 own-back s a q e =
     let f = simp and-is at e in
@@ -37,6 +41,7 @@ own-back s a q e =
     let k = eqb-is (action q) (a .0) .0 (f .1) in (omega arith, omega arith)
 
 module _ (s : State) (a : Action) (low : a .0 < 64) where
+  -- The two keys.
   abbrev first : ℕ
   first = pack (s .0) (a .0) 0
 
@@ -83,3 +88,8 @@ module _ (s : State) (a : Action) (low : a .0 < 64) where
             let y = ltb-no q first .0 t in
             rw (none-below first q (q ∷ l) (and-in (leb-is q q .1 (omega arith)) (f .1)) y, sub-zero) (in-front q (q ∷ l) (and-in (leb-is q q .1 (omega arith)) (f .1)) y)
       ]
+
+-- So it is for the moves of a model.
+pub model-targets : (z : Sizes) (s : State) (a : Action) (ms : List ℕ) → a .0 < 64 → movesOk z 0 ms ≡ true
+    → targets s a ms ≡ map target (within (partOf (s .0) (a .0) ms) ms)
+model-targets z s a ms low h = part-targets s a low 0 ms (moves-ascend z 0 ms h)

@@ -6,6 +6,7 @@ use native.Mathlib.Omega.{arith}
 use Rattle.lists.specs.Lists.{sumOf}
 use Rattle.rules.specs.Moves.{weight, wrap, stampOf}
 
+-- Wrapping in between changes nothing.
 wrap-more : (a w : ℕ) → wrap (wrap a + w) ≡ wrap (w + a)
 wrap-more a w = omega arith
 
@@ -18,5 +19,6 @@ stamp-more q l = wrap-more (sumOf weight l) (weight q)
 pub wrap-less : (r a b : ℕ) → r < 4294967296 → b < 4294967296 → (r + b) % 2 ^ 32 ≡ a → r ≡ wrap (a + (4294967296 - b))
 wrap-less r a b h k e = omega arith
 
+-- What wraps is below 2 to the 32nd.
 pub wrap-small : (a : ℕ) → wrap a < 4294967296
 wrap-small a = omega arith
