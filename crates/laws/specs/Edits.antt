@@ -286,7 +286,7 @@ judge-out room ms b b′ e =
     let n = at-out 10 (leb (length (edited (b .changes) ms)) (min most-moves room)) (a .0 .1 .1 .1 .0) in
     (eqb-is _ _ .0 (at-out 11 (eqb (b .stamp) (stampOf ms)) (a .0 .0)), (r .0, r .1, w .0, w .1), leb-is _ _ .0 n, a .1)
 
--- (c) moves become old less deletes plus inserts, still ascending and in range, with the count and the stamp so carried
+-- Moves become old less deletes plus inserts, still ascending and in range, with the stamp so carried.
 pub edited-ok : (z : Sizes) (ms : List ℕ) (cs : List Change) → Judged ms cs → AllOk z (inserts cs) → movesOk z 0 ms ≡ true → movesOk z 0 (edited cs ms) ≡ true
 unfolding edited
 edited-ok z ms cs j o h =

@@ -135,25 +135,36 @@ one-left {E} {B} {R} says left some uniq = record {
   );
 }
 
--- The four calls.
-pub load-one : (l : Rooms) (bytes : List ℕ) → One loadedSays (load l bytes)
+-- Of each call.
+load-one : (l : Rooms) (bytes : List ℕ) → One loadedSays (load l bytes)
 load-one l bytes =
     one-left loadedSays (load l bytes) (answer loadedSays L.Refused L.Accepted (λ r p. refl) (λ b. refl) (load l bytes .answer) (load-told l bytes))
     (one loadedSays L.Refused L.Accepted (λ r p. refl) (λ b. refl) loaded-back)
 
-pub batch-one : (s : Session) (l : Rooms) (bytes : List ℕ) → One updatedSays (batch s l bytes)
+batch-one : (s : Session) (l : Rooms) (bytes : List ℕ) → One updatedSays (batch s l bytes)
 batch-one s l bytes =
     one-left updatedSays (batch s l bytes) (answer updatedSays U.Refused U.Accepted (λ r p. refl) (λ b. refl) (batch s l bytes .answer) (batch-told s l bytes))
     (one updatedSays U.Refused U.Accepted (λ r p. refl) (λ b. refl) updated-back)
 
-pub write-one : (s : Session) (l : Rooms) (out : List ℕ) → One writtenSays (write s l out)
+write-one : (s : Session) (l : Rooms) (out : List ℕ) → One writtenSays (write s l out)
 write-one s l out =
     one-left writtenSays (write s l out) (answer writtenSays W.Refused W.Accepted (λ r p. refl) (λ b. refl) (write s l out .answer) (write-told s l out))
     (one writtenSays W.Refused W.Accepted (λ r p. refl) (λ b. refl) written-back)
 
-pub ask-one : (s : Session) (values : List ℕ) (here : State) (x : Variable)
+ask-one : (s : Session) (values : List ℕ) (here : State) (x : Variable)
     → ((e : Asked) × (askedSays e ≡ ask s values here x)) × ((a b : Asked) → askedSays a ≡ ask s values here x → askedSays b ≡ ask s values here x → a ≡ b)
 ask-one s values here x = (
   answer askedSays A.Refused A.Accepted (λ r p. refl) (λ b. refl) (ask s values here x) (ask-told s values here x),
   λ a b. one askedSays A.Refused A.Accepted (λ r p. refl) (λ b. refl) asked-back a b (ask s values here x),
 )
+
+-- For every input of each call there is one answer that fits its promise, and one content of every room.
+pub record Outcomes : Type 0 where
+  pub load : (l : Rooms) (bytes : List ℕ) → One loadedSays (load l bytes)
+  pub batch : (s : Session) (l : Rooms) (bytes : List ℕ) → One updatedSays (batch s l bytes)
+  pub write : (s : Session) (l : Rooms) (out : List ℕ) → One writtenSays (write s l out)
+  pub ask : (s : Session) (values : List ℕ) (here : State) (x : Variable)
+      → ((e : Asked) × (askedSays e ≡ ask s values here x)) × ((a b : Asked) → askedSays a ≡ ask s values here x → askedSays b ≡ ask s values here x → a ≡ b)
+
+pub one-outcome : Outcomes
+one-outcome = record { load = load-one; batch = batch-one; write = write-one; ask = ask-one }

@@ -87,7 +87,7 @@ records-w m h =
           (append (equationRecs 0 (m .equations)) _ (equations-w (m .sizes) z 0 0 0 (m .equations) (k .0 .0 .1)) (moves-w (m .sizes) z 0 (m .moves) (k .0 .1))),
     )
 
--- (a) every model inside the limits is accepted where the rooms suffice
+-- Every model inside the limits is accepted where the rooms suffice.
 pub read-accepts : (l : Lengths) (m : Model) → WellFormed m → roomsOk l (m .sizes) ≡ true → length (m .moves) ≤ l .moves → readModel l (encode m) ≡ accepted m
 unfolding readModel
 read-accepts l m h r n = run-written (step l) put last 0 (walks-records l m h r n) (records-w m h)

@@ -321,7 +321,7 @@ module _ (l : Lengths) where
         | inr d ↦ let z : _≡_ {A = ℕ} 0 1 = cc in absurd (omega arith)
       ]
 
-  -- (b) what loads is inside the limits, fits the rooms, and its spelling is the bytes
+  -- What loads is inside the limits, fits the rooms, and its spelling is the bytes.
   pub read-spelling : (s : List ℕ) (m : Model) → AreBytes s → readModel l s ≡ accepted m → WellFormed m × (encode m ≡ s) × (roomsOk l (m .sizes) ≡ true) × (length (m .moves) ≤ l .moves)
   unfolding readModel Good
   read-spelling s m b e =
