@@ -1,0 +1,3 @@
+pub mod Branches
+pub mod AskLaws
+pub mod Checks
