@@ -22,7 +22,7 @@ abbrev pub numbersOk : Sizes → State → Variable → Bool
 numbersOk z here x = ltb (here .0) (z .states) && ltb (x .0) (z .variables)
 
 -- A number over the most is not at most that.
-leb-no : (m n : ℕ) → n < m → leb m n ≡ false
+pub leb-no : (m n : ℕ) → n < m → leb m n ≡ false
 leb-no m n h = no-way (leb m n) (λ e. let k = leb-is m n .0 e in omega arith)
 
 module _ (s : Session) (values : List ℕ) (here : State) (x : Variable) where

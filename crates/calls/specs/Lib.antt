@@ -1,3 +1,5 @@
 pub mod Branches
 pub mod AskLaws
 pub mod Checks
+pub mod WriteLaws
+pub mod BatchLaws
