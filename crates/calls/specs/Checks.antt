@@ -5,7 +5,7 @@ use mathlib.Core.List.{List, [], _∷_}
 use mathlib.Core.Logic.{inl, inr}
 use Prim.Native.Nat.{ℕ}
 use lib.ListN.{length}
-use Rattle.lists.specs.Tests.{tell, and-in}
+use Rattle.lists.specs.Tests.{tell}
 use Rattle.rules.specs.Records.{Outcome, refused, accepted}
 use Rattle.rules.specs.Rooms.{Rooms, Lengths, roomsOk}
 use Rattle.rules.specs.Session.{restOk, sessionDemands}
@@ -13,13 +13,11 @@ use Rattle.rules.specs.Calls.{asked, andThen}
 use Rattle.rules.specs.Answers.{numberOf}
 use Rattle.rules.specs.declared.Refusal.{Refusal}
 use Rattle.rules.specs.declared.Session.{Session}
-use Rattle.laws.specs.SessionHolds.{sessionOk}
-use Rattle.laws.specs.Accepted.{asked-out}
 use Rattle.sessions.specs.Tested.{countsBy, counts-by, rooms-by}
 use Rattle.calls.specs.declared.Checked.{Checked}
 use Rattle.calls.specs.declared.Checked.the-variants as Found
 
--- The lengths that 13 looks at, in the order of the code.
+-- The lengths that 13 looks at: all but that of the move room.
 abbrev pub lengthsNow : Rooms → Lengths
 lengthsNow l =
     record { labels = length (l .labels); equations = length (l .equations); values = length (l .values); marks = length (l .marks); moves = 0 }
@@ -42,6 +40,7 @@ pub asked-then : {B : Type 0} (ds : List (ℕ × Bool)) (o : Outcome B) → aske
 asked-then [] o = refl
 asked-then (d ∷ ds) o = elim (tell true (d .1)) [ inl t ↦ rw t (asked-then ds o) | inr t ↦ rw t refl ]
 
+-- What the three questions come to, each in the words of the function that tests it.
 module _ (s : Session) (l : Rooms) where
   -- 12 where the counts are outside the limits.
   pub check-counts : countsBy s (length (l .moves)) ≡ false → refused 12 0 ≡ checkOf s l
@@ -52,15 +51,17 @@ module _ (s : Session) (l : Rooms) where
     pub check-rooms : roomsOk (lengthsNow l) (s .sizes) ≡ false → refused 13 0 ≡ checkOf s l
     check-rooms b = rw (counts-by s l, a, sym (rooms-by l (s .sizes)), b) refl
 
-    -- 12 where the rest is not as it must be, and nothing where it is.
+    -- 12 where the rest is not as it must be.
     pub check-rest : roomsOk (lengthsNow l) (s .sizes) ≡ true → restOk s l ≡ false → refused 12 0 ≡ checkOf s l
     check-rest b d = rw (counts-by s l, a, sym (rooms-by l (s .sizes)), b, d) refl
 
+    -- Nothing where all three are answered yes.
     pub check-good : roomsOk (lengthsNow l) (s .sizes) ≡ true → restOk s l ≡ true → allWell ≡ checkOf s l
     check-good b d = rw (counts-by s l, a, sym (rooms-by l (s .sizes)), b, d) refl
 
--- What follows the check comes after what it says.
+-- A session that was checked: k is what the check found.
 module _ (s : Session) (l : Rooms) (k : Checked) (h : checkedSays k ≡ checkOf s l) where
+  -- What follows the check comes after what it says.
   pub checked-then : {B : Type 0} (o : Outcome B) → asked (sessionDemands s l) o ≡ andThen (checkedSays k) (λ _. o)
   checked-then o = asked-then (sessionDemands s l) o ∙ ap (λ (w : Outcome (Unit {0})). andThen w (λ _. o)) (sym h)
 
@@ -68,12 +69,6 @@ module _ (s : Session) (l : Rooms) (k : Checked) (h : checkedSays k ≡ checkOf 
   pub checked-stops : {B : Type 0} (o : Outcome B) (why : Refusal) → k ≡ Found.Refused why → asked (sessionDemands s l) o ≡ refused (numberOf why) 0
   checked-stops o why g = checked-then o ∙ ap (λ (c : Checked). andThen (checkedSays c) (λ _. o)) g
 
-  -- Where it finds nothing wrong, the answer is what follows,
+  -- Where the check finds nothing wrong, the answer is what follows.
   pub checked-goes : {B : Type 0} (o : Outcome B) → k ≡ Found.Good → asked (sessionDemands s l) o ≡ o
   checked-goes o g = checked-then o ∙ ap (λ (c : Checked). andThen (checkedSays c) (λ _. o)) g
-
-  -- and the session passes, as a whole and in its last question.
-  pub checked-good : k ≡ Found.Good → (sessionOk s l ≡ true) × (restOk s l ≡ true)
-  checked-good g =
-      let y = asked-out (sessionDemands s l) allWell tt (sym h ∙ ap checkedSays g) in
-      (and-in (and-in (y .0 .0) (y .0 .1 .0)) (y .0 .1 .1 .0), y .0 .1 .1 .0)

@@ -14,10 +14,10 @@ use Rattle.rules.specs.Calls.{Left, writeBy, writable, write}
 use Rattle.rules.specs.Answers.{numberOf}
 use Rattle.rules.specs.declared.Refusal.{Refusal}
 use Rattle.rules.specs.declared.Session.{Session}
-use Rattle.laws.specs.SessionHolds.{session-holds}
 use Rattle.laws.specs.SpellingLength.{labelled, encode-length}
 use Rattle.calls.specs.AskLaws.{leb-no}
-use Rattle.calls.specs.Checks.{checkOf, checkedSays, checked-stops, checked-goes, checked-good}
+use Rattle.calls.specs.Checks.{checkOf, checkedSays, checked-stops, checked-goes}
+use Rattle.calls.specs.Passed.{passed-holds}
 use Rattle.calls.specs.declared.Checked.{Checked}
 use Rattle.calls.specs.declared.Checked.the-variants as Found
 
@@ -40,7 +40,7 @@ module _ (s : Session) (l : Rooms) (out : List ℕ) (k : Checked) (h : checkedSa
     -- The length of the spelling, by the counts.
     pub good-length : length (encode (held s l)) ≡ lengthBy s (l .labels)
     good-length =
-        let w = session-holds s l (checked-good s l k h g .0) in
+        let w = passed-holds s l k h g in
         let e = encode-length (held s l) (w .0) in
         let n = w .1 .count in omega arith
 
