@@ -180,11 +180,11 @@ abbrev pub AllOk : Sizes → List ℕ → Type 0
 AllOk z [] = Unit {0}
 AllOk z (p ∷ ps) = (moveOk z (source p) (action p) (target p) ≡ true) × AllOk z ps
 
-removeAll-ok : (z : Sizes) (ps l : List ℕ) → movesOk z 0 l ≡ true → movesOk z 0 (removeAll ps l) ≡ true
+pub removeAll-ok : (z : Sizes) (ps l : List ℕ) → movesOk z 0 l ≡ true → movesOk z 0 (removeAll ps l) ≡ true
 removeAll-ok z [] l h = h
 removeAll-ok z (p ∷ ps) l h = remove-ok z 0 p (removeAll ps l) (removeAll-ok z ps l h)
 
-removeAll-elem : (x : ℕ) (ps l : List ℕ) → elem x (removeAll ps l) ≡ (elem x l && not (elem x ps))
+pub removeAll-elem : (x : ℕ) (ps l : List ℕ) → elem x (removeAll ps l) ≡ (elem x l && not (elem x ps))
 removeAll-elem x [] l = go (elem x l)
   where
     go : (a : Bool) → a ≡ (a && true)
@@ -206,7 +206,7 @@ removeAll-sum f z (p ∷ ps) l h d a =
     let s = remove-sum f z 0 p (removeAll ps l) (removeAll-ok z ps l h) e in
     let ih = removeAll-sum f z ps l h (d .1) (a .1) in omega arith
 
-insertAll-elem : (x : ℕ) (ps l : List ℕ) → elem x (insertAll ps l) ≡ (elem x ps || elem x l)
+pub insertAll-elem : (x : ℕ) (ps l : List ℕ) → elem x (insertAll ps l) ≡ (elem x ps || elem x l)
 insertAll-elem x [] l = refl
 insertAll-elem x (p ∷ ps) l = insert-elem x p (insertAll ps l) ∙ rw (insertAll-elem x ps l) (go (eqb x p))
   where
@@ -231,7 +231,7 @@ passed : (x : Bool) (r : ℕ × ℕ) (o : Option (ℕ × ℕ)) → cond x (some 
 passed true r o e = let z : _≡_ {A = ℕ} 0 1 = cc in absurd (omega arith)
 passed false r o e = (refl, e)
 
-wrong-in : (ms : List ℕ) (at : ℕ) (cs : List Change) → misplaced ms at cs ≡ none → AllAre false (inserts cs) ms × AllAre true (deletes cs) ms
+pub wrong-in : (ms : List ℕ) (at : ℕ) (cs : List Change) → misplaced ms at cs ≡ none → AllAre false (inserts cs) ms × AllAre true (deletes cs) ms
 wrong-in ms at [] e = (tt, tt)
 wrong-in ms at (c ∷ cs) e =
     let u = passed (is (c .insert) (elem (c .move) ms)) _ (misplaced ms (at + 6) cs) e in
@@ -245,7 +245,7 @@ wrong-in ms at (c ∷ cs) e =
     there true e = refl
     there false e = absurd (true≢false e)
 
-repeated-in : (seen : List ℕ) (at : ℕ) (cs : List Change) → repeated seen at cs ≡ none
+pub repeated-in : (seen : List ℕ) (at : ℕ) (cs : List Change) → repeated seen at cs ≡ none
     → Distinct (inserts cs) × Distinct (deletes cs) × ((p : ℕ) → elem p seen ≡ true → (elem p (inserts cs) ≡ false) × (elem p (deletes cs) ≡ false))
 repeated-in seen at [] e = (tt, tt, λ p h. (refl, refl))
 repeated-in seen at (c ∷ cs) e =

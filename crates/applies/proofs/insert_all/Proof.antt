@@ -1,0 +1,67 @@
+-- A walk from the last change to the first: the room holds what the changes passed have made of it. Assumes nothing.
+use mathlib.Core.Path.{_≡_, refl, sym, ap, ap₂, _∙_}
+use mathlib.Core.List.{List}
+use Prim.Native.Nat.{ℕ, _≤_, min}
+use lib.ListN.{length}
+use Rattle.rules.specs.Batch.{Change}
+use Rattle.edits.specs.Changes.{changeOf, changesFrom, changes-less, changes-over}
+use Rattle.applies.specs.Kept.{Kept, insertedBy, insertedAll}
+use borrow.Author.Needs.{needs}
+use native.Mathlib.Omega.{arith}
+use Rattle.applies.proofs.insert_all.Statement.{statement}
+use Rattle.applies.proofs.insert_all.Tie as tie
+
+abbrev Inv-loop : tie.InvT-loop
+Inv-loop changes count moves₀ n i₀ held₀ moves i held = (i ≤ min count (length changes)) × (length moves ≡ length moves₀) × (_≡_ {A = Kept} (record { moves = moves; count = held }) (insertedAll (changesFrom changes count i) (record { moves = moves₀; count = n })))
+
+abbrev μ-loop : tie.MeasureT-loop
+μ-loop changes count moves₀ n i₀ held₀ moves i held = i
+
+least-requires : tie.Need-least-requires Inv-loop μ-loop
+least-requires c κs = search needs
+
+loop-holds : tie.Need-loop-holds Inv-loop μ-loop
+loop-holds c = let a = c .before .before .before .args in (omega arith, refl, rw (changes-over (a .changes .now) (a .count) (c .least .result) (omega arith)))
+
+sub-i : tie.Need-sub-i Inv-loop μ-loop
+sub-i c = search needs
+
+word-at-requires : tie.Need-word-at-requires Inv-loop μ-loop
+word-at-requires c κs = search needs
+
+insert-one-requires : tie.Need-insert-one-requires Inv-loop μ-loop
+insert-one-requires c κs = search needs
+
+loop-less : tie.Need-loop-less Inv-loop μ-loop
+loop-less c = search needs
+
+loop-again : tie.Need-loop-again Inv-loop μ-loop
+loop-again c = let a = c .before .before .before .before .before .before .before .before .before .before .args in let s = c .before .before .before .before .before .before .loop in
+    let k : Kept = record { moves = a .moves .now; count = a .n } in (
+      omega arith,
+      c .before .before .insert-one .kept .1 .0 ∙ s .inv .1,
+      c .before .before .insert-one .ensures ∙ ap₂ (λ (w : ℕ) (x : Kept). insertedBy (changeOf w) x) (c .before .before .before .before .word-at .ensures) (s .inv .2)
+          ∙ sym (ap (λ (cs : List Change). insertedAll cs k) (changes-less (a .changes .now) (a .count) (s .i) (omega arith) (omega arith))),
+    )
+
+same-length : tie.Need-same-length Inv-loop μ-loop
+same-length c = c .before .loop .inv .1
+
+returns : tie.Need-returns Inv-loop μ-loop
+returns c = let e : c .before .loop .i ≡ 0 = omega arith in rw e at (c .before .loop .inv .2)
+
+pub insert-all-spec : {M : Type 1} → statement M
+insert-all-spec =
+    tie.close
+    (tie.spec
+    Inv-loop
+    μ-loop
+    least-requires
+    loop-holds
+    sub-i
+    word-at-requires
+    insert-one-requires
+    loop-less
+    loop-again
+    same-length
+    returns)

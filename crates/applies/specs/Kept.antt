@@ -1,0 +1,63 @@
+-- The room of the moves and how many of its places are moves; what the code does to them, step by step. Definitions only.
+use mathlib.Core.Bool.{cond}
+use mathlib.Core.List.{List, [], _∷_, _++_}
+use Prim.Native.Nat.{ℕ, zero, suc, _+_, _-_}
+use lib.ListN.{length, getD, take, drop, set}
+use lib.Dec.{ltb}
+use Rattle.rules.specs.Batch.{Change}
+use Rattle.table.specs.Ascending.{leading}
+
+pub record Kept : Type 0 where
+  pub moves : List ℕ
+  pub count : ℕ
+
+-- The first m entries each take the value of the next one.
+abbrev pub pulled : ℕ → List ℕ → List ℕ
+pulled zero l = l
+pulled (suc m) [] = []
+pulled (suc m) (q ∷ l) = getD l 0 0 ∷ pulled m l
+
+-- x is put in front, and the first m entries move on by one place; the last of them is lost.
+abbrev pub pushed : ℕ → ℕ → List ℕ → List ℕ
+pushed zero x l = l
+pushed (suc m) x [] = []
+pushed (suc m) x (q ∷ l) = x ∷ pushed m q l
+
+-- From place `from` to place `end`.
+unfoldable pub pulledIn : ℕ → ℕ → List ℕ → List ℕ
+pulledIn from end l = take from l ++ pulled (end - from) (drop from l)
+
+unfoldable pub pushedIn : ℕ → ℕ → ℕ → List ℕ → List ℕ
+pushedIn from end x l = take from l ++ pushed (end - from) x (drop from l)
+
+-- A move taken out at its place; the place that is freed at the end becomes 0.
+unfoldable pub removedFrom : ℕ → Kept → Kept
+removedFrom p k =
+    let at = leading p (take (k .count) (k .moves)) in
+    cond (ltb at (k .count)) (record { moves = set (pulledIn at (k .count - 1) (k .moves)) (k .count - 1) 0; count = k .count - 1 }) k
+
+-- A move put in at its place, if there is room.
+unfoldable pub insertedInto : ℕ → Kept → Kept
+insertedInto p k =
+    let at = leading p (take (k .count) (k .moves)) in
+    cond (ltb (k .count) (length (k .moves))) (record { moves = pushedIn at (k .count + 1) p (k .moves); count = k .count + 1 }) k
+
+-- One change, where it is a delete, and where it is an insert.
+abbrev pub deletedBy : Change → Kept → Kept
+deletedBy c k = cond (c .insert) k (removedFrom (c .move) k)
+
+abbrev pub insertedBy : Change → Kept → Kept
+insertedBy c k = cond (c .insert) (insertedInto (c .move) k) k
+
+-- All deletes, from the last to the first, and all inserts.
+abbrev pub deletedAll : List Change → Kept → Kept
+deletedAll [] k = k
+deletedAll (c ∷ cs) k = deletedBy c (deletedAll cs k)
+
+abbrev pub insertedAll : List Change → Kept → Kept
+insertedAll [] k = k
+insertedAll (c ∷ cs) k = insertedBy c (insertedAll cs k)
+
+-- All changes: first the deletes, then the inserts.
+abbrev pub appliedTo : List Change → Kept → Kept
+appliedTo cs k = insertedAll cs (deletedAll cs k)

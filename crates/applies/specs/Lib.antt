@@ -1,0 +1,4 @@
+pub mod Kept
+pub mod Shifts
+pub mod OneMove
+pub mod Applied

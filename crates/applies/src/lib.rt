@@ -1,0 +1,112 @@
+// The changes of a batch made in the room of the moves, which stay sorted: first all deletes, then all inserts. Each takes
+// at most as many steps as there are moves.
+ghost use mathlib.Core.Path.{_≡_};
+ghost use lib.ListN.{take};
+ghost use Rattle.edits.specs.Changes.{changeOf, changesOf};
+ghost use Rattle.applies.specs.Kept.{Kept, pulledIn, pushedIn, removedFrom, insertedInto, deletedBy, insertedBy, deletedAll, insertedAll, appliedTo};
+
+// The places from `from` to `end` each take the value of the next one.
+fn pull(moves: &mut [u32], from: usize, end: usize)
+    ensures { λ _. ⌜ now (moves .exit) ≡ pulledIn from end (now (moves .entry)) ⌝ }
+{
+    let mut i = from;
+    while i < end {
+        let next = rooms::word_at(moves, i + 1);
+        rooms::set_word(moves, i, next);
+        i = i + 1;
+    }
+}
+
+// p takes the place `from`, and what stood there to `end` moves on by one place.
+fn push(moves: &mut [u32], from: usize, end: usize, p: u32)
+    ensures { λ _. ⌜ now (moves .exit) ≡ pushedIn from end p (now (moves .entry)) ⌝ }
+{
+    let mut i = from;
+    let mut x = p;
+    while i < end {
+        let y = rooms::word_at(moves, i);
+        rooms::set_word(moves, i, x);
+        x = y;
+        i = i + 1;
+    }
+}
+
+// The move p taken out of the first n; the place that is freed becomes 0. What is left is the number of moves.
+fn remove_move(moves: &mut [u32], n: usize, p: u32) -> usize
+    ensures { λ r. ⌜ _≡_ {A = Kept} (record { moves = now (moves .exit); count = r }) (removedFrom p (record { moves = now (moves .entry); count = n })) ⌝ }
+{
+    let at = table::passed(moves, n, 0, p as u64);
+    if n <= at {
+        return n;
+    }
+    let last = n - 1;
+    pull(moves, at, last);
+    rooms::set_word(moves, last, 0);
+    last
+}
+
+// The move p put in among the first n, if there is room.
+fn insert_move(moves: &mut [u32], n: usize, p: u32) -> usize
+    ensures { λ r. ⌜ _≡_ {A = Kept} (record { moves = now (moves .exit); count = r }) (insertedInto p (record { moves = now (moves .entry); count = n })) ⌝ }
+{
+    if moves.len() <= n {
+        return n;
+    }
+    let at = table::passed(moves, n, 0, p as u64);
+    push(moves, at, n + 1, p);
+    n + 1
+}
+
+// One change, where it is a delete.
+fn delete_one(w: u32, moves: &mut [u32], n: usize) -> usize
+    ensures { λ r. ⌜ _≡_ {A = Kept} (record { moves = now (moves .exit); count = r }) (deletedBy (changeOf w) (record { moves = now (moves .entry); count = n })) ⌝ }
+{
+    if w % 2 == 1 {
+        return n;
+    }
+    remove_move(moves, n, w / 2)
+}
+
+// One change, where it is an insert.
+fn insert_one(w: u32, moves: &mut [u32], n: usize) -> usize
+    ensures { λ r. ⌜ _≡_ {A = Kept} (record { moves = now (moves .exit); count = r }) (insertedBy (changeOf w) (record { moves = now (moves .entry); count = n })) ⌝ }
+{
+    if w % 2 == 1 {
+        return insert_move(moves, n, w / 2);
+    }
+    n
+}
+
+// All deletes, from the last change to the first.
+fn delete_all(changes: &[u32], count: usize, moves: &mut [u32], n: usize) -> usize
+    ensures { λ r. ⌜ _≡_ {A = Kept} (record { moves = now (moves .exit); count = r }) (deletedAll (changesOf (take count (now (changes .entry)))) (record { moves = now (moves .entry); count = n })) ⌝ }
+{
+    let mut i = table::least(count, changes.len());
+    let mut left = n;
+    while 0 < i {
+        i = i - 1;
+        left = delete_one(rooms::word_at(changes, i), moves, left);
+    }
+    left
+}
+
+// All inserts, from the last change to the first.
+fn insert_all(changes: &[u32], count: usize, moves: &mut [u32], n: usize) -> usize
+    ensures { λ r. ⌜ _≡_ {A = Kept} (record { moves = now (moves .exit); count = r }) (insertedAll (changesOf (take count (now (changes .entry)))) (record { moves = now (moves .entry); count = n })) ⌝ }
+{
+    let mut i = table::least(count, changes.len());
+    let mut held = n;
+    while 0 < i {
+        i = i - 1;
+        held = insert_one(rooms::word_at(changes, i), moves, held);
+    }
+    held
+}
+
+// The changes made in the room: the moves become old less deletes plus inserts. What comes back is their number.
+pub fn apply(changes: &[u32], count: usize, moves: &mut [u32], n: usize) -> usize
+    ensures { λ r. ⌜ _≡_ {A = Kept} (record { moves = now (moves .exit); count = r }) (appliedTo (changesOf (take count (now (changes .entry)))) (record { moves = now (moves .entry); count = n })) ⌝ }
+{
+    let left = delete_all(changes, count, moves, n);
+    insert_all(changes, count, moves, left)
+}

@@ -1,0 +1,74 @@
+-- The check of a session, as an outcome, and what the calls that begin with it come to. Assumes nothing.
+use mathlib.Core.Path.{_≡_, refl, sym, ap, _∙_}
+use mathlib.Core.Bool.{Bool, true, false}
+use mathlib.Core.List.{List, [], _∷_}
+use mathlib.Core.Logic.{inl, inr}
+use Prim.Native.Nat.{ℕ}
+use lib.ListN.{length}
+use Rattle.lists.specs.Tests.{tell}
+use Rattle.rules.specs.Records.{Outcome, refused, accepted}
+use Rattle.rules.specs.Rooms.{Rooms, Lengths, roomsOk}
+use Rattle.rules.specs.Session.{restOk, sessionDemands}
+use Rattle.rules.specs.Calls.{asked, andThen}
+use Rattle.rules.specs.Answers.{numberOf}
+use Rattle.rules.specs.declared.Refusal.{Refusal}
+use Rattle.rules.specs.declared.Session.{Session}
+use Rattle.sessions.specs.Tested.{countsBy, counts-by, rooms-by}
+use Rattle.calls.specs.declared.Checked.{Checked}
+use Rattle.calls.specs.declared.Checked.the-variants as Found
+
+-- The lengths that 13 looks at: all but that of the move room.
+abbrev pub lengthsNow : Rooms → Lengths
+lengthsNow l =
+    record { labels = length (l .labels); equations = length (l .equations); values = length (l .values); marks = length (l .marks); moves = 0 }
+
+-- The outcome where nothing is refused and nothing more is answered.
+abbrev pub allWell : Outcome (Unit {0})
+allWell = accepted tt
+
+-- What is asked of a session, with nothing after it.
+abbrev pub checkOf : Session → Rooms → Outcome (Unit {0})
+checkOf s l = asked (sessionDemands s l) allWell
+
+-- What a check says: its refusal, at place 0, or that all is well.
+abbrev pub checkedSays : Checked → Outcome (Unit {0})
+checkedSays (Found.Refused r) = refused (numberOf r) 0
+checkedSays Found.Good = allWell
+
+-- Whatever follows the questions comes after their outcome.
+pub asked-then : {B : Type 0} (ds : List (ℕ × Bool)) (o : Outcome B) → asked ds o ≡ andThen (asked ds allWell) (λ _. o)
+asked-then [] o = refl
+asked-then (d ∷ ds) o = elim (tell true (d .1)) [ inl t ↦ rw t (asked-then ds o) | inr t ↦ rw t refl ]
+
+-- What the three questions come to, each in the words of the function that tests it.
+module _ (s : Session) (l : Rooms) where
+  -- 12 where the counts are outside the limits.
+  pub check-counts : countsBy s (length (l .moves)) ≡ false → refused 12 0 ≡ checkOf s l
+  check-counts a = rw (counts-by s l, a) refl
+
+  module _ (a : countsBy s (length (l .moves)) ≡ true) where
+    -- 13 where a room is too short.
+    pub check-rooms : roomsOk (lengthsNow l) (s .sizes) ≡ false → refused 13 0 ≡ checkOf s l
+    check-rooms b = rw (counts-by s l, a, sym (rooms-by l (s .sizes)), b) refl
+
+    -- 12 where the rest is not as it must be.
+    pub check-rest : roomsOk (lengthsNow l) (s .sizes) ≡ true → restOk s l ≡ false → refused 12 0 ≡ checkOf s l
+    check-rest b d = rw (counts-by s l, a, sym (rooms-by l (s .sizes)), b, d) refl
+
+    -- Nothing where all three are answered yes.
+    pub check-good : roomsOk (lengthsNow l) (s .sizes) ≡ true → restOk s l ≡ true → allWell ≡ checkOf s l
+    check-good b d = rw (counts-by s l, a, sym (rooms-by l (s .sizes)), b, d) refl
+
+-- A session that was checked: k is what the check found.
+module _ (s : Session) (l : Rooms) (k : Checked) (h : checkedSays k ≡ checkOf s l) where
+  -- What follows the check comes after what it says.
+  pub checked-then : {B : Type 0} (o : Outcome B) → asked (sessionDemands s l) o ≡ andThen (checkedSays k) (λ _. o)
+  checked-then o = asked-then (sessionDemands s l) o ∙ ap (λ (w : Outcome (Unit {0})). andThen w (λ _. o)) (sym h)
+
+  -- A refusal of the check is the whole answer.
+  pub checked-stops : {B : Type 0} (o : Outcome B) (why : Refusal) → k ≡ Found.Refused why → asked (sessionDemands s l) o ≡ refused (numberOf why) 0
+  checked-stops o why g = checked-then o ∙ ap (λ (c : Checked). andThen (checkedSays c) (λ _. o)) g
+
+  -- Where the check finds nothing wrong, the answer is what follows.
+  pub checked-goes : {B : Type 0} (o : Outcome B) → k ≡ Found.Good → asked (sessionDemands s l) o ≡ o
+  checked-goes o g = checked-then o ∙ ap (λ (c : Checked). andThen (checkedSays c) (λ _. o)) g

@@ -1,0 +1,86 @@
+// The calls: the question about one pair, whole, and what the other calls ask of a session before anything else.
+ghost use mathlib.Core.Path.{_≡_};
+ghost use Rattle.rules.specs.Values.{pair};
+ghost use Rattle.rules.specs.Calls.{ask};
+ghost use Rattle.rules.specs.Answers.{askedSays};
+ghost use Rattle.sessions.specs.Tested.{roomsOf};
+ghost use Rattle.calls.specs.AskLaws.{numbersOk};
+ghost use Rattle.calls.specs.Checks.{checkOf, checkedSays};
+use rules::Asked;
+use rules::Refusal;
+use rules::Session;
+use rules::Sizes;
+use rules::State;
+use rules::Variable;
+
+// What is found of a session: a refusal, at place 0, or nothing wrong.
+pub enum Checked {
+    Refused(Refusal),
+    Good,
+}
+
+// Whether a state and a variable lie below their counts.
+fn numbers_ok(sizes: Sizes, here: State, x: Variable) -> bool
+    ensures { λ r. ⌜ r ≡ numbersOk sizes here x ⌝ }
+{
+    (here.0 < sizes.states) & (x.0 < sizes.variables)
+}
+
+// The number of the pair of a state and a variable.
+pub fn pair_of(sizes: Sizes, here: State, x: Variable) -> usize
+    ensures { λ r. ⌜ r ≡ pair sizes here x ⌝ }
+{
+    x.0 as usize * sizes.states as usize + here.0 as usize
+}
+
+// The value of one pair. It is refused 12 for the sizes, 13 for the room of the values, 4 for a state or a variable not below
+// its count, and 12 for the one byte read.
+pub fn ask(session: Session, values: &[u8], here: State, x: Variable) -> Asked
+    ensures { λ r. ⌜ askedSays r ≡ ask session (now (values .entry)) here x ⌝ }
+{
+    let sizes = session.sizes;
+    if !sessions::sizes_ok(sizes) {
+        return Asked::Refused(Refusal::NotAModel, 0);
+    }
+    if values.len() < sessions::pairs_of(sizes) {
+        return Asked::Refused(Refusal::ShortRoom, 0);
+    }
+    if !numbers_ok(sizes, here, x) {
+        return Asked::Refused(Refusal::BadNumber, 0);
+    }
+    let v = rooms::byte_at(values, pair_of(sizes, here, x));
+    if 1 < v {
+        return Asked::Refused(Refusal::NotAModel, 0);
+    }
+    Asked::Accepted(v == 1)
+}
+
+// What a batch and a writing ask of a session, in order: 12 for the sizes, 13 for the rooms, 12 for the rest.
+pub fn session_refusal(
+    session: Session,
+    labels: &[u32],
+    equations: &[u32],
+    values: &[u8],
+    marks: &[u8],
+    moves: &[u32],
+) -> Checked
+    ensures { λ r. ⌜ checkedSays r ≡ checkOf session (roomsOf (now (labels .entry)) (now (equations .entry)) (now (values .entry)) (now (marks .entry)) (now (moves .entry))) ⌝ }
+{
+    let sizes = session.sizes;
+    if !sessions::counts_ok(session, moves.len()) {
+        return Checked::Refused(Refusal::NotAModel);
+    }
+    if !sessions::rooms_ok(
+        sizes,
+        labels.len(),
+        equations.len(),
+        values.len(),
+        marks.len(),
+    ) {
+        return Checked::Refused(Refusal::ShortRoom);
+    }
+    if !sessions::rest_ok(session, labels, equations, values, marks, moves) {
+        return Checked::Refused(Refusal::NotAModel);
+    }
+    Checked::Good
+}

@@ -1,0 +1,183 @@
+// The changes of a batch: judged against the moves, made in the room of the moves, and carried into the stamp. A change is
+// one number: twice the packed move, and 1 more for an insert.
+ghost use mathlib.Core.Path.{_≡_};
+ghost use mathlib.Core.Bool.{true, cond};
+ghost use mathlib.Core.List.{[]};
+ghost use mathlib.Core.Option.{some};
+ghost use Prim.Native.Nat.{_+_, _≤_};
+ghost use lib.ListN.{length, take};
+ghost use Rattle.lists.specs.Lists.{elem};
+ghost use Rattle.rules.specs.Moves.{stampOf};
+ghost use Rattle.rules.specs.Batch.{inserts, repeated, misplaced, unless, judge};
+ghost use Rattle.rules.specs.Answers.{numberOf};
+ghost use Rattle.laws.specs.Edits.{carry};
+ghost use Rattle.edits.specs.Changes.{changeOf, changesOf, carriedBy};
+ghost use Rattle.table.specs.Ascending.{ascends};
+ghost use Rattle.edits.specs.Fits.{fitsBy};
+ghost use Rattle.edits.specs.Judging.{faultOf, verdictSays, orElse, seenAt, wrong};
+use rules::Refusal;
+
+// What is found of a batch: a refusal with its place, or nothing wrong.
+pub enum Verdict {
+    Refused(Refusal, usize),
+    Good,
+}
+
+// The stamp carried over one change.
+fn carry_one(stamp: u32, w: u32) -> u32
+    ensures { λ r. ⌜ r ≡ carriedBy stamp (changeOf w) ⌝ }
+{
+    if w % 2 == 1 {
+        return table::stamp_with(stamp, w / 2);
+    }
+    table::stamp_without(stamp, w / 2)
+}
+
+// The stamp carried over the first `count` changes by wrapping add and subtract.
+pub fn carried(stamp: u32, changes: &[u32], count: usize) -> u32
+    ensures { λ r. ⌜ r ≡ carry stamp (changesOf (take count (now (changes .entry)))) ⌝ }
+{
+    let end = table::least(count, changes.len());
+    let mut i: usize = 0;
+    let mut x = stamp;
+    while i < end {
+        x = carry_one(x, rooms::word_at(changes, i));
+        i = i + 1;
+    }
+    x
+}
+
+// Whether one of the changes before place i names the move q.
+fn named_before(changes: &[u32], i: usize, q: u32) -> bool
+    ensures { λ r. ⌜ r ≡ elem q (seenAt (now (changes .entry)) i) ⌝ }
+{
+    let mut j: usize = 0;
+    let mut found = false;
+    while j < i {
+        found = (q == rooms::word_at(changes, j) / 2) | found;
+        j = j + 1;
+    }
+    found
+}
+
+// 9: the first change that names a move again.
+fn repeats(changes: &[u32], count: usize) -> Verdict
+    requires { ⌜ count ≤ 64 ⌝ }
+    ensures { λ r. ⌜ faultOf r ≡ repeated [] 5 (changesOf (take count (now (changes .entry)))) ⌝ }
+{
+    let end = table::least(count, changes.len());
+    let mut i: usize = 0;
+    let mut at: usize = 5;
+    while i < end {
+        if named_before(changes, i, rooms::word_at(changes, i) / 2) {
+            return Verdict::Refused(Refusal::NamedTwice, at);
+        }
+        at = at + 6;
+        i = i + 1;
+    }
+    Verdict::Good
+}
+
+// Whether a change inserts a move that is present, or deletes one that is absent.
+fn is_wrong(w: u32, moves: &[u32], n: usize) -> bool
+    ensures { λ r. ⌜ r ≡ wrong (take n (now (moves .entry))) (changeOf w) ⌝ }
+{
+    let insert = w % 2 == 1;
+    let held = table::holds_move(moves, n, w / 2);
+    (insert & held) | (!insert & !held)
+}
+
+// 7 for an insert, 8 for a delete.
+fn wrong_at(w: u32, at: usize) -> Verdict
+    ensures { λ r. ⌜ faultOf r ≡ some (cond (changeOf w .insert) 7 8, at) ⌝ }
+{
+    if w % 2 == 1 {
+        return Verdict::Refused(Refusal::Present, at);
+    }
+    Verdict::Refused(Refusal::Absent, at)
+}
+
+// 7 or 8: the first change that is wrong.
+fn misplaces(changes: &[u32], count: usize, moves: &[u32], n: usize) -> Verdict
+    requires { ⌜ count ≤ 64 ⌝ }
+    ensures { λ r. ⌜ faultOf r ≡ misplaced (take n (now (moves .entry))) 5 (changesOf (take count (now (changes .entry)))) ⌝ }
+{
+    let end = table::least(count, changes.len());
+    let mut i: usize = 0;
+    let mut at: usize = 5;
+    while i < end {
+        let w = rooms::word_at(changes, i);
+        if is_wrong(w, moves, n) {
+            return wrong_at(w, at);
+        }
+        at = at + 6;
+        i = i + 1;
+    }
+    Verdict::Good
+}
+
+// How many of the first `count` changes are inserts.
+fn inserts_in(changes: &[u32], count: usize) -> usize
+    ensures { λ r. ⌜ (r ≡ length (inserts (changesOf (take count (now (changes .entry)))))) × (r ≤ length (now (changes .entry))) ⌝ }
+{
+    let mut i = table::least(count, changes.len());
+    let mut found: usize = 0;
+    while 0 < i {
+        i = i - 1;
+        found = (rooms::word_at(changes, i) % 2) as usize + found;
+    }
+    found
+}
+
+// Whether the moves still fit the limit and the room, by counts alone.
+fn fits(changes: &[u32], count: usize, moves: &[u32], n: usize, room: usize) -> bool
+    ensures { λ r. ⌜ r ≡ fitsBy room (length (take n (now (moves .entry)))) (changesOf (take count (now (changes .entry)))) ⌝ }
+{
+    let inserted = inserts_in(changes, count);
+    let deleted = table::least(count, changes.len()) - inserted;
+    let held = table::least(n, moves.len());
+    let most = table::least(rules::MOST_MOVES, room);
+    held + inserted <= most + deleted
+}
+
+// The first of two verdicts that finds something wrong.
+fn first_of(one: Verdict, two: Verdict) -> Verdict
+    ensures { λ r. ⌜ faultOf r ≡ orElse (faultOf one) (faultOf two) ⌝ }
+{
+    match one {
+        Verdict::Refused(r, p) => Verdict::Refused(r, p),
+        Verdict::Good => two,
+    }
+}
+
+// A refusal at place 0, unless the test holds.
+fn refused_unless(why: Refusal, test: bool) -> Verdict
+    ensures { λ r. ⌜ faultOf r ≡ unless (numberOf why) test ⌝ }
+{
+    if test {
+        return Verdict::Good;
+    }
+    Verdict::Refused(why, 0)
+}
+
+// A batch that was read, judged against the moves: 11, then 9, then 7 and 8, then 10.
+pub fn judge_batch(
+    changes: &[u32],
+    count: usize,
+    stamp: u32,
+    kept: u32,
+    moves: &[u32],
+    n: usize,
+    room: usize,
+) -> Verdict
+    requires { ⌜ count ≤ 64 ⌝ }
+    requires { ⌜ kept ≡ stampOf (take n (now moves)) ⌝ }
+    requires { ⌜ ascends 0 (take n (now moves)) ≡ true ⌝ }
+    ensures { λ r. ⌜ verdictSays (record { stamp = stamp; changes = changesOf (take count (now (changes .entry))) }) r ≡ judge room (take n (now (moves .entry))) (record { stamp = stamp; changes = changesOf (take count (now (changes .entry))) }) ⌝ }
+{
+    let drawn = refused_unless(Refusal::WrongStamp, stamp == kept);
+    let named = repeats(changes, count);
+    let placed = misplaces(changes, count, moves, n);
+    let small = refused_unless(Refusal::Full, fits(changes, count, moves, n, room));
+    first_of(drawn, first_of(named, first_of(placed, small)))
+}

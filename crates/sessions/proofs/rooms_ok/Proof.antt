@@ -1,0 +1,22 @@
+-- Each room against what the sizes need. Assumes nothing.
+use mathlib.Core.Path.{refl}
+use Rattle.rules.specs.Rooms.{roomsOk}
+use borrow.Author.Needs.{needs}
+use Rattle.sessions.proofs.rooms_ok.Statement.{statement}
+use Rattle.sessions.proofs.rooms_ok.Tie as tie
+
+pairs-of-requires : tie.Need-pairs-of-requires
+pairs-of-requires c κs = search needs
+
+cast-result : tie.Need-cast-result
+cast-result c = search needs
+
+cast-result-2 : tie.Need-cast-result-2
+cast-result-2 c = search needs
+
+returns : tie.Need-returns
+unfolding roomsOk
+returns c = rw (c .before .before .pairs-of .ensures) refl
+
+pub rooms-ok-spec : {M : Type 1} → statement M
+rooms-ok-spec = tie.close (tie.spec pairs-of-requires cast-result cast-result-2 returns)

@@ -1,0 +1,5 @@
+pub mod Tested
+pub mod LabelHeight
+pub mod EquationWalk
+pub mod MoveWalk
+pub mod CheckedMoves

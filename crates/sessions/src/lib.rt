@@ -1,0 +1,255 @@
+// The check of a whole session: its counts, its rooms, and whether they hold a model inside the limits.
+ghost use mathlib.Core.Path.{_≡_};
+ghost use mathlib.Core.List.{map};
+ghost use Prim.Native.Nat.{_+_, _<_};
+ghost use lib.ListN.{take};
+ghost use lib.Dec.{leb};
+ghost use Rattle.lists.specs.Lists.{all};
+ghost use Rattle.rules.specs.Limits.{sizesOk};
+ghost use Rattle.rules.specs.Moves.{source, action, target};
+ghost use Rattle.rules.specs.Model.{labelOk, moveOk, operandsOk, namesOk, runOf, equationsOk, movesOk, wellFormed};
+ghost use Rattle.rules.specs.Rooms.{pairsOf, roomsOk};
+ghost use Rattle.rules.specs.Session.{unword, restOk};
+ghost use Rattle.sessions.specs.Tested.{countsBy, roomsOf, heldIn, goesOn, equationOk};
+ghost use Rattle.sessions.specs.EquationWalk.{equationsFrom};
+use rules::Session;
+use rules::Sizes;
+
+// Whether each size lies inside its limits.
+pub fn sizes_ok(sizes: Sizes) -> bool
+    ensures { λ r. ⌜ r ≡ sizesOk sizes ⌝ }
+{
+    let states = sizes.states as usize;
+    let actions = sizes.actions as usize;
+    let variables = sizes.variables as usize;
+    let blocks = sizes.blocks as usize;
+    ((1 <= states) & (states <= rules::MOST_STATES))
+        & ((1 <= actions) & (actions <= rules::MOST_ACTIONS))
+        & (sizes.propositions as usize <= rules::MOST_PROPOSITIONS)
+        & ((1 <= variables) & (variables <= rules::MOST_VARIABLES))
+        & ((1 <= blocks) & (blocks <= rules::MOST_BLOCKS))
+}
+
+// 12 for the sizes: they and the move count are inside the limits, and the move room holds the moves.
+pub fn counts_ok(session: Session, room: usize) -> bool
+    ensures { λ r. ⌜ r ≡ countsBy session room ⌝ }
+{
+    let sizes = session.sizes;
+    sizes_ok(sizes) & (session.moves as usize <= table::least(rules::MOST_MOVES, room))
+}
+
+// How many pairs there are.
+pub fn pairs_of(sizes: Sizes) -> usize
+    ensures { λ r. ⌜ r ≡ pairsOf sizes ⌝ }
+{
+    sizes.variables as usize * sizes.states as usize
+}
+
+// 13: no room is shorter than the sizes need.
+pub fn rooms_ok(sizes: Sizes, labels: usize, equations: usize, values: usize, marks: usize) -> bool
+    ensures { λ r. ⌜ r ≡ roomsOk (record { labels = labels; equations = equations; values = values; marks = marks; moves = 0 }) sizes ⌝ }
+{
+    let pairs = pairs_of(sizes);
+    (sizes.states as usize <= labels)
+        & (sizes.variables as usize <= equations)
+        & (pairs <= values)
+        & (pairs <= marks)
+}
+
+// Whether the highest proposition of a set lies below the proposition count.
+pub fn label_ok(sizes: Sizes, label: u32) -> bool
+    ensures { λ r. ⌜ r ≡ labelOk sizes label ⌝ }
+{
+    32 - u32::leading_zeros(label) <= sizes.propositions as u32
+}
+
+// Whether each of the first n sets does.
+fn labels_ok(sizes: Sizes, labels: &[u32], n: usize) -> bool
+    ensures { λ r. ⌜ r ≡ all (labelOk sizes) (take n (now (labels .entry))) ⌝ }
+{
+    let mut i = table::least(n, labels.len());
+    let mut ok = true;
+    while 0 < i {
+        i = i - 1;
+        ok = label_ok(sizes, rooms::word_at(labels, i)) & ok;
+    }
+    ok
+}
+
+// Whether none of the first n bytes is over `most`.
+fn bytes_ok(room: &[u8], n: usize, most: u8) -> bool
+    ensures { λ r. ⌜ r ≡ all (λ v. leb v most) (take n (now (room .entry))) ⌝ }
+{
+    let mut i = table::least(n, room.len());
+    let mut ok = true;
+    while 0 < i {
+        i = i - 1;
+        ok = (rooms::byte_at(room, i) <= most) & ok;
+    }
+    ok
+}
+
+// Whether the numbers of a move lie below their counts.
+pub fn move_ok(sizes: Sizes, q: u32) -> bool
+    ensures { λ r. ⌜ r ≡ moveOk sizes (source q) (action q) (target q) ⌝ }
+{
+    let states = sizes.states as u32;
+    (table::source_of(q) < states)
+        & (table::action_of(q) < sizes.actions as u32)
+        & (table::target_of(q) < states)
+}
+
+// Whether the first n moves are in range and ascend.
+fn moves_ok(sizes: Sizes, moves: &[u32], n: usize) -> bool
+    ensures { λ r. ⌜ r ≡ movesOk sizes 0 (take n (now (moves .entry))) ⌝ }
+{
+    let end = table::least(n, moves.len());
+    let mut i: usize = 0;
+    let mut least: u64 = 0;
+    let mut ok = true;
+    while i < end {
+        let q = rooms::word_at(moves, i);
+        ok = ok & ((least <= q as u64) & move_ok(sizes, q));
+        least = (q as u64) + 1;
+        i = i + 1;
+    }
+    ok
+}
+
+// The block number and the kind of an equation.
+fn block_of(w: u32) -> u32
+    ensures { λ r. ⌜ (r ≡ unword w .block) × (r < 128) ⌝ }
+{
+    w / 256 / 256 / 256 / 2
+}
+
+fn kind_of(w: u32) -> u32
+    ensures { λ r. ⌜ r ≡ unword w .kind ⌝ }
+{
+    w / 256 / 256 / 256 % 2
+}
+
+// Whether an equation goes on with the last of b blocks, which has kind k, or begins the next.
+fn goes_on(sizes: Sizes, b: u32, k: u32, w: u32) -> bool
+    ensures { λ r. ⌜ r ≡ goesOn sizes b k (unword w) ⌝ }
+{
+    let block = block_of(w);
+    let kind = kind_of(w);
+    let blocks = sizes.blocks as u32;
+    if block + 1 == b {
+        return kind == k;
+    }
+    (block == b) & (b < blocks) & (kind <= 1)
+}
+
+// Whether the operator is known, what it uses lies below its count, and what it does not use is 0.
+pub fn operands_ok(sizes: Sizes, o: u32, a: u32, b: u32) -> bool
+    ensures { λ r. ⌜ r ≡ operandsOk sizes o a b ⌝ }
+{
+    let actions = sizes.actions as u32;
+    let propositions = sizes.propositions as u32;
+    let variables = sizes.variables as u32;
+    if o < 2 {
+        return (a == 0) & (b == 0);
+    }
+    if o < 4 {
+        return (a < propositions) & (b == 0);
+    }
+    if o < 6 {
+        return (a < variables) & (b < variables);
+    }
+    (o < 8) & (a < actions) & (b < variables)
+}
+
+// Whether the variables that an equation names lie below `end`.
+pub fn names_ok(end: usize, o: u32, a: u32, b: u32) -> bool
+    ensures { λ r. ⌜ r ≡ namesOk end o a b ⌝ }
+{
+    let first = a as usize;
+    let second = b as usize;
+    if o < 4 {
+        return true;
+    }
+    if o < 6 {
+        return (first < end) & (second < end);
+    }
+    second < end
+}
+
+// All that is asked of one equation, after b blocks of which the last has kind k.
+fn equation_ok(sizes: Sizes, b: u32, k: u32, end: usize, w: u32) -> bool
+    ensures { λ r. ⌜ r ≡ equationOk sizes b k end (unword w) ⌝ }
+{
+    let o = w % 256;
+    let first = w / 256 % 256;
+    let second = w / 256 / 256 % 256;
+    goes_on(sizes, b, k, w) & operands_ok(sizes, o, first, second) & names_ok(end, o, first, second)
+}
+
+// The first of the n equations, from `from` on, that does not stand in the block with number b - 1.
+fn block_end(equations: &[u32], n: usize, from: usize, b: u32) -> usize
+    ensures { λ r. ⌜ r ≡ from + runOf b (equationsFrom (now (equations .entry)) n from) ⌝ }
+{
+    let end = table::least(n, equations.len());
+    let mut at = from;
+    while (at < end) & (block_of(rooms::word_at(equations, at)) + 1 == b) {
+        at = at + 1;
+    }
+    at
+}
+
+// Whether the first n equations are those of a model.
+fn equations_ok(sizes: Sizes, equations: &[u32], n: usize) -> bool
+    ensures { λ r. ⌜ r ≡ equationsOk sizes 0 0 0 (map unword (take n (now (equations .entry)))) ⌝ }
+{
+    let last = table::least(n, equations.len());
+    let mut i: usize = 0;
+    let mut b: u32 = 0;
+    let mut k: u32 = 0;
+    let mut ok = true;
+    while i < last {
+        let w = rooms::word_at(equations, i);
+        let next = block_of(w) + 1;
+        let end = block_end(equations, n, i + 1, next);
+        ok = ok & equation_ok(sizes, b, k, end, w);
+        b = next;
+        k = kind_of(w);
+        i = i + 1;
+    }
+    ok & ((i == sizes.variables as usize) & (b == sizes.blocks as u32))
+}
+
+// Whether the rooms hold a model inside the limits.
+pub fn model_ok(session: Session, labels: &[u32], equations: &[u32], moves: &[u32]) -> bool
+    ensures { λ r. ⌜ r ≡ wellFormed (heldIn session (now (labels .entry)) (now (equations .entry)) (now (moves .entry))) ⌝ }
+{
+    let sizes = session.sizes;
+    let states = sizes.states as usize;
+    let count = session.moves as usize;
+    sizes_ok(sizes)
+        & (table::least(states, labels.len()) == states)
+        & labels_ok(sizes, labels, states)
+        & equations_ok(sizes, equations, sizes.variables as usize)
+        & moves_ok(sizes, moves, count)
+        & (table::least(count, moves.len()) <= rules::MOST_MOVES)
+}
+
+// 12 for the rest: the rooms hold a model inside the limits, no value is over 1, no mark over 3, and the stamp is that of
+// the moves.
+pub fn rest_ok(
+    session: Session,
+    labels: &[u32],
+    equations: &[u32],
+    values: &[u8],
+    marks: &[u8],
+    moves: &[u32],
+) -> bool
+    ensures { λ r. ⌜ r ≡ restOk session (roomsOf (now (labels .entry)) (now (equations .entry)) (now (values .entry)) (now (marks .entry)) (now (moves .entry))) ⌝ }
+{
+    let sizes = session.sizes;
+    let pairs = pairs_of(sizes);
+    model_ok(session, labels, equations, moves)
+        & bytes_ok(values, pairs, 1)
+        & bytes_ok(marks, pairs, 3)
+        & (session.stamp == table::stamp_of(moves, session.moves as usize))
+}

@@ -1,0 +1,6 @@
+pub mod Ascending
+pub mod Fronts
+pub mod Stamps
+pub mod Leading
+pub mod OwnMoves
+pub mod PartWalk

@@ -1,0 +1,129 @@
+// The sorted list of packed moves: its stamp, which part of it belongs to a state and an action, and what stands in it.
+ghost use mathlib.Core.Path.{_≡_};
+ghost use mathlib.Core.Bool.{true};
+ghost use Prim.Native.Nat.{_+_, _-_, _<_, min};
+ghost use lib.ListN.{take, drop};
+ghost use Rattle.lists.specs.Lists.{elem};
+ghost use Rattle.rules.specs.Moves.{source, action, target, weight, wrap, stampOf};
+ghost use Rattle.table.specs.Ascending.{ascends, below, leading};
+ghost use Rattle.table.specs.OwnMoves.{partOf};
+
+// A part of the list: the place of its first move, and the place past its last.
+pub struct Part {
+    pub from: usize,
+    pub end: usize,
+}
+
+// The smaller of two numbers.
+pub fn least(a: usize, b: usize) -> usize
+    ensures { λ r. ⌜ r ≡ min a b ⌝ }
+{
+    if a < b {
+        return a;
+    }
+    b
+}
+
+// Source, action and target of a packed move.
+pub fn source_of(m: u32) -> u32
+    ensures { λ r. ⌜ (r ≡ source m) × (r < 65536) ⌝ }
+{
+    m / 65536
+}
+
+pub fn action_of(m: u32) -> u32
+    ensures { λ r. ⌜ (r ≡ action m) × (r < 64) ⌝ }
+{
+    m % 65536 / 1024
+}
+
+pub fn target_of(m: u32) -> u32
+    ensures { λ r. ⌜ (r ≡ target m) × (r < 1024) ⌝ }
+{
+    m % 1024
+}
+
+// What one move adds to the stamp, wrapping.
+pub fn weight_of(m: u32) -> u32
+    ensures { λ r. ⌜ r ≡ wrap (weight m) ⌝ }
+{
+    let w = 65537 * (source_of(m) as u64)
+        + 4099 * (action_of(m) as u64)
+        + 257 * (target_of(m) as u64)
+        + 1;
+    (w % 4294967296) as u32
+}
+
+// The stamp with one move more.
+pub fn stamp_with(stamp: u32, m: u32) -> u32
+    ensures { λ r. ⌜ r ≡ wrap (stamp + weight m) ⌝ }
+{
+    std::num::wrapping_add_u32(stamp, weight_of(m))
+}
+
+// The stamp with one move less.
+pub fn stamp_without(stamp: u32, m: u32) -> u32
+    ensures { λ r. ⌜ r ≡ wrap (stamp + (4294967296 - wrap (weight m))) ⌝ }
+{
+    std::num::wrapping_sub_u32(stamp, weight_of(m))
+}
+
+// The stamp of the first n moves.
+pub fn stamp_of(moves: &[u32], n: usize) -> u32
+    ensures { λ r. ⌜ r ≡ stampOf (take n (now (moves .entry))) ⌝ }
+{
+    let mut i = least(n, moves.len());
+    let mut stamp: u32 = 0;
+    while 0 < i {
+        i = i - 1;
+        stamp = stamp_with(stamp, rooms::word_at(moves, i));
+    }
+    stamp
+}
+
+// Whether q is one of the first n moves.
+pub fn holds_move(moves: &[u32], n: usize, q: u32) -> bool
+    ensures { λ r. ⌜ r ≡ elem q (take n (now (moves .entry))) ⌝ }
+{
+    let mut i = least(n, moves.len());
+    let mut found = false;
+    while 0 < i {
+        i = i - 1;
+        found = (q == rooms::word_at(moves, i)) | found;
+    }
+    found
+}
+
+// The place of the first of the n moves, from `from` on, that does not lie below the key.
+pub fn passed(moves: &[u32], n: usize, from: usize, key: u64) -> usize
+    ensures { λ r. ⌜ r ≡ from + leading key (drop from (take n (now (moves .entry)))) ⌝ }
+{
+    let end = least(n, moves.len());
+    let mut at = from;
+    while (at < end) & ((rooms::word_at(moves, at) as u64) < key) {
+        at = at + 1;
+    }
+    at
+}
+
+// The place of the first of the n moves that is not below q.
+pub fn place_of(moves: &[u32], n: usize, q: u32) -> usize
+    requires { ⌜ ascends 0 (take n (now moves)) ≡ true ⌝ }
+    ensures { λ r. ⌜ r ≡ below q (take n (now (moves .entry))) ⌝ }
+{
+    passed(moves, n, 0, q as u64)
+}
+
+// Which part of the first n moves belongs to a state and an action, walked from the front.
+pub fn part_of(moves: &[u32], n: usize, source: u32, action: u32) -> Part
+    requires { ⌜ ascends 0 (take n (now moves)) ≡ true ⌝ }
+    ensures { λ r. ⌜ r ≡ partOf source action (take n (now (moves .entry))) ⌝ }
+{
+    let first = 65536 * (source as u64) + 1024 * (action as u64);
+    let from = passed(moves, n, 0, first);
+    let end = passed(moves, n, from, first + 1024);
+    Part {
+        from: from,
+        end: end,
+    }
+}
