@@ -1,17 +1,19 @@
 // A model on the wire, judged record by record.
 ghost use mathlib.Core.Path.{_≡_};
 ghost use Prim.Native.Nat.{_+_, _≤_, _<_};
-ghost use Rattle.rules.specs.Load.{inside, go, labelDemands, blockDemands, equationDemands, moveDemands, endDemands, afterLabel, afterBlock, afterEquation, afterMove, step, blockFits, movesDue};
+ghost use Rattle.rules.specs.Load.{before, inside, started, readModel, go, labelDemands, blockDemands, equationDemands, moveDemands, endDemands, afterLabel, afterBlock, afterEquation, afterMove, step, blockFits, movesDue};
 ghost use Rattle.rules.specs.Moves.{pack};
 ghost use Rattle.rules.specs.Records.{demand, over, numbersOf};
 ghost use Rattle.limits.specs.Lent.{lengthsBy};
 ghost use Rattle.judge.specs.Progress.{sofarOf, judgedSays, Kept};
+ghost use Rattle.judge.specs.Turning.{readSays, summary, from, endTurn, Turned};
 use limits::Lent;
 use rules::Move;
 use rules::Record;
 use rules::Refusal;
 use rules::Sizes;
 use rules::State;
+use wire::Read;
 
 // Of the blocks so far: how many records, the kind of the last, how many of its equations are still due, and how many
 // equations there were in all.
@@ -205,5 +207,115 @@ pub fn judge_record(l: Lent, x: Progress, rec: Record) -> Judged
         Record::Move(m) => on_move(l, x, m),
         Record::End => on_end(x),
         _ => Judged::Refused(Refusal::NotDue),
+    }
+}
+
+// What reading a model comes to: a refusal with its place, or the sizes and the number of moves.
+pub enum ReadModel {
+    Refused(Refusal, usize),
+    Good(Sizes, u32),
+}
+
+// One record read and judged: the end of the reading, or the record, what has been read with it, and the next place.
+pub enum OneTurn {
+    Stop(ReadModel),
+    Go(Record, Progress, usize),
+}
+
+// After the end record: any byte is not due.
+fn at_end(x: Progress, next: usize, len: usize) -> OneTurn
+    ensures { λ r. ⌜ r ≡ endTurn x next len ⌝ }
+{
+    let z = x.sizes;
+    if next < len {
+        return OneTurn::Stop(ReadModel::Refused(Refusal::NotDue, next));
+    }
+    OneTurn::Stop(ReadModel::Good(z, x.moves.count))
+}
+
+// The record at a place, read and judged.
+pub fn turn(bytes: &[u8], l: Lent, x: Progress, at: usize) -> OneTurn
+    requires { ⌜ Kept (sofarOf x) ⌝ }
+    ensures { λ r. ⌜ Turned (lengthsBy l) (now (bytes .entry)) (inside (sofarOf x)) at r ⌝ }
+{
+    let read = wire::read_record(bytes, at);
+    let Read::Got(rec, next) = read else {
+        return OneTurn::Stop(ReadModel::Refused(Refusal::Broken, at));
+    };
+    let judged = judge_record(l, x, rec);
+    match judged {
+        Judged::Refused(e) => OneTurn::Stop(ReadModel::Refused(e, at)),
+        Judged::Next(y) => OneTurn::Go(rec, y, next),
+        Judged::Over => at_end(x, next, bytes.len()),
+    }
+}
+
+// What has been read after a sizes record.
+fn started_with(z: Sizes) -> Progress
+    ensures { λ r. ⌜ sofarOf r ≡ started z ⌝ }
+{
+    Progress {
+        sizes: z,
+        labels: 0,
+        blocks: BlocksRead {
+            count: 0,
+            kind: 0,
+            due: 0,
+            equations: 0,
+        },
+        moves: MovesRead { count: 0, least: 0 },
+    }
+}
+
+// The first record: the sizes, inside their limits, and no room shorter than they need.
+pub fn first_turn(bytes: &[u8], l: Lent) -> OneTurn
+    ensures { λ r. ⌜ Turned (lengthsBy l) (now (bytes .entry)) before 0 r ⌝ }
+{
+    let read = wire::read_record(bytes, 0);
+    let Read::Got(rec, next) = read else {
+        return OneTurn::Stop(ReadModel::Refused(Refusal::Broken, 0));
+    };
+    let Record::Sizes(z) = rec else {
+        return OneTurn::Stop(ReadModel::Refused(Refusal::NotDue, 0));
+    };
+    if !limits::sizes_ok(z) {
+        return OneTurn::Stop(ReadModel::Refused(Refusal::BadSize, 0));
+    }
+    if !limits::rooms_ok(l, z) {
+        return OneTurn::Stop(ReadModel::Refused(Refusal::ShortRoom, 0));
+    }
+    OneTurn::Go(rec, started_with(z), next)
+}
+
+// The records after the sizes.
+fn judge_rest(bytes: &[u8], l: Lent, x: Progress, start: usize) -> ReadModel
+    requires { ⌜ Kept (sofarOf x) ⌝ }
+    ensures { λ r. ⌜ readSays r ≡ from (lengthsBy l) (now (bytes .entry)) (inside (sofarOf x)) start ⌝ }
+{
+    let mut p = x;
+    let mut at = start;
+    while at < bytes.len() {
+        let t = turn(bytes, l, p, at);
+        match t {
+            OneTurn::Stop(a) => {
+                return a;
+            }
+            OneTurn::Go(_, y, n) => {
+                p = y;
+                at = n;
+            }
+        }
+    }
+    ReadModel::Refused(Refusal::Broken, at)
+}
+
+// The whole model: what loading it would say, before anything is stored.
+pub fn judge_model(bytes: &[u8], l: Lent) -> ReadModel
+    ensures { λ r. ⌜ readSays r ≡ summary (readModel (lengthsBy l) (now (bytes .entry))) ⌝ }
+{
+    let t = first_turn(bytes, l);
+    match t {
+        OneTurn::Stop(a) => a,
+        OneTurn::Go(_, y, n) => judge_rest(bytes, l, y, n),
     }
 }
