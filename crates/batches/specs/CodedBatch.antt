@@ -1,8 +1,8 @@
 -- Where a batch is accepted, the numbers put down are its changes. Assumes nothing.
 use mathlib.Core.Path.{_≡_, refl, sym, ap, _∙_}
 use mathlib.Core.Logic.{inl, inr}
-use mathlib.Core.Bool.{Bool, true, false, cond}
-use mathlib.Core.List.{List, [], _∷_, map}
+use mathlib.Core.Bool.{true}
+use mathlib.Core.List.{List, [], map}
 use Prim.Native.Nat.{ℕ, suc, _+_, _*_}
 use native.Mathlib.Omega.{arith}
 use lib.Dec.{eqb}
@@ -13,7 +13,7 @@ use Rattle.rules.specs.Batch.{Batch, Change, Place, first, after, stepBatch, pu
 use Rattle.rules.specs.Limits.{sizesOk}
 use Rattle.rules.specs.Model.{moveOk}
 use Rattle.rules.specs.Moves.{source, action, target}
-use Rattle.rules.specs.Records.{Rec, Parts, ends, broken, part, parts, Turn, no, next, over, demand, accepted, onto, atEnd, onTurn, run}
+use Rattle.rules.specs.Records.{Rec, Parts, ends, broken, part, parts, Turn, no, next, over, demand, accepted, atEnd, onTurn, run}
 use Rattle.rules.specs.declared.Sizes.{Sizes}
 use Rattle.laws.specs.RecordLaws.{judged, un-onto, never}
 use Rattle.laws.specs.Walks.{small}

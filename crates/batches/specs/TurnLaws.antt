@@ -1,7 +1,7 @@
 -- One turn of the reading of a batch, by the record at the place. Assumes nothing.
-use mathlib.Core.Path.{_≡_, refl, sym, ap, _∙_}
+use mathlib.Core.Path.{_≡_, refl, sym, _∙_}
 use mathlib.Core.Logic.{inl, inr}
-use mathlib.Core.Bool.{Bool, true, false, cond}
+use mathlib.Core.Bool.{true, false, cond}
 use mathlib.Core.List.{List, [], _∷_}
 use Prim.Native.Nat.{ℕ, suc, _+_, _≤_, _<_}
 use native.Mathlib.Omega.{arith}
@@ -14,11 +14,11 @@ use denote.Enum.Declared.{tagOf}
 use borrow.Author.Tests.{lt-ltb, le-ltb}
 use Rattle.lists.specs.Tests.{tell, ltb-is}
 use Rattle.rules.proofs.Record.{the-type}
-use Rattle.rules.specs.Batch.{Batch, Place, first, after, stepBatch, putBatch, emptyBatch, readBatch}
+use Rattle.rules.specs.Batch.{Batch, first, after, stepBatch, putBatch, emptyBatch, readBatch}
 use Rattle.rules.specs.Limits.{most-changes}
 use Rattle.rules.specs.Model.{moveOk}
 use Rattle.rules.specs.Moves.{pack}
-use Rattle.rules.specs.Records.{Rec, Parts, ends, broken, part, parts, Turn, no, next, over, Outcome, refused, accepted, onto, atEnd, run, numbersOf}
+use Rattle.rules.specs.Records.{Rec, ends, broken, no, next, Outcome, refused, accepted, onto, atEnd, run, numbersOf}
 use Rattle.rules.specs.declared.Move.{Move}
 use Rattle.rules.specs.declared.Record.{Record}
 use Rattle.rules.specs.declared.Record.the-variants as R
@@ -30,7 +30,7 @@ use Rattle.wire.specs.PartsAt.{partsAt, PartsBy, parts-at}
 use Rattle.wire.specs.Places.{recordAt}
 use Rattle.wire.specs.declared.Read.{Read}
 use Rattle.wire.specs.declared.Read.the-variants.{Got, Broken}
-use Rattle.batches.specs.Reading.{codeOf, changeTurn, endTurn, Summary, summaryAfter, summary, batchSays, readOn, from, codesBy, codesFrom, codesOf, Goes, Turned, ReadInto}
+use Rattle.batches.specs.Reading.{codeOf, changeTurn, endTurn, summaryAfter, summary, batchSays, readOn, from, codesBy, codesFrom, codesOf, Goes, Turned, ReadInto}
 use Rattle.batches.specs.declared.ReadBatch.{ReadBatch}
 use Rattle.batches.specs.declared.ChangeTurn.the-variants as T
 use Rattle.batches.specs.declared.ReadBatch.the-variants as B

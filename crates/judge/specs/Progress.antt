@@ -1,5 +1,5 @@
 -- What the code holds of a model half read, as the rules have it. Definitions only.
-use Prim.Native.Nat.{ℕ, _+_, _≤_}
+use Prim.Native.Nat.{_+_, _≤_}
 use Rattle.rules.specs.Answers.{numberOf}
 use Rattle.rules.specs.Load.{Sofar, State, inside}
 use Rattle.rules.specs.Records.{Turn, no, next, over}

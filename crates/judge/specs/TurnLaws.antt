@@ -1,8 +1,8 @@
 -- One turn of the reading, by what the record at the place is and how it was judged. Assumes nothing.
-use mathlib.Core.Path.{_≡_, refl, sym, ap, _∙_, subst}
-use mathlib.Core.Logic.{_⊎_, inl, inr}
-use mathlib.Core.Bool.{Bool, true, false, cond}
-use mathlib.Core.List.{List, [], _∷_, _++_}
+use mathlib.Core.Path.{_≡_, refl, sym, _∙_}
+use mathlib.Core.Logic.{inl, inr}
+use mathlib.Core.Bool.{Bool, true, cond}
+use mathlib.Core.List.{List, [], _∷_}
 use Prim.Native.Nat.{ℕ, suc, _+_, _≤_, min}
 use native.Mathlib.Omega.{arith}
 use lib.Dec.{ltb}
@@ -12,13 +12,13 @@ use types.Run.{OneOf, miss}
 use denote.Enum.Declared.{tagOf}
 use Rattle.rules.proofs.Record.{the-type}
 use Rattle.rules.specs.declared.Sizes.{Sizes}
-use Rattle.lists.specs.Tests.{tests, tell, and-is, ltb-is, leb-is, eqb-is}
+use Rattle.lists.specs.Tests.{tests, tell, and-is, ltb-is, leb-is}
 use Rattle.rules.specs.Answers.{numberOf}
 use Rattle.rules.specs.Limits.{most-moves, sizesOk}
 use Rattle.rules.specs.Load.{Sofar, State, before, inside, started, step, put, last, labelDemands, blockDemands, equationDemands, moveDemands, endDemands, sizesDemands, sizesOf, afterLabel, afterBlock, afterEquation, afterMove, blockFits}
 use Rattle.rules.specs.Moves.{pack}
 use Rattle.rules.specs.Model.{Model}
-use Rattle.rules.specs.Records.{Rec, Parts, ends, broken, part, partsFrom, Rec, Turn, no, next, over, demand, Outcome, refused, accepted, onto, atEnd, onTurn, run, numbersOf}
+use Rattle.rules.specs.Records.{Rec, Parts, ends, broken, part, Turn, no, next, over, demand, Outcome, refused, accepted, onto, atEnd, run, numbersOf}
 use Rattle.rules.specs.Rooms.{Lengths}
 use Rattle.rules.specs.declared.State as Of
 use Rattle.rules.specs.declared.Move.{Move}
@@ -34,7 +34,7 @@ use Rattle.wire.specs.declared.Read.{Read}
 use Rattle.wire.specs.declared.Read.the-variants.{Got, Broken}
 use Rattle.judge.specs.Demands.{Fails, Meets, raised, fails, meets}
 use Rattle.judge.specs.Progress.{sofarOf, Kept}
-use Rattle.judge.specs.Turning.{Summary, summaryAfter, readSays, movesOf, readOn, from, endTurn, Goes, Stops, Turned}
+use Rattle.judge.specs.Turning.{summaryAfter, readSays, readOn, from, endTurn, Goes, Stops, Turned}
 use Rattle.judge.specs.declared.Progress.{Progress}
 use Rattle.judge.specs.declared.ReadModel.the-variants as M
 use Rattle.judge.specs.declared.OneTurn.the-variants as T

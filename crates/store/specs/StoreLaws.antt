@@ -1,11 +1,11 @@
 -- Storing record by record leaves the model that the reading accepts. Assumes nothing.
 use mathlib.Core.Path.{_≡_, refl, sym, ap, _∙_}
 use mathlib.Core.Logic.{inl, inr}
-use mathlib.Core.List.{List, [], _∷_, _++_, append-assoc, map}
+use mathlib.Core.List.{List, [], _∷_, append-assoc, map}
 use Prim.Native.Nat.{ℕ, zero, suc, _+_, _-_, _≤_, _<_}
-use native.Mathlib.Nat.{zero-add, not-suc-le-zero}
+use native.Mathlib.Nat.{zero-add}
 use native.Mathlib.Omega.{arith}
-use lib.ListN.{length, getD, set, take, drop, replicate, length-replicate, length-map}
+use lib.ListN.{length, getD, set, replicate, length-replicate, length-map}
 use lib.Seq.{sets, sets-eq}
 use types.Run.{OneOf, miss}
 use denote.Enum.Declared.{tagOf}
@@ -14,9 +14,9 @@ use Rattle.rules.specs.declared.Record.the-variants as R
 use Rattle.lists.specs.Lists.{fill}
 use Rattle.lists.specs.Tests.{tests, and-is, leb-is, eqb-is}
 use Rattle.rules.specs.Load.{Sofar, State, before, inside, started, step, put, last, sizesDemands, sizesOf, readModel}
-use Rattle.rules.specs.Model.{Model, moveOk, wellFormed, WellFormed}
+use Rattle.rules.specs.Model.{Model, moveOk, wellFormed}
 use Rattle.rules.specs.Moves.{pack, wrap}
-use Rattle.rules.specs.Records.{Rec, Parts, ends, broken, part, Turn, no, next, over, Outcome, refused, accepted, onto, onTurn, atEnd, run, numbersOf}
+use Rattle.rules.specs.Records.{Parts, ends, broken, part, Turn, no, next, over, Outcome, refused, accepted, onto, onTurn, atEnd, run, numbersOf}
 use Rattle.rules.specs.Rooms.{Lengths, roomsOk}
 use Rattle.rules.specs.Session.{word}
 use Rattle.rules.specs.declared.Record.{Record}
@@ -24,7 +24,7 @@ use Rattle.laws.specs.RecordLaws.{AreBytes, judged, un-onto, never}
 use Rattle.laws.specs.ReadSpells.{read-spelling}
 use Rattle.laws.specs.Walks.{eq-count}
 use Rattle.wire.specs.PartsAt.{partsAt}
-use Rattle.wire.specs.Written.{sets-append}
+use Rattle.spell.specs.Written.{sets-append}
 use Rattle.judge.specs.Progress.{sofarOf, Kept}
 use Rattle.judge.specs.Turning.{readOn, readSays, Summary, summary, Goes, Stops}
 use Rattle.judge.specs.declared.ReadModel.{ReadModel}

@@ -1,21 +1,19 @@
 -- Reading by places of the byte list is reading record by record. Assumes nothing.
 use mathlib.Core.Path.{_≡_, refl, sym, ap, _∙_}
 use mathlib.Core.Logic.{inl, inr}
-use mathlib.Core.Bool.{Bool, true, false, cond, _&&_, false≢true}
+use mathlib.Core.Bool.{true, false, cond, false≢true}
 use mathlib.Core.List.{List, [], _∷_}
 use Prim.Native.Nat.{ℕ, zero, suc, _+_, _-_, _*_, _≤_, _<_}
 use native.Mathlib.Omega.{arith}
 use lib.ListN.{length, getD, drop, length-drop, drop-of-length-le}
 use lib.Seq.{drop-cons, drop-drop}
 use lib.Dec.{eqb, ltb, leb}
-use Rattle.lists.specs.Tests.{tests, tell, and-is, and-in, leb-is, ltb-is, ltb-no, eqb-no}
+use Rattle.lists.specs.Tests.{tests, tell, leb-is, ltb-is, ltb-no, eqb-no}
 use Rattle.rules.specs.Records.{widths, known, bodyOf, number, reads, Rec, Parts, ends, broken, part, partsFrom, numbersOf}
-use Rattle.rules.specs.declared.Record.{Record}
-use Rattle.rules.specs.declared.Record.the-variants as R
 use Rattle.laws.specs.RecordLaws.{skipped}
 use Rattle.wire.specs.declared.Read.{Read}
 use Rattle.wire.specs.declared.Read.the-variants.{Got, Broken}
-use Rattle.wire.specs.Places.{le16, le32, moveAt, sizesAt, bodyLen, recordOf, recordAt}
+use Rattle.wire.specs.Places.{le16, le32, moveAt, bodyLen, recordOf, recordAt}
 
 -- What stands from a place on.
 abbrev pub partsAt : List ℕ → ℕ → Parts

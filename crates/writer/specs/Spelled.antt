@@ -8,7 +8,7 @@ use lib.ListN.{length, getD}
 use lib.Seq.{sets}
 use Rattle.lists.specs.Lists.{listed}
 use Rattle.rules.specs.Model.{Equation, Model, runOf}
-use Rattle.rules.specs.Records.{Rec, bytesOf}
+use Rattle.rules.specs.Records.{bytesOf}
 use Rattle.rules.specs.Session.{unword}
 use Rattle.rules.specs.Spelling.{labelRecs, blockRec, equationRec, equationRecs, moveRecs}
 use Rattle.rules.specs.declared.Sizes.{Sizes}

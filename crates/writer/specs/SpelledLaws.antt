@@ -1,14 +1,14 @@
 -- Writing place by place writes the spelling. Assumes nothing.
 use mathlib.Core.Path.{_≡_, refl, sym, ap, _∙_}
 use mathlib.Core.Logic.{inl, inr}
-use mathlib.Core.Bool.{Bool, true, false, cond}
+use mathlib.Core.Bool.{true}
 use mathlib.Core.List.{List, [], _∷_, _++_, append-assoc, append-nil, map}
 use Prim.Native.Nat.{ℕ, zero, suc, _+_, _-_, _*_, _≤_, _<_}
 use native.Mathlib.Nat.{add-zero, zero-add}
 use native.Mathlib.Omega.{arith}
 use lib.Dec.{eqb}
 use lib.ListN.{length, getD, take, drop, length-append}
-use lib.Seq.{sets, sets-eq, drop-cons}
+use lib.Seq.{sets-eq, drop-cons}
 use Rattle.lists.specs.Lists.{listed, fill}
 use Rattle.lists.specs.TableLaws.{listed-length}
 use Rattle.lists.specs.Tests.{tell, eqb-is, eqb-no}
@@ -20,7 +20,7 @@ use Rattle.rules.specs.Spelling.{labelRecs, blockRec, equationRec, equationRecs
 use Rattle.rules.specs.declared.Session.{Session}
 use Rattle.rules.specs.declared.Sizes.{Sizes}
 use Rattle.laws.specs.SpellingLength.{labelled, encode-length}
-use Rattle.wire.specs.Written.{labelRec, sets-append}
+use Rattle.spell.specs.Written.{labelRec, sets-append}
 use Rattle.writer.specs.Spelled.{rest, Wrote, oneLabel, labelBytes, oneEquation, equationBytes, moveBytes, heldIn}
 
 -- The entries from a place on are the one there, and those after it.

@@ -18,7 +18,7 @@ fn put_label(out: &mut [u8], at: usize, s: usize, v: u32) -> usize
     if v == 0 {
         return at;
     }
-    wire::write_label(out, at, s as u32, v);
+    spell::write_label(out, at, s as u32, v);
     at + 7
 }
 
@@ -68,12 +68,12 @@ fn put_equation(out: &mut [u8], at: usize, room: &[u32], b: u32, i: usize, n: us
     let w = rooms::word_at(room, i);
     let after = block_after(w);
     if after == b {
-        wire::write_equation(out, at, w);
+        spell::write_equation(out, at, w);
         return at + 4;
     }
     let count = run_of(room, after, i + 1, n);
-    wire::write_block(out, at, w / 256 / 256 / 256 % 2, count + 1);
-    wire::write_equation(out, at + 3, w);
+    spell::write_block(out, at, w / 256 / 256 / 256 % 2, count + 1);
+    spell::write_equation(out, at + 3, w);
     at + 7
 }
 
@@ -101,11 +101,11 @@ fn write_moves(out: &mut [u8], start: usize, room: &[u32], n: usize) -> usize
     let mut at = start;
     let mut i: usize = 0;
     while i < n {
-        wire::write_move(out, at, rooms::word_at(room, i));
+        spell::write_move(out, at, rooms::word_at(room, i));
         at = at + 6;
         i = i + 1;
     }
-    wire::write_end(out, at);
+    spell::write_end(out, at);
     at + 1
 }
 
@@ -153,7 +153,7 @@ pub fn write_model(
     requires { ⌜ (z .states ≤ 256) × (z .variables ≤ 32) × (n ≤ 1024) ⌝ }
     ensures { λ r. ⌜ Wrote (now (out .entry)) 0 (encode (heldIn z n (now (labels .entry)) (now (equations .entry)) (now (moves .entry)))) (now (out .exit)) r ⌝ }
 {
-    wire::write_sizes(out, 0, z);
+    spell::write_sizes(out, 0, z);
     let a = write_labels(out, 7, labels, z.states as usize);
     let b = write_equations(out, a, equations, z.variables as usize);
     write_moves(out, b, moves, n)

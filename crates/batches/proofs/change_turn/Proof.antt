@@ -1,35 +1,27 @@
-use Rattle.batches.specs.Reading.{changeTurn}
-use Rattle.rules.specs.Model.{moveOk}
+-- `batches::change_turn` meets its contract. Assumes nothing.
+use mathlib.Core.Path.{refl}
 use lib.Dec.{ltb}
 use borrow.Author.Tests.{not-true, not-false}
-use mathlib.Core.Path.{_≡_, refl, sym, ap, _∙_}
 use borrow.Author.Needs.{needs}
+use Rattle.rules.specs.Model.{moveOk}
+use Rattle.batches.specs.Reading.{changeTurn}
 use Rattle.batches.proofs.change_turn.Statement.{statement}
 use Rattle.batches.proofs.change_turn.Tie as tie
-use Rattle.batches.proofs.change_turn.Reads as reads
-use Rattle.batches.proofs.change_turn.Lts as lts
-use Rattle.batches.proofs.coded.Reads as coded-reads
-use Rattle.limits.proofs.move_ok.Reads as move-ok-reads
 
--- src/lib.rt:39:9
 returns : tie.Need-returns
 unfolding changeTurn
 returns c = let a = c .before .args in let n = a .n in rw (not-true (ltb n 64) (c .if1 .taken)) refl
 
--- src/lib.rt:41:9
 move-ok-requires : tie.Need-move-ok-requires
 move-ok-requires c κs = search needs
 
--- src/lib.rt:42:9
 returns-2 : tie.Need-returns-2
 unfolding changeTurn
 returns-2 c = let a = c .before .before .before .args in let n = a .n in let ok = moveOk (a .z) (a .m .source .0) (a .m .action .0) (a .m .target .0) in rw (not-false (ltb n 64) (c .before .before .if1 .left), not-true ok (rw (c .before .move-ok .ensures) at (c .if2 .taken))) refl
 
--- src/lib.rt:44:20
 coded-requires : tie.Need-coded-requires
 coded-requires c κs = search needs
 
--- src/lib.rt:35:1
 returns-3 : tie.Need-returns-3
 unfolding changeTurn
 returns-3 c = let a = c .before .before .before .before .args in let n = a .n in let ok = moveOk (a .z) (a .m .source .0) (a .m .action .0) (a .m .target .0) in rw (not-false (ltb n 64) (c .before .before .before .if1 .left), not-false ok (rw (c .before .before .move-ok .ensures) at (c .before .if2 .left)), c .coded .ensures) refl

@@ -1,19 +1,16 @@
-use Rattle.batches.specs.Reading.{from, codesFrom}
-use Rattle.wire.specs.PartsAt.{partsAt}
-use borrow.Author.Needs.{needs}
-use lib.Seq.{sets}
-use lib.ListN.{length, length-set}
+-- `batches::read_rest` meets its contract. Assumes nothing.
 use mathlib.Core.List.{List}
-use Prim.Native.Nat.{ℕ, _-_, _≤_}
-use Rattle.batches.specs.TurnLaws.{turned-broken, turned-insert, turned-delete, turned-end, turned-other, past-end, put-code, first-stamp, first-broken, first-other}
-use native.Mathlib.Omega.{arith}
 use mathlib.Core.Path.{_≡_, refl, sym, ap, _∙_}
+use Prim.Native.Nat.{ℕ, _-_, _≤_}
+use native.Mathlib.Omega.{arith}
+use lib.Seq.{sets}
+use lib.ListN.{length}
+use borrow.Author.Needs.{needs}
+use Rattle.wire.specs.PartsAt.{partsAt}
+use Rattle.batches.specs.Reading.{from, codesFrom}
+use Rattle.batches.specs.TurnLaws.{past-end, put-code}
 use Rattle.batches.proofs.read_rest.Statement.{statement}
 use Rattle.batches.proofs.read_rest.Tie as tie
-use Rattle.batches.proofs.read_rest.Reads as reads
-use Rattle.batches.proofs.read_rest.Lts as lts
-use Rattle.batches.proofs.turn.Reads as turn-reads
-use Rattle.rooms.proofs.set_word.Reads as set-word-reads
 
 abbrev Inv-loop : tie.InvT-loop
 Inv-loop bytes z stamp start changes₀ n₀ at₀ changes n at =
@@ -23,51 +20,39 @@ Inv-loop bytes z stamp start changes₀ n₀ at₀ changes n at =
 abbrev μ-loop : tie.MeasureT-loop
 μ-loop bytes z stamp start changes₀ n₀ at₀ changes n at = length bytes - at
 
--- src/lib.rt:79:5
 loop-holds : tie.Need-loop-holds Inv-loop μ-loop
 loop-holds c = (omega arith, refl, refl, refl)
 
--- src/lib.rt:80:13
 turn-requires : tie.Need-turn-requires Inv-loop μ-loop
 turn-requires c κs = search needs
 
--- src/lib.rt:82:30
 enum-known-t : tie.Need-enum-known-t Inv-loop μ-loop
 enum-known-t c = search needs
 
--- src/lib.rt:83:17
 same-length : tie.Need-same-length Inv-loop μ-loop
 same-length c = c .before .before .before .before .before .loop .inv .1
 
--- src/lib.rt:83:17
 returns : tie.Need-returns Inv-loop μ-loop
 returns c = let a = c .before .before .before .before .before .before .before .before .args in let s = a .bytes .now in let k = c .before .before .before .before .before .loop in let g = rw (c .before .t .given .1) at (c .before .before .before .turn .ensures) in (g .0 ∙ k .inv .2, ap (λ (l : List ℕ). sets (k .changes) (k .n) l) (sym (g .1)) ∙ k .inv .3)
 
--- src/lib.rt:85:28
 enum-known-t-2 : tie.Need-enum-known-t-2 Inv-loop μ-loop
 enum-known-t-2 c = search needs
 
--- src/lib.rt:86:17
 set-word-requires : tie.Need-set-word-requires Inv-loop μ-loop
 set-word-requires c κs = search needs
 
--- src/lib.rt:87:21
 add-n : tie.Need-add-n Inv-loop μ-loop
 add-n c = omega arith
 
--- src/lib.rt:79:5
 loop-less : tie.Need-loop-less Inv-loop μ-loop
 loop-less c = let g = rw (c .before .before .before .before .before .t2 .given .1) at (c .before .before .before .before .before .before .before .turn .ensures) in omega arith
 
--- src/lib.rt:79:5
 loop-again : tie.Need-loop-again Inv-loop μ-loop
 loop-again c = let a = c .before .before .before .before .before .before .before .before .before .before .before .before .args in let s = a .bytes .now in let k = c .before .before .before .before .before .before .before .before .before .loop in let g = rw (c .before .before .before .before .before .t2 .given .1) at (c .before .before .before .before .before .before .before .turn .ensures) in (omega arith, search needs, sym (g .same) ∙ k .inv .2, put-code (a .z) s (a .stamp) (k .n) (k .at) (c .before .before .before .before .before .t2 .given .0 .0) (c .before .before .before .before .before .t2 .given .0 .1 .0) (k .changes) _ g (c .before .before .set-word .ensures) ∙ k .inv .3)
 
--- src/lib.rt:74:1
 same-length-2 : tie.Need-same-length-2 Inv-loop μ-loop
 same-length-2 c = c .before .loop .inv .1
 
--- src/lib.rt:74:1
 returns-2 : tie.Need-returns-2 Inv-loop μ-loop
 returns-2 c = let a = c .before .before .before .before .args in let s = a .bytes .now in let k = c .before .loop in let g = past-end (a .z) s (a .stamp) (k .n) (k .at) (omega arith) in (g .0 ∙ k .inv .2, ap (λ (l : List ℕ). sets (k .changes) (k .n) l) (sym (g .1)) ∙ k .inv .3)
 

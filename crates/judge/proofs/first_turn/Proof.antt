@@ -1,72 +1,52 @@
-use Rattle.rules.specs.Rooms.{roomsOk}
-use Rattle.rules.specs.Limits.{sizesOk}
+-- `judge::first_turn` meets its contract. Assumes nothing.
+use mathlib.Core.Path.{_≡_, refl, sym, ap, _∙_}
 use borrow.Author.Tests.{not-false}
-use mathlib.Core.Bool.{true}
-use Rattle.wire.specs.declared.Read.the-variants.{Got}
-use Rattle.wire.specs.Places.{recordAt}
+use borrow.Author.Needs.{needs}
+use Rattle.rules.specs.Limits.{sizesOk}
 use Rattle.rules.specs.declared.Record.the-variants as R
 use Rattle.rules.specs.declared.Record.{Record}
 use Rattle.rules.specs.declared.Refusal.the-variants as Why
-use Rattle.rules.specs.Load.{before, inside}
+use Rattle.rules.specs.Load.{before}
 use Rattle.limits.specs.Lent.{lengthsBy}
-use Rattle.judge.specs.TurnLaws.{step-kept, goes-on, goes-first, turned-broken, turned-no, turned-next, turned-over, past-end, sizes-no, sizes-next, sizes-due, started-kept}
-use Rattle.judge.specs.Progress.{sofarOf, judgedSays, Kept}
-use mathlib.Core.Path.{_≡_, refl, sym, ap, _∙_}
-use borrow.Author.Needs.{needs}
+use Rattle.wire.specs.declared.Read.the-variants.{Got}
+use Rattle.wire.specs.Places.{recordAt}
+use Rattle.judge.specs.TurnLaws.{turned-broken, turned-no, turned-next, sizes-no, sizes-next, sizes-due, started-kept}
 use Rattle.judge.proofs.first_turn.Statement.{statement}
 use Rattle.judge.proofs.first_turn.Tie as tie
-use Rattle.judge.proofs.first_turn.Reads as reads
-use Rattle.judge.proofs.first_turn.Lts as lts
-use Rattle.judge.proofs.started_with.Reads as started-with-reads
-use Rattle.limits.proofs.rooms_ok.Reads as rooms-ok-reads
-use Rattle.limits.proofs.sizes_ok.Reads as sizes-ok-reads
-use Rattle.wire.proofs.read_record.Reads as read-record-reads
 
--- src/lib.rt:277:9
 read-record-requires : tie.Need-read-record-requires
 read-record-requires c κs = search needs
 
--- src/lib.rt:278:19
 enum-known-read : tie.Need-enum-known-read
 enum-known-read c = search needs
 
--- src/lib.rt:279:49
 enum-told : tie.Need-enum-told
 enum-told c = search needs
 
--- src/lib.rt:279:9
 returns : tie.Need-returns
 returns c = turned-broken (lengthsBy (c .before .before .before .before .args .l)) (c .before .before .before .before .args .bytes .now) before 0 (sym (c .before .before .read-record .ensures) ∙ c .enum-told .given .1)
 
--- src/lib.rt:281:23
 enum-known-rec : tie.Need-enum-known-rec
 enum-known-rec c = search needs
 
--- src/lib.rt:282:9
 returns-2 : tie.Need-returns-2
 returns-2 c = let a = c .before .before .before .before .before .before .args in let l = lengthsBy (a .l) in let s = a .bytes .now in let g = c .before .before .read .given in let n = g .0 .1 .0 in turned-no l s before 0 n (g .0 .0) (sym (c .before .before .before .before .read-record .ensures) ∙ g .1) Why.NotDue (sizes-due l (g .0 .0) (c .match2 .keys2))
 
--- src/lib.rt:284:9
 sizes-ok-requires : tie.Need-sizes-ok-requires
 sizes-ok-requires c κs = search needs
 
--- src/lib.rt:285:9
 returns-3 : tie.Need-returns-3
 returns-3 c = let a = c .before .before .before .before .before .before .before .before .before .before .args in let l = lengthsBy (a .l) in let s = a .bytes .now in let g = c .before .before .before .before .before .before .read .given in let n = g .0 .1 .0 in let z = c .before .before .before .rec .given .0 .0 in let got : recordAt s 0 ≡ Got (R.Sizes z) n = sym (c .before .before .before .before .before .before .before .before .read-record .ensures) ∙ g .1 ∙ ap (λ (r : Record). Got r n) (c .before .before .before .rec .given .1) in turned-no l s before 0 n (R.Sizes z) got Why.BadSize (sizes-no l z 1 (refl, rw (c .before .sizes-ok .ensures) at (c .if1 .taken)))
 
--- src/lib.rt:287:9
 rooms-ok-requires : tie.Need-rooms-ok-requires
 rooms-ok-requires c κs = search needs
 
--- src/lib.rt:288:9
 returns-4 : tie.Need-returns-4
 returns-4 c = let a = c .before .before .before .before .before .before .before .before .before .before .before .before .args in let l = lengthsBy (a .l) in let s = a .bytes .now in let g = c .before .before .before .before .before .before .before .before .read .given in let n = g .0 .1 .0 in let z = c .before .before .before .before .before .rec .given .0 .0 in let got : recordAt s 0 ≡ Got (R.Sizes z) n = sym (c .before .before .before .before .before .before .before .before .before .before .read-record .ensures) ∙ g .1 ∙ ap (λ (r : Record). Got r n) (c .before .before .before .before .before .rec .given .1) in turned-no l s before 0 n (R.Sizes z) got Why.ShortRoom (sizes-no l z 2 (refl, (rw (c .before .before .before .sizes-ok .ensures) at (c .before .before .if1 .left), rw (c .before .rooms-ok .ensures) at (c .if2 .taken))))
 
--- src/lib.rt:290:22
 started-with-requires : tie.Need-started-with-requires
 started-with-requires c κs = search needs
 
--- src/lib.rt:274:1
 returns-5 : tie.Need-returns-5
 returns-5 c = let a = c .before .before .before .before .before .before .before .before .before .before .before .before .before .args in let l = lengthsBy (a .l) in let s = a .bytes .now in let g = c .before .before .before .before .before .before .before .before .before .read .given in let n = g .0 .1 .0 in let z = c .before .before .before .before .before .before .rec .given .0 .0 in let got : recordAt s 0 ≡ Got (R.Sizes z) n = sym (c .before .before .before .before .before .before .before .before .before .before .before .read-record .ensures) ∙ g .1 ∙ ap (λ (r : Record). Got r n) (c .before .before .before .before .before .before .rec .given .1) in let w = c .started-with .ensures in let k = sizes-next l z (refl, (rw (c .before .before .before .before .sizes-ok .ensures) at (c .before .before .before .if1 .left), (rw (c .before .before .rooms-ok .ensures) at (c .before .if2 .left), tt))) in turned-next l s before 0 n (R.Sizes z) got (c .started-with .result) (rw w k) (rw w (started-kept z (not-false (sizesOk z) (rw (c .before .before .before .before .sizes-ok .ensures) at (c .before .before .before .if1 .left)))))
 

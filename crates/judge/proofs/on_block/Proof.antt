@@ -1,46 +1,34 @@
-use Rattle.rules.specs.Records.{next, over}
-use Rattle.rules.specs.Load.{inside, labelDemands, blockDemands, equationDemands, moveDemands, endDemands, afterLabel, afterBlock, afterEquation, afterMove}
-use Rattle.judge.specs.Progress.{sofarOf}
-use Rattle.judge.specs.Demands.{fails, meets, below-both, not-due}
-use Rattle.judge.specs.Demands.{fails, meets, below-both, not-due}
+-- `judge::on_block` meets its contract. Assumes nothing.
 use native.Mathlib.Numerals.{add-one}
-use mathlib.Core.Path.{refl, sym, _∙_}
 use borrow.Author.Needs.{needs}
+use Rattle.rules.specs.Records.{next}
+use Rattle.rules.specs.Load.{inside, blockDemands, afterBlock}
+use Rattle.judge.specs.Progress.{sofarOf}
+use Rattle.judge.specs.Demands.{fails, meets}
 use Rattle.judge.proofs.on_block.Statement.{statement}
 use Rattle.judge.proofs.on_block.Tie as tie
-use Rattle.judge.proofs.on_block.Reads as reads
-use Rattle.judge.proofs.on_block.Lts as lts
-use Rattle.judge.proofs.block_fits.Reads as block-fits-reads
 
--- src/lib.rt:89:46
 cast-if1 : tie.Need-cast-if1
 cast-if1 c = search needs
 
--- src/lib.rt:90:9
 returns : tie.Need-returns
 returns c = let a = c .before .before .before .before .before .before .before .args in let x = sofarOf (a .x) in fails 0 (blockDemands x (a .k) (a .n)) (next (inside (afterBlock x (a .k) (a .n)))) (c .if1 .taken)
 
--- src/lib.rt:92:9
 block-fits-requires : tie.Need-block-fits-requires
 block-fits-requires c κs = search needs
 
--- src/lib.rt:93:9
 returns-2 : tie.Need-returns-2
 returns-2 c = let a = c .before .before .before .before .before .before .before .before .before .args in let x = sofarOf (a .x) in fails 1 (blockDemands x (a .k) (a .n)) (next (inside (afterBlock x (a .k) (a .n)))) (c .before .before .if1 .left, rw (c .before .block-fits .ensures) at (c .if2 .taken))
 
--- src/lib.rt:96:9
 returns-3 : tie.Need-returns-3
 returns-3 c = let a = c .before .before .before .before .before .before .before .before .before .before .args in let x = sofarOf (a .x) in fails 2 (blockDemands x (a .k) (a .n)) (next (inside (afterBlock x (a .k) (a .n)))) (c .before .before .before .if1 .left, (rw (c .before .before .block-fits .ensures) at (c .before .if2 .left), c .if3 .taken))
 
--- src/lib.rt:100:17
 cast-t8 : tie.Need-cast-t8
 cast-t8 c = search needs
 
--- src/lib.rt:102:20
 add-t15 : tie.Need-add-t15
 add-t15 c = search needs
 
--- src/lib.rt:82:1
 returns-4 : tie.Need-returns-4
 returns-4 c = let a = c .before .before .before .before .before .before .before .before .before .before .before .before .args in let x = sofarOf (a .x) in rw add-one (meets (blockDemands x (a .k) (a .n)) (next (inside (afterBlock x (a .k) (a .n)))) (c .before .before .before .before .before .if1 .left, (rw (c .before .before .before .before .block-fits .ensures) at (c .before .before .before .if2 .left), (c .before .before .if3 .left, tt))))
 

@@ -1,46 +1,34 @@
-use Rattle.rules.specs.Records.{next, over}
-use Rattle.rules.specs.Load.{inside, labelDemands, blockDemands, equationDemands, moveDemands, endDemands, afterLabel, afterBlock, afterEquation, afterMove}
-use Rattle.judge.specs.Progress.{sofarOf}
-use Rattle.judge.specs.Demands.{fails, meets, below-both, not-due}
-use Rattle.judge.specs.Demands.{fails, meets, below-both, not-due}
+-- `judge::on_label` meets its contract. Assumes nothing.
 use native.Mathlib.Numerals.{add-one}
-use mathlib.Core.Path.{refl, sym, _∙_}
 use borrow.Author.Needs.{needs}
+use Rattle.rules.specs.Records.{next}
+use Rattle.rules.specs.Load.{inside, labelDemands, afterLabel}
+use Rattle.judge.specs.Progress.{sofarOf}
+use Rattle.judge.specs.Demands.{fails, meets}
 use Rattle.judge.proofs.on_label.Statement.{statement}
 use Rattle.judge.proofs.on_label.Tie as tie
-use Rattle.judge.proofs.on_label.Reads as reads
-use Rattle.judge.proofs.on_label.Lts as lts
-use Rattle.limits.proofs.label_ok.Reads as label-ok-reads
 
--- src/lib.rt:54:9
 returns : tie.Need-returns
 returns c = let a = c .before .before .before .before .before .args in let x = sofarOf (a .x) in fails 0 (labelDemands x (a .s .0) (a .v)) (next (inside (afterLabel x (a .s .0)))) (c .if1 .taken)
 
--- src/lib.rt:56:39
 label-ok-requires : tie.Need-label-ok-requires
 label-ok-requires c κs = search needs
 
--- src/lib.rt:57:9
 returns-2 : tie.Need-returns-2
 returns-2 c = let a = c .before .before .before .before .before .before .before .before .before .args in let x = sofarOf (a .x) in fails 1 (labelDemands x (a .s .0) (a .v)) (next (inside (afterLabel x (a .s .0)))) (c .before .before .before .before .if1 .left, rw (c .before .label-ok .ensures) at (c .if2 .taken))
 
--- src/lib.rt:59:22
 cast-if3 : tie.Need-cast-if3
 cast-if3 c = search needs
 
--- src/lib.rt:60:9
 returns-3 : tie.Need-returns-3
 returns-3 c = let a = c .before .before .before .before .before .before .before .before .before .before .before .before .args in let x = sofarOf (a .x) in fails 2 (labelDemands x (a .s .0) (a .v)) (next (inside (afterLabel x (a .s .0)))) (c .before .before .before .before .before .before .before .if1 .left, (rw (c .before .before .before .before .label-ok .ensures) at (c .before .before .before .if2 .left), c .if3 .taken))
 
--- src/lib.rt:64:17
 cast-t15 : tie.Need-cast-t15
 cast-t15 c = search needs
 
--- src/lib.rt:64:17
 add-t17 : tie.Need-add-t17
 add-t17 c = search needs
 
--- src/lib.rt:47:1
 returns-4 : tie.Need-returns-4
 returns-4 c = let a = c .before .before .before .before .before .before .before .before .before .before .before .before .before .args in let x = sofarOf (a .x) in rw add-one (meets (labelDemands x (a .s .0) (a .v)) (next (inside (afterLabel x (a .s .0)))) (c .before .before .before .before .before .before .before .before .if1 .left, (rw (c .before .before .before .before .before .label-ok .ensures) at (c .before .before .before .before .if2 .left), (c .before .if3 .left, tt))))
 

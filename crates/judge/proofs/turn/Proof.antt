@@ -1,62 +1,46 @@
-use Rattle.rules.specs.Load.{before, inside}
-use Rattle.limits.specs.Lent.{lengthsBy}
-use Rattle.judge.specs.TurnLaws.{step-kept, goes-on, goes-first, turned-broken, turned-no, turned-next, turned-over, past-end, sizes-no, sizes-next, sizes-due, started-kept}
-use Rattle.judge.specs.Progress.{sofarOf, judgedSays, Kept}
-use mathlib.Core.Path.{_≡_, refl, sym, ap, _∙_}
+-- `judge::turn` meets its contract. Assumes nothing.
+use mathlib.Core.Path.{sym, ap, _∙_}
 use borrow.Author.Needs.{needs}
+use Rattle.rules.specs.Load.{inside}
+use Rattle.limits.specs.Lent.{lengthsBy}
+use Rattle.judge.specs.TurnLaws.{step-kept, turned-broken, turned-no, turned-next, turned-over}
+use Rattle.judge.specs.Progress.{sofarOf, judgedSays}
 use Rattle.judge.proofs.turn.Statement.{statement}
 use Rattle.judge.proofs.turn.Tie as tie
-use Rattle.judge.proofs.turn.Reads as reads
-use Rattle.judge.proofs.turn.Lts as lts
-use Rattle.judge.proofs.at_end.Reads as at-end-reads
-use Rattle.judge.proofs.judge_record.Reads as judge-record-reads
-use Rattle.wire.proofs.read_record.Reads as read-record-reads
 
--- src/lib.rt:241:9
 read-record-requires : tie.Need-read-record-requires
 read-record-requires c κs = search needs
 
--- src/lib.rt:242:19
 enum-known-read : tie.Need-enum-known-read
 enum-known-read c = search needs
 
--- src/lib.rt:243:49
 enum-told : tie.Need-enum-told
 enum-told c = search needs
 
--- src/lib.rt:243:9
 returns : tie.Need-returns
 returns c = turned-broken (lengthsBy (c .before .before .before .before .args .l)) (c .before .before .before .before .args .bytes .now) (inside (sofarOf (c .before .before .before .before .args .x))) (c .before .before .before .before .args .at) (sym (c .before .before .read-record .ensures) ∙ c .enum-told .given .1)
 
--- src/lib.rt:245:9
 judge-record-requires : tie.Need-judge-record-requires
 judge-record-requires c κs = search needs
 
--- src/lib.rt:247:25
 enum-known-judged : tie.Need-enum-known-judged
 enum-known-judged c = search needs
 
--- src/lib.rt:248:22
 enum-known-judged-2 : tie.Need-enum-known-judged-2
 enum-known-judged-2 c = search needs
 
--- src/lib.rt:249:41
 enum-told-2 : tie.Need-enum-told-2
 enum-told-2 c = search needs
 
--- src/lib.rt:249:25
 at-end-requires : tie.Need-at-end-requires
 at-end-requires c κs = search needs
 
--- src/lib.rt:237:1
 returns-2 : tie.Need-returns-2
 returns-2 c = let a = c .before .before .before .before .before .before .before .before .before .args in let l = lengthsBy (a .l) in let s = a .bytes .now in let st = inside (sofarOf (a .x)) in let g = c .before .before .before .before .before .read .given in let got = sym (c .before .before .before .before .before .before .before .read-record .ensures) ∙ g .1 in turned-no l s st (a .at) (g .0 .1 .0) (g .0 .0) got (c .before .judged .given .0 .0) (sym (c .before .before .before .judge-record .ensures) ∙ ap judgedSays (c .before .judged .given .1))
 
--- src/lib.rt:237:1
 returns-3 : tie.Need-returns-3
 returns-3 c = let a = c .before .before .before .before .before .before .before .before .before .args in let l = lengthsBy (a .l) in let s = a .bytes .now in let st = inside (sofarOf (a .x)) in let g = c .before .before .before .before .before .read .given in let got = sym (c .before .before .before .before .before .before .before .read-record .ensures) ∙ g .1 in let y = c .before .judged2 .given .0 .0 in let h = sym (c .before .before .before .judge-record .ensures) ∙ ap judgedSays (c .before .judged2 .given .1) in turned-next l s st (a .at) (g .0 .1 .0) (g .0 .0) got y h (step-kept l (sofarOf (a .x)) (sofarOf y) (g .0 .0) (c .before .before .before .before .before .before .before .before .before .pre) h)
 
--- src/lib.rt:237:1
 returns-4 : tie.Need-returns-4
 returns-4 c = let a = c .before .before .before .before .before .before .before .before .before .args in let l = lengthsBy (a .l) in let s = a .bytes .now in let st = inside (sofarOf (a .x)) in let g = c .before .before .before .before .before .read .given in let got = sym (c .before .before .before .before .before .before .before .read-record .ensures) ∙ g .1 in rw (c .at-end .ensures) (turned-over l s (a .x) (a .at) (g .0 .1 .0) (g .0 .0) got (sym (c .before .before .before .judge-record .ensures) ∙ ap judgedSays (c .before .enum-told2 .given .1)))
 

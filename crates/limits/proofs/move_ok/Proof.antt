@@ -1,11 +1,9 @@
-use Rattle.rules.specs.Model.{moveOk}
+-- `limits::move_ok` meets its contract. Assumes nothing.
 use mathlib.Core.Path.{refl}
+use Rattle.rules.specs.Model.{moveOk}
 use Rattle.limits.proofs.move_ok.Statement.{statement}
 use Rattle.limits.proofs.move_ok.Tie as tie
-use Rattle.limits.proofs.move_ok.Reads as reads
-use Rattle.limits.proofs.move_ok.Lts as lts
 
--- src/lib.rt:64:1
 returns : tie.Need-returns
 unfolding moveOk
 returns c = refl

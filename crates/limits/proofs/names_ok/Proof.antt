@@ -1,22 +1,18 @@
-use Rattle.rules.specs.Model.{namesOk}
-use borrow.Author.Tests.{lt-ltb, le-ltb}
+-- `limits::names_ok` meets its contract. Assumes nothing.
 use mathlib.Core.Path.{refl}
+use borrow.Author.Tests.{lt-ltb, le-ltb}
+use Rattle.rules.specs.Model.{namesOk}
 use Rattle.limits.proofs.names_ok.Statement.{statement}
 use Rattle.limits.proofs.names_ok.Tie as tie
-use Rattle.limits.proofs.names_ok.Reads as reads
-use Rattle.limits.proofs.names_ok.Lts as lts
 
--- src/lib.rt:91:9
 returns : tie.Need-returns
 unfolding namesOk
 returns c = rw (lt-ltb _ _ (c .if1 .taken)) refl
 
--- src/lib.rt:94:9
 returns-2 : tie.Need-returns-2
 unfolding namesOk
 returns-2 c = rw (le-ltb _ _ (c .before .if1 .left), lt-ltb _ _ (c .if2 .taken)) refl
 
--- src/lib.rt:87:1
 returns-3 : tie.Need-returns-3
 unfolding namesOk
 returns-3 c = rw (le-ltb _ _ (c .before .if1 .left), le-ltb _ _ (c .if2 .left)) refl

@@ -1,11 +1,9 @@
-use Rattle.rules.specs.Limits.{sizesOk}
+-- `limits::sizes_ok` meets its contract. Assumes nothing.
 use mathlib.Core.Path.{refl}
+use Rattle.rules.specs.Limits.{sizesOk}
 use Rattle.limits.proofs.sizes_ok.Statement.{statement}
 use Rattle.limits.proofs.sizes_ok.Tie as tie
-use Rattle.limits.proofs.sizes_ok.Reads as reads
-use Rattle.limits.proofs.sizes_ok.Lts as lts
 
--- src/lib.rt:28:1
 returns : tie.Need-returns
 unfolding sizesOk
 returns c = refl

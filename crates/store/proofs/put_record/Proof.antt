@@ -1,118 +1,87 @@
-use Rattle.store.specs.StoreLaws.{puts-nothing}
+-- `store::put_record` meets its contract. Assumes nothing.
 use mathlib.Core.Path.{refl}
-use Rattle.store.specs.Stored.{putRooms}
 use borrow.Author.Needs.{needs}
+use Rattle.store.specs.StoreLaws.{puts-nothing}
+use Rattle.store.specs.Stored.{putRooms}
 use Rattle.store.proofs.put_record.Statement.{statement}
 use Rattle.store.proofs.put_record.Tie as tie
-use Rattle.store.proofs.put_record.Reads as reads
-use Rattle.store.proofs.put_record.Lts as lts
-use Rattle.rooms.proofs.set_word.Reads as set-word-reads
-use Rattle.store.proofs.packed.Reads as packed-reads
-use Rattle.store.proofs.put_label.Reads as put-label-reads
-use Rattle.store.proofs.word_of.Reads as word-of-reads
-use Rattle.store.proofs.zeros.Reads as zeros-reads
 
--- src/lib.rt:74:23
 enum-known-r : tie.Need-enum-known-r
 enum-known-r c = search needs
 
--- src/lib.rt:75:31
 cast-put-label : tie.Need-cast-put-label
 cast-put-label c = search needs
 
--- src/lib.rt:75:50
 cast-put-label-2 : tie.Need-cast-put-label-2
 cast-put-label-2 c = search needs
 
--- src/lib.rt:75:13
 put-label-requires : tie.Need-put-label-requires
 put-label-requires c κs = search needs
 
--- src/lib.rt:78:19
 enum-told : tie.Need-enum-told
 enum-told c = search needs
 
--- src/lib.rt:78:27
 cast-zeros : tie.Need-cast-zeros
 cast-zeros c = search needs
 
--- src/lib.rt:78:46
 cast-zeros-2 : tie.Need-cast-zeros-2
 cast-zeros-2 c = search needs
 
--- src/lib.rt:78:13
 zeros-requires : tie.Need-zeros-requires
 zeros-requires c κs = search needs
 
--- src/lib.rt:80:26
 enum-known-r-2 : tie.Need-enum-known-r-2
 enum-known-r-2 c = search needs
 
--- src/lib.rt:81:40
 cast-set-word : tie.Need-cast-set-word
 cast-set-word c = search needs
 
--- src/lib.rt:81:69
 word-of-requires : tie.Need-word-of-requires
 word-of-requires c κs = search needs
 
--- src/lib.rt:81:13
 set-word-requires : tie.Need-set-word-requires
 set-word-requires c κs = search needs
 
--- src/lib.rt:83:22
 enum-known-r-3 : tie.Need-enum-known-r-3
 enum-known-r-3 c = search needs
 
--- src/lib.rt:84:36
 cast-set-word-2 : tie.Need-cast-set-word-2
 cast-set-word-2 c = search needs
 
--- src/lib.rt:84:60
 packed-requires : tie.Need-packed-requires
 packed-requires c κs = search needs
 
--- src/lib.rt:84:13
 set-word-requires-2 : tie.Need-set-word-requires-2
 set-word-requires-2 c κs = search needs
 
--- src/lib.rt:69:1
 same-length : tie.Need-same-length
 same-length c = search needs
 
--- src/lib.rt:69:1
 returns : tie.Need-returns
 unfolding putRooms
 returns c = rw (c .before .before .before .before .before .before .before .r .given .1, c .before .before .put-label .ensures) refl
 
--- src/lib.rt:69:1
 same-length-2 : tie.Need-same-length-2
 same-length-2 c = search needs
 
--- src/lib.rt:69:1
 returns-2 : tie.Need-returns-2
 unfolding putRooms
 returns-2 c = rw (c .before .before .before .before .before .before .enum-told .given .1, c .before .before .zeros .ensures) refl
 
--- src/lib.rt:69:1
 same-length-3 : tie.Need-same-length-3
 same-length-3 c = search needs
 
--- src/lib.rt:69:1
 returns-3 : tie.Need-returns-3
 unfolding putRooms
 returns-3 c = rw (c .before .before .before .before .before .before .before .r2 .given .1, c .before .before .set-word .ensures, c .before .before .before .word-of .ensures) refl
 
--- src/lib.rt:69:1
 same-length-4 : tie.Need-same-length-4
 same-length-4 c = search needs
 
--- src/lib.rt:69:1
 returns-4 : tie.Need-returns-4
 unfolding putRooms
 returns-4 c = rw (c .before .before .before .before .before .before .before .r3 .given .1, c .before .before .set-word2 .ensures, c .before .before .before .packed .ensures) refl
 
--- src/lib.rt:69:1
 returns-5 : tie.Need-returns-5
 returns-5 c = puts-nothing _ (c .before .before .before .before .args .r) _ (c .match .keys5)
 

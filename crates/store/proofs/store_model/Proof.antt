@@ -1,47 +1,35 @@
+-- `store::store_model` meets its contract. Assumes nothing.
+use borrow.Author.Needs.{needs}
+use Rattle.limits.specs.Lent.{lengthsBy}
 use Rattle.store.specs.StoreLaws.{stored-first, stored-none}
 use Rattle.store.specs.Stored.{three}
-use Rattle.limits.specs.Lent.{lengthsBy}
-use borrow.Author.Needs.{needs}
 use Rattle.store.proofs.store_model.Statement.{statement}
 use Rattle.store.proofs.store_model.Tie as tie
-use Rattle.store.proofs.store_model.Reads as reads
-use Rattle.store.proofs.store_model.Lts as lts
-use Rattle.judge.proofs.first_turn.Reads as first-turn-reads
-use Rattle.store.proofs.store_rest.Reads as store-rest-reads
 
--- src/lib.rt:116:9
 first-turn-requires : tie.Need-first-turn-requires
 first-turn-requires c κs = search needs
 
--- src/lib.rt:117:24
 enum-known-t : tie.Need-enum-known-t
 enum-known-t c = search needs
 
--- src/lib.rt:118:9
 enum-told : tie.Need-enum-told
 enum-told c = search needs
 
--- src/lib.rt:118:9
 returns : tie.Need-returns
 returns c = let a = c .before .before .before .before .before .before .before .args in let l = lengthsBy (a .l) in let s = a .bytes .now in let t = three (a .labels .now) (a .equations .now) (a .moves .now) in stored-none l s t ((rw (c .enum-told .given .1) at (c .before .before .first-turn .ensures)) .1)
 
--- src/lib.rt:120:5
 store-rest-requires : tie.Need-store-rest-requires
 store-rest-requires c κs = (rw (c .before .before .before .before .t .given .1) at (c .before .before .before .before .before .before .first-turn .ensures)) .kept
 
--- src/lib.rt:113:1
 same-length : tie.Need-same-length
 same-length c = search needs
 
--- src/lib.rt:113:1
 same-length-2 : tie.Need-same-length-2
 same-length-2 c = search needs
 
--- src/lib.rt:113:1
 same-length-3 : tie.Need-same-length-3
 same-length-3 c = search needs
 
--- src/lib.rt:113:1
 returns-2 : tie.Need-returns-2
 returns-2 c = let a = c .before .before .before .before .before .before .before .before .before .before .before .before .before .before .before .before .before .before .args in let l = lengthsBy (a .l) in let s = a .bytes .now in let t = three (a .labels .now) (a .equations .now) (a .moves .now) in stored-first l s (c .before .before .before .before .before .before .before .before .before .before .before .t .given .0 .1 .0) (c .before .before .before .before .before .before .before .before .before .before .before .t .given .0 .1 .1 .0) (c .before .before .before .before .before .before .before .before .before .before .before .t .given .0 .0) t _ (rw (c .before .before .before .before .before .before .before .before .before .before .before .t .given .1) at (c .before .before .before .before .before .before .before .before .before .before .before .before .before .first-turn .ensures)) (c .before .before .before .before .before .before .store-rest .ensures)
 

@@ -1,56 +1,45 @@
+-- `wire::body_len` meets its contract. Assumes nothing.
 use borrow.Author.Tests.{ne-eqb}
 use Rattle.wire.specs.Places.{bodyLen}
 use Rattle.wire.proofs.body_len.Statement.{statement}
 use Rattle.wire.proofs.body_len.Tie as tie
-use Rattle.wire.proofs.body_len.Reads as reads
-use Rattle.wire.proofs.body_len.Lts as lts
 
--- src/lib.rt:39:1
 returns : tie.Need-returns
 unfolding bodyLen
 returns c = rw (c .match .keys1)
 
--- src/lib.rt:39:1
 returns-2 : tie.Need-returns-2
 unfolding bodyLen
 returns-2 c = rw (c .match .keys2)
 
--- src/lib.rt:39:1
 returns-3 : tie.Need-returns-3
 unfolding bodyLen
 returns-3 c = rw (c .match .keys3)
 
--- src/lib.rt:39:1
 returns-4 : tie.Need-returns-4
 unfolding bodyLen
 returns-4 c = rw (c .match .keys4)
 
--- src/lib.rt:39:1
 returns-5 : tie.Need-returns-5
 unfolding bodyLen
 returns-5 c = rw (c .match .keys5)
 
--- src/lib.rt:39:1
 returns-6 : tie.Need-returns-6
 unfolding bodyLen
 returns-6 c = rw (c .match .keys6)
 
--- src/lib.rt:39:1
 returns-7 : tie.Need-returns-7
 unfolding bodyLen
 returns-7 c = rw (c .match .keys7)
 
--- src/lib.rt:39:1
 returns-8 : tie.Need-returns-8
 unfolding bodyLen
 returns-8 c = rw (c .match .keys8)
 
--- src/lib.rt:39:1
 returns-9 : tie.Need-returns-9
 unfolding bodyLen
 returns-9 c = rw (c .match .keys9)
 
--- src/lib.rt:39:1
 returns-10 : tie.Need-returns-10
 unfolding bodyLen
 returns-10 c =

@@ -1,41 +1,31 @@
+-- `wire::read_record` meets its contract. Assumes nothing.
 use borrow.Author.Tests.{le-ltb, lt-ltb, le-leb, lt-leb}
-use Rattle.wire.specs.Places.{recordAt}
 use borrow.Author.Needs.{needs}
+use Rattle.wire.specs.Places.{recordAt}
 use Rattle.wire.proofs.read_record.Statement.{statement}
 use Rattle.wire.proofs.read_record.Tie as tie
-use Rattle.wire.proofs.read_record.Reads as reads
-use Rattle.wire.proofs.read_record.Lts as lts
-use Rattle.wire.proofs.body_at.Reads as body-at-reads
-use Rattle.wire.proofs.body_len.Reads as body-len-reads
 
--- src/lib.rt:96:9
 returns : tie.Need-returns
 unfolding recordAt
 returns c = simp (le-ltb _ _ (c .if1 .taken))
 
--- src/lib.rt:98:16
 shared-slice-read-kind : tie.Need-shared-slice-read-kind
 shared-slice-read-kind c = search needs
 
--- src/lib.rt:99:9
 body-len-requires : tie.Need-body-len-requires
 body-len-requires c κs = search needs
 
--- src/lib.rt:101:9
 returns-2 : tie.Need-returns-2
 unfolding recordAt
 returns-2 c =
     simp (lt-ltb _ _ (c .before .before .before .if1 .left), lt-leb _ _ (rw (c .before .body-len .ensures) at (c .if2 .taken)))
 
--- src/lib.rt:103:13
 add-b : tie.Need-add-b
 add-b c = search needs
 
--- src/lib.rt:104:8
 sub-if3 : tie.Need-sub-if3
 sub-if3 c = search needs
 
--- src/lib.rt:105:9
 returns-3 : tie.Need-returns-3
 unfolding recordAt
 returns-3 c =
@@ -45,15 +35,12 @@ returns-3 c =
       lt-leb _ _ (rw (c .before .before .body-len .ensures) at (c .if3 .taken)),
     )
 
--- src/lib.rt:107:15
 body-at-requires : tie.Need-body-at-requires
 body-at-requires c κs = search needs
 
--- src/lib.rt:107:40
 add-t6 : tie.Need-add-t6
 add-t6 c = search needs
 
--- src/lib.rt:92:1
 returns-4 : tie.Need-returns-4
 unfolding recordAt
 returns-4 c =

@@ -1,18 +1,15 @@
+-- `writer::count_labels` meets its contract. Assumes nothing.
+use mathlib.Core.List.{[], _∷_}
+use mathlib.Core.Path.{_≡_}
+use Prim.Native.Nat.{_+_, _-_, _≤_}
+use native.Mathlib.Omega.{arith}
+use lib.ListN.{getD}
+use borrow.Author.Needs.{needs}
+use Rattle.laws.specs.SpellingLength.{labelled}
 use Rattle.writer.specs.SpelledLaws.{labelled-step, labelled-end}
 use Rattle.writer.specs.Spelled.{rest}
-use Rattle.laws.specs.SpellingLength.{labelled}
-use borrow.Author.Needs.{needs}
-use lib.ListN.{getD}
-use mathlib.Core.List.{[], _∷_}
-use Prim.Native.Nat.{ℕ, _+_, _-_, _≤_}
-use native.Mathlib.Omega.{arith}
-use mathlib.Core.Path.{_≡_, refl, sym, ap, _∙_}
 use Rattle.writer.proofs.count_labels.Statement.{statement}
 use Rattle.writer.proofs.count_labels.Tie as tie
-use Rattle.writer.proofs.count_labels.Reads as reads
-use Rattle.writer.proofs.count_labels.Lts as lts
-use Rattle.rooms.proofs.word_at.Reads as word-at-reads
-use Rattle.writer.proofs.one.Reads as one-reads
 
 abbrev Inv-loop : tie.InvT-loop
 Inv-loop room n most k₀ i₀ k i =
@@ -21,35 +18,27 @@ Inv-loop room n most k₀ i₀ k i =
 abbrev μ-loop : tie.MeasureT-loop
 μ-loop room n most k₀ i₀ k i = n - i
 
--- src/lib.rt:129:5
 loop-holds : tie.Need-loop-holds Inv-loop μ-loop
 loop-holds c = (omega arith, omega arith, omega arith)
 
--- src/lib.rt:130:21
 word-at-requires : tie.Need-word-at-requires Inv-loop μ-loop
 word-at-requires c κs = search needs
 
--- src/lib.rt:130:17
 one-requires : tie.Need-one-requires Inv-loop μ-loop
 one-requires c κs = search needs
 
--- src/lib.rt:130:13
 add-k : tie.Need-add-k Inv-loop μ-loop
 add-k c = omega arith
 
--- src/lib.rt:131:13
 add-i : tie.Need-add-i Inv-loop μ-loop
 add-i c = omega arith
 
--- src/lib.rt:129:5
 loop-less : tie.Need-loop-less Inv-loop μ-loop
 loop-less c = omega arith
 
--- src/lib.rt:129:5
 loop-again : tie.Need-loop-again Inv-loop μ-loop
 loop-again c = let a = c .before .before .before .before .before .args in let s = a .room .now in let l = c .before .before .before .loop in let e = labelled-step s (l .i) (a .n) (omega arith) in let f : c .one .result ≡ labelled (getD s (l .i) 0 ∷ []) = rw (c .before .word-at .ensures) at (c .one .ensures .0) in omega arith
 
--- src/lib.rt:123:1
 returns : tie.Need-returns Inv-loop μ-loop
 returns c = let a = c .before .before .before .args in let s = a .room .now in let l = c .before .loop in let e = labelled-end s (l .i) (a .n) (omega arith) in omega arith
 

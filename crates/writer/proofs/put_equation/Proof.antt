@@ -1,84 +1,62 @@
+-- `writer::put_equation` meets its contract. Assumes nothing.
+use mathlib.Core.List.{map}
+use mathlib.Core.Path.{_≡_, refl, sym, ap, _∙_}
+use Prim.Native.Nat.{_/_, ℕ, suc, _+_, _-_}
+use native.Mathlib.Omega.{arith}
+use lib.ListN.{getD}
+use borrow.Author.Needs.{needs}
 use Rattle.rules.specs.Spelling.{equationRec, blockRec}
 use Rattle.rules.specs.Records.{bytes, widths}
 use Rattle.rules.specs.Model.{runOf}
 use Rattle.rules.specs.Session.{unword}
-use Prim.Native.Nat.{_/_}
-use lib.ListN.{length, getD}
-use mathlib.Core.List.{List, map}
-use Prim.Native.Nat.{ℕ, suc, _+_, _*_, _-_, _≤_}
-use Rattle.writer.specs.Spelled.{rest, Wrote, oneLabel, labelBytes, oneEquation, equationBytes, moveBytes}
-use Rattle.writer.specs.SpelledLaws.{rest-end, wrote-more, wrote-none, no-label, a-label, label-step, label-end, label-length, run-same, run-other, run-end, equation-same, equation-new, equation-step, equation-end, move-step, move-end}
-use native.Mathlib.Omega.{arith}
-use mathlib.Core.Path.{_≡_, refl, sym, ap, _∙_}
-use borrow.Author.Needs.{needs}
+use Rattle.writer.specs.Spelled.{rest}
+use Rattle.writer.specs.SpelledLaws.{wrote-more, equation-same, equation-new}
 use Rattle.writer.proofs.put_equation.Statement.{statement}
 use Rattle.writer.proofs.put_equation.Tie as tie
-use Rattle.writer.proofs.put_equation.Reads as reads
-use Rattle.writer.proofs.put_equation.Lts as lts
-use Rattle.rooms.proofs.word_at.Reads as word-at-reads
-use Rattle.wire.proofs.write_block.Reads as write-block-reads
-use Rattle.wire.proofs.write_equation.Reads as write-equation-reads
-use Rattle.writer.proofs.block_after.Reads as block-after-reads
-use Rattle.writer.proofs.run_of.Reads as run-of-reads
 
--- src/lib.rt:66:9
 word-at-requires : tie.Need-word-at-requires
 word-at-requires c κs = search needs
 
--- src/lib.rt:67:9
 block-after-requires : tie.Need-block-after-requires
 block-after-requires c κs = search needs
 
--- src/lib.rt:69:9
 write-equation-requires : tie.Need-write-equation-requires
 write-equation-requires c κs = search needs
 
--- src/lib.rt:70:16
 add-result : tie.Need-add-result
 add-result c = search needs
 
--- src/lib.rt:70:9
 same-length : tie.Need-same-length
 same-length c = search needs
 
--- src/lib.rt:70:9
 returns : tie.Need-returns
 unfolding widths
 returns c = let a = c .before .before .before .before .before .before .before .before .before .args in let s = a .room .now in let v = getD s (a .i) 0 in let w = c .before .before .before .before .before .before .word-at .ensures in let q : suc (unword v .block) ≡ c .before .before .before .before .before .block-after .result = sym (c .before .before .before .before .before .block-after .ensures ∙ ap (λ (w : ℕ). suc (w / 256 / 256 / 256 / 2)) w) in let r = map unword (rest s (a .i + 1) (a .n)) in (rw (equation-same (a .b) v r (q ∙ c .before .before .before .before .if1 .taken)) (rw w at (c .before .before .write-equation .ensures), refl), omega arith)
 
--- src/lib.rt:72:37
 add-run-of : tie.Need-add-run-of
 add-run-of c = search needs
 
--- src/lib.rt:72:9
 run-of-requires : tie.Need-run-of-requires
 run-of-requires c κs = search needs
 
--- src/lib.rt:73:57
 add-write-block : tie.Need-add-write-block
 add-write-block c = search needs
 
--- src/lib.rt:73:5
 write-block-requires : tie.Need-write-block-requires
 write-block-requires c κs = search needs
 
--- src/lib.rt:74:31
 add-write-equation : tie.Need-add-write-equation
 add-write-equation c = search needs
 
--- src/lib.rt:74:5
 write-equation-requires-2 : tie.Need-write-equation-requires-2
 write-equation-requires-2 c κs = search needs
 
--- src/lib.rt:75:5
 add-result-2 : tie.Need-add-result-2
 add-result-2 c = search needs
 
--- src/lib.rt:62:1
 same-length-2 : tie.Need-same-length-2
 same-length-2 c = search needs
 
--- src/lib.rt:62:1
 returns-2 : tie.Need-returns-2
 unfolding widths
 returns-2 c = let a = c .before .before .before .before .before .before .before .before .before .before .before .before .before .before .args in let s = a .room .now in let v = getD s (a .i) 0 in let w = c .before .before .before .before .before .before .before .before .before .before .before .word-at .ensures in let q : suc (unword v .block) ≡ c .before .before .before .before .before .before .before .before .before .before .block-after .result = sym (c .before .before .before .before .before .before .before .before .before .before .block-after .ensures ∙ ap (λ (w : ℕ). suc (w / 256 / 256 / 256 / 2)) w) in let r = map unword (rest s (a .i + 1) (a .n)) in let e : c .before .before .before .before .before .before .before .before .run-of .result + 1 ≡ suc (runOf (suc (unword v .block)) r) = rw q (omega (arith, c .before .before .before .before .before .before .before .before .run-of .ensures .0)) in (rw (equation-new (a .b) v r (λ z. c .before .before .before .before .before .before .before .before .before .if1 .left (sym q ∙ z))) (wrote-more (bytes (blockRec (unword v .kind) (suc (runOf (suc (unword v .block)) r)))) (bytes (equationRec (unword v))) (a .out .now) (c .before .before .before .before .before .before .write-block .last .0) _ (a .at) (a .at + 3) (a .at + 7) (rw (w, e) at (c .before .before .before .before .before .before .write-block .ensures), refl) (rw w at (c .before .before .write-equation2 .ensures), omega arith)), omega arith)

@@ -1,20 +1,15 @@
-use Rattle.rules.specs.Session.{unword}
-use Prim.Native.Nat.{_/_}
-use borrow.Author.Needs.{needs}
-use lib.ListN.{length, getD}
+-- `writer::write_equations` meets its contract. Assumes nothing.
 use mathlib.Core.List.{List, map}
-use Prim.Native.Nat.{ℕ, suc, _+_, _*_, _-_, _≤_}
-use Rattle.writer.specs.Spelled.{rest, Wrote, oneLabel, labelBytes, oneEquation, equationBytes, moveBytes}
-use Rattle.writer.specs.SpelledLaws.{rest-end, wrote-more, wrote-none, no-label, a-label, label-step, label-end, label-length, run-same, run-other, run-end, equation-same, equation-new, equation-step, equation-end, move-step, move-end}
+use mathlib.Core.Path.{_≡_, refl, ap, _∙_}
+use Prim.Native.Nat.{_/_, ℕ, suc, _+_, _*_, _-_, _≤_}
 use native.Mathlib.Omega.{arith}
-use mathlib.Core.Path.{_≡_, refl, sym, ap, _∙_}
+use lib.ListN.{length, getD}
+use borrow.Author.Needs.{needs}
+use Rattle.rules.specs.Session.{unword}
+use Rattle.writer.specs.Spelled.{rest, Wrote, oneEquation, equationBytes}
+use Rattle.writer.specs.SpelledLaws.{wrote-more, wrote-none, equation-step, equation-end}
 use Rattle.writer.proofs.write_equations.Statement.{statement}
 use Rattle.writer.proofs.write_equations.Tie as tie
-use Rattle.writer.proofs.write_equations.Reads as reads
-use Rattle.writer.proofs.write_equations.Lts as lts
-use Rattle.rooms.proofs.word_at.Reads as word-at-reads
-use Rattle.writer.proofs.block_after.Reads as block-after-reads
-use Rattle.writer.proofs.put_equation.Reads as put-equation-reads
 
 abbrev Inv-loop : tie.InvT-loop
 Inv-loop out₀ start room n at₀ b₀ i₀ out at b i =
@@ -24,39 +19,30 @@ Inv-loop out₀ start room n at₀ b₀ i₀ out at b i =
 abbrev μ-loop : tie.MeasureT-loop
 μ-loop out₀ start room n at₀ b₀ i₀ out at b i = n - i
 
--- src/lib.rt:86:5
 loop-holds : tie.Need-loop-holds Inv-loop μ-loop
 loop-holds c = (refl, omega arith, omega arith, λ o k w. w)
 
--- src/lib.rt:87:9
 put-equation-requires : tie.Need-put-equation-requires Inv-loop μ-loop
 put-equation-requires c κs = omega arith
 
--- src/lib.rt:88:25
 word-at-requires : tie.Need-word-at-requires Inv-loop μ-loop
 word-at-requires c κs = search needs
 
--- src/lib.rt:88:9
 block-after-requires : tie.Need-block-after-requires Inv-loop μ-loop
 block-after-requires c κs = search needs
 
--- src/lib.rt:89:13
 add-i : tie.Need-add-i Inv-loop μ-loop
 add-i c = omega arith
 
--- src/lib.rt:86:5
 loop-less : tie.Need-loop-less Inv-loop μ-loop
 loop-less c = omega arith
 
--- src/lib.rt:86:5
 loop-again : tie.Need-loop-again Inv-loop μ-loop
 loop-again c = let a = c .before .before .before .before .before .before .before .before .before .before .args in let s = a .room .now in let l = c .before .before .before .before .before .before .before .loop in let v = getD s (l .i) 0 in let q : c .block-after .result ≡ suc (unword v .block) = c .block-after .ensures ∙ ap (λ (w : ℕ). suc (w / 256 / 256 / 256 / 2)) (c .before .word-at .ensures) in (search needs, omega arith, omega arith, λ o k w. l .inv .3 o k (rw (equation-step s (l .b) (l .i) (a .n) (omega arith)) (wrote-more (oneEquation (l .b) (unword v) (map unword (rest s (l .i + 1) (a .n)))) (equationBytes (suc (unword v .block)) s (l .i + 1) (a .n)) (l .out) (c .before .before .before .before .put-equation .last .0) o (l .at) (c .before .before .before .before .put-equation .result) k (c .before .before .before .before .put-equation .ensures .0) (rw q at w))))
 
--- src/lib.rt:79:1
 same-length : tie.Need-same-length Inv-loop μ-loop
 same-length c = c .before .loop .inv .0
 
--- src/lib.rt:79:1
 returns : tie.Need-returns Inv-loop μ-loop
 returns c = let a = c .before .before .before .before .args in let s = a .room .now in let l = c .before .loop in (l .inv .3 (l .out) (l .at) (rw (equation-end s (l .b) (l .i) (a .n) (omega arith)) (wrote-none (l .out) (l .at))), omega arith)
 

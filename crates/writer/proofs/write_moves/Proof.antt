@@ -1,20 +1,16 @@
-use Rattle.rules.specs.Spelling.{moveRec, endRec}
-use Rattle.rules.specs.Records.{bytes, widths}
-use borrow.Author.Needs.{needs}
-use lib.ListN.{length, getD}
-use mathlib.Core.List.{List, map}
-use Prim.Native.Nat.{ℕ, suc, _+_, _*_, _-_, _≤_}
-use Rattle.writer.specs.Spelled.{rest, Wrote, oneLabel, labelBytes, oneEquation, equationBytes, moveBytes}
-use Rattle.writer.specs.SpelledLaws.{rest-end, wrote-more, wrote-none, no-label, a-label, label-step, label-end, label-length, run-same, run-other, run-end, equation-same, equation-new, equation-step, equation-end, move-step, move-end}
+-- `writer::write_moves` meets its contract. Assumes nothing.
+use mathlib.Core.List.{List}
+use mathlib.Core.Path.{_≡_, refl}
+use Prim.Native.Nat.{ℕ, _+_, _*_, _-_, _≤_}
 use native.Mathlib.Omega.{arith}
-use mathlib.Core.Path.{_≡_, refl, sym, ap, _∙_}
+use lib.ListN.{length, getD}
+use borrow.Author.Needs.{needs}
+use Rattle.rules.specs.Spelling.{moveRec}
+use Rattle.rules.specs.Records.{bytes, widths}
+use Rattle.writer.specs.Spelled.{Wrote, moveBytes}
+use Rattle.writer.specs.SpelledLaws.{wrote-more, move-step, move-end}
 use Rattle.writer.proofs.write_moves.Statement.{statement}
 use Rattle.writer.proofs.write_moves.Tie as tie
-use Rattle.writer.proofs.write_moves.Reads as reads
-use Rattle.writer.proofs.write_moves.Lts as lts
-use Rattle.rooms.proofs.word_at.Reads as word-at-reads
-use Rattle.wire.proofs.write_end.Reads as write-end-reads
-use Rattle.wire.proofs.write_move.Reads as write-move-reads
 
 abbrev Inv-loop : tie.InvT-loop
 Inv-loop out₀ start room n at₀ i₀ out at i =
@@ -24,48 +20,37 @@ Inv-loop out₀ start room n at₀ i₀ out at i =
 abbrev μ-loop : tie.MeasureT-loop
 μ-loop out₀ start room n at₀ i₀ out at i = n - i
 
--- src/lib.rt:101:5
 loop-holds : tie.Need-loop-holds Inv-loop μ-loop
 loop-holds c = (refl, omega arith, omega arith, λ o k w. w)
 
--- src/lib.rt:102:35
 word-at-requires : tie.Need-word-at-requires Inv-loop μ-loop
 word-at-requires c κs = search needs
 
--- src/lib.rt:102:9
 write-move-requires : tie.Need-write-move-requires Inv-loop μ-loop
 write-move-requires c κs = omega arith
 
--- src/lib.rt:103:14
 add-at : tie.Need-add-at Inv-loop μ-loop
 add-at c = omega arith
 
--- src/lib.rt:104:13
 add-i : tie.Need-add-i Inv-loop μ-loop
 add-i c = omega arith
 
--- src/lib.rt:101:5
 loop-less : tie.Need-loop-less Inv-loop μ-loop
 loop-less c = omega arith
 
--- src/lib.rt:101:5
 loop-again : tie.Need-loop-again Inv-loop μ-loop
 unfolding widths
 loop-again c = let a = c .before .before .before .before .before .before .before .before .before .args in let s = a .room .now in let l = c .before .before .before .before .before .before .loop in let v = getD s (l .i) 0 in let f : Wrote (l .out) (l .at) (bytes (moveRec v)) (c .before .before .write-move .last .0) (l .at + 6) = (rw (c .before .before .before .word-at .ensures) at (c .before .before .write-move .ensures), refl) in (search needs, omega arith, omega arith, λ o k w. l .inv .3 o k (rw (move-step s (l .i) (a .n) (omega arith)) (wrote-more (bytes (moveRec v)) (moveBytes s (l .i + 1) (a .n)) (l .out) (c .before .before .write-move .last .0) o (l .at) (l .at + 6) k f w)))
 
--- src/lib.rt:106:5
 write-end-requires : tie.Need-write-end-requires Inv-loop μ-loop
 write-end-requires c κs = search needs
 
--- src/lib.rt:107:5
 add-result : tie.Need-add-result Inv-loop μ-loop
 add-result c = omega arith
 
--- src/lib.rt:95:1
 same-length : tie.Need-same-length Inv-loop μ-loop
 same-length c = search needs
 
--- src/lib.rt:95:1
 returns : tie.Need-returns Inv-loop μ-loop
 unfolding widths
 returns c = let a = c .before .before .before .before .before .before .before .before .args in let s = a .room .now in let l = c .before .before .before .before .before .loop in l .inv .3 _ (l .at + 1) (rw (move-end s (l .i) (a .n) (omega arith)) (c .before .before .write-end .ensures, refl))
