@@ -1,0 +1,68 @@
+-- `judge::first_turn` meets its contract. Assumes nothing.
+use mathlib.Core.Path.{_≡_, refl, sym, ap, _∙_}
+use borrow.Author.Tests.{not-false}
+use borrow.Author.Needs.{needs}
+use Rattle.rules.specs.Limits.{sizesOk}
+use Rattle.rules.specs.declared.Record.the-variants as R
+use Rattle.rules.specs.declared.Record.{Record}
+use Rattle.rules.specs.declared.Refusal.the-variants as Why
+use Rattle.rules.specs.Load.{before}
+use Rattle.limits.specs.Lent.{lengthsBy}
+use Rattle.wire.specs.declared.Read.the-variants.{Got}
+use Rattle.wire.specs.Places.{recordAt}
+use Rattle.judge.specs.TurnLaws.{turned-broken, turned-no, turned-next, sizes-no, sizes-next, sizes-due, started-kept}
+use Rattle.judge.proofs.first_turn.Statement.{statement}
+use Rattle.judge.proofs.first_turn.Tie as tie
+
+read-record-requires : tie.Need-read-record-requires
+read-record-requires c κs = search needs
+
+enum-known-read : tie.Need-enum-known-read
+enum-known-read c = search needs
+
+enum-told : tie.Need-enum-told
+enum-told c = search needs
+
+returns : tie.Need-returns
+returns c = turned-broken (lengthsBy (c .before .before .before .before .args .l)) (c .before .before .before .before .args .bytes .now) before 0 (sym (c .before .before .read-record .ensures) ∙ c .enum-told .given .1)
+
+enum-known-rec : tie.Need-enum-known-rec
+enum-known-rec c = search needs
+
+returns-2 : tie.Need-returns-2
+returns-2 c = let a = c .before .before .before .before .before .before .args in let l = lengthsBy (a .l) in let s = a .bytes .now in let g = c .before .before .read .given in let n = g .0 .1 .0 in turned-no l s before 0 n (g .0 .0) (sym (c .before .before .before .before .read-record .ensures) ∙ g .1) Why.NotDue (sizes-due l (g .0 .0) (c .match2 .keys2))
+
+sizes-ok-requires : tie.Need-sizes-ok-requires
+sizes-ok-requires c κs = search needs
+
+returns-3 : tie.Need-returns-3
+returns-3 c = let a = c .before .before .before .before .before .before .before .before .before .before .args in let l = lengthsBy (a .l) in let s = a .bytes .now in let g = c .before .before .before .before .before .before .read .given in let n = g .0 .1 .0 in let z = c .before .before .before .rec .given .0 .0 in let got : recordAt s 0 ≡ Got (R.Sizes z) n = sym (c .before .before .before .before .before .before .before .before .read-record .ensures) ∙ g .1 ∙ ap (λ (r : Record). Got r n) (c .before .before .before .rec .given .1) in turned-no l s before 0 n (R.Sizes z) got Why.BadSize (sizes-no l z 1 (refl, rw (c .before .sizes-ok .ensures) at (c .if1 .taken)))
+
+rooms-ok-requires : tie.Need-rooms-ok-requires
+rooms-ok-requires c κs = search needs
+
+returns-4 : tie.Need-returns-4
+returns-4 c = let a = c .before .before .before .before .before .before .before .before .before .before .before .before .args in let l = lengthsBy (a .l) in let s = a .bytes .now in let g = c .before .before .before .before .before .before .before .before .read .given in let n = g .0 .1 .0 in let z = c .before .before .before .before .before .rec .given .0 .0 in let got : recordAt s 0 ≡ Got (R.Sizes z) n = sym (c .before .before .before .before .before .before .before .before .before .before .read-record .ensures) ∙ g .1 ∙ ap (λ (r : Record). Got r n) (c .before .before .before .before .before .rec .given .1) in turned-no l s before 0 n (R.Sizes z) got Why.ShortRoom (sizes-no l z 2 (refl, (rw (c .before .before .before .sizes-ok .ensures) at (c .before .before .if1 .left), rw (c .before .rooms-ok .ensures) at (c .if2 .taken))))
+
+started-with-requires : tie.Need-started-with-requires
+started-with-requires c κs = search needs
+
+returns-5 : tie.Need-returns-5
+returns-5 c = let a = c .before .before .before .before .before .before .before .before .before .before .before .before .before .args in let l = lengthsBy (a .l) in let s = a .bytes .now in let g = c .before .before .before .before .before .before .before .before .before .read .given in let n = g .0 .1 .0 in let z = c .before .before .before .before .before .before .rec .given .0 .0 in let got : recordAt s 0 ≡ Got (R.Sizes z) n = sym (c .before .before .before .before .before .before .before .before .before .before .before .read-record .ensures) ∙ g .1 ∙ ap (λ (r : Record). Got r n) (c .before .before .before .before .before .before .rec .given .1) in let w = c .started-with .ensures in let k = sizes-next l z (refl, (rw (c .before .before .before .before .sizes-ok .ensures) at (c .before .before .before .if1 .left), (rw (c .before .before .rooms-ok .ensures) at (c .before .if2 .left), tt))) in turned-next l s before 0 n (R.Sizes z) got (c .started-with .result) (rw w k) (rw w (started-kept z (not-false (sizesOk z) (rw (c .before .before .before .before .sizes-ok .ensures) at (c .before .before .before .if1 .left)))))
+
+pub first-turn-spec : {M : Type 1} → statement M
+first-turn-spec =
+    tie.close
+    (tie.spec
+    read-record-requires
+    enum-known-read
+    enum-told
+    returns
+    enum-known-rec
+    returns-2
+    sizes-ok-requires
+    returns-3
+    rooms-ok-requires
+    returns-4
+    started-with-requires
+    returns-5)

@@ -1,0 +1,4 @@
+pub mod Progress
+pub mod Demands
+pub mod Turning
+pub mod TurnLaws

@@ -1,0 +1,36 @@
+-- What the code holds of a model half read, as the rules have it. Definitions only.
+use Prim.Native.Nat.{_+_, _≤_}
+use Rattle.rules.specs.Answers.{numberOf}
+use Rattle.rules.specs.Load.{Sofar, State, inside}
+use Rattle.rules.specs.Records.{Turn, no, next, over}
+use Rattle.judge.specs.declared.Progress.{Progress}
+use Rattle.judge.specs.declared.Judged.{Judged}
+use Rattle.judge.specs.declared.Judged.the-variants as J
+
+-- What has been read so far.
+abbrev pub sofarOf : Progress → Sofar
+sofarOf x =
+    record {
+      sizes = x .sizes;
+      labels = x .labels;
+      blocks = record { count = x .blocks .count; kind = x .blocks .kind; due = x .blocks .due; equations = x .blocks .equations };
+      moves = record { count = x .moves .count; least = x .moves .least };
+    }
+
+-- What one record does.
+abbrev pub judgedSays : Judged → Turn State
+judgedSays (J.Refused e) = no (numberOf e)
+judgedSays (J.Next y) = next (inside (sofarOf y))
+judgedSays J.Over = over
+
+-- What holds of every state on the way: no number grows past its limit.
+pub record Kept (x : Sofar) : Type 0 where
+  pub states : x .sizes .states ≤ 256
+  pub actions : x .sizes .actions ≤ 16
+  pub variables : x .sizes .variables ≤ 32
+  pub most-blocks : x .sizes .blocks ≤ 8
+  pub labels : x .labels ≤ x .sizes .states
+  pub count : x .blocks .count ≤ x .sizes .blocks
+  pub kind : x .blocks .kind ≤ 1
+  pub equations : x .blocks .equations + x .blocks .due ≤ x .sizes .variables
+  pub moves : x .moves .count ≤ 1024

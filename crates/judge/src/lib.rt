@@ -1,0 +1,321 @@
+// A model on the wire, judged record by record.
+ghost use mathlib.Core.Path.{_≡_};
+ghost use Prim.Native.Nat.{_+_, _≤_, _<_};
+ghost use Rattle.rules.specs.Load.{before, inside, started, readModel, go, labelDemands, blockDemands, equationDemands, moveDemands, endDemands, afterLabel, afterBlock, afterEquation, afterMove, step, blockFits, movesDue};
+ghost use Rattle.rules.specs.Moves.{pack};
+ghost use Rattle.rules.specs.Records.{demand, over, numbersOf};
+ghost use Rattle.limits.specs.Lent.{lengthsBy};
+ghost use Rattle.judge.specs.Progress.{sofarOf, judgedSays, Kept};
+ghost use Rattle.judge.specs.Turning.{readSays, summary, from, endTurn, Turned};
+use limits::Lent;
+use rules::Move;
+use rules::Record;
+use rules::Refusal;
+use rules::Sizes;
+use rules::State;
+use wire::Read;
+
+// Of the blocks so far: how many records, the kind of the last, how many of its equations are still due, and how many
+// equations there were in all.
+pub struct BlocksRead {
+    pub count: u32,
+    pub kind: u32,
+    pub due: u32,
+    pub equations: u32,
+}
+
+// Of the moves so far: how many, and the least number that the next may have.
+pub struct MovesRead {
+    pub count: u32,
+    pub least: u64,
+}
+
+// What has been read so far, in numbers. Labels have passed the states below `labels`.
+pub struct Progress {
+    pub sizes: Sizes,
+    pub labels: u32,
+    pub blocks: BlocksRead,
+    pub moves: MovesRead,
+}
+
+// What one record does to what has been read so far.
+pub enum Judged {
+    Refused(Refusal),
+    Next(Progress),
+    Over,
+}
+
+// A label: due before the first block; a state, a set that is not empty and not too high; in order.
+fn on_label(x: Progress, s: State, v: u32) -> Judged
+    ensures { λ r. ⌜ judgedSays r ≡ go (labelDemands (sofarOf x) (s .0) v) (afterLabel (sofarOf x) (s .0)) ⌝ }
+{
+    let z = x.sizes;
+    let blocks = x.blocks;
+    let moves = x.moves;
+    if !(blocks.count == 0) {
+        return Judged::Refused(Refusal::NotDue);
+    }
+    if !((s.0 < z.states) & (0 < v) & limits::label_ok(z, v)) {
+        return Judged::Refused(Refusal::BadNumber);
+    }
+    if !(x.labels <= s.0 as u32) {
+        return Judged::Refused(Refusal::OutOfOrder);
+    }
+    Judged::Next(Progress {
+        sizes: z,
+        labels: s.0 as u32 + 1,
+        blocks: blocks,
+        moves: moves,
+    })
+}
+
+// Whether a block takes 1 to all of the variables that remain, and the last block all.
+fn block_fits(x: Progress, n: u8) -> bool
+    requires { ⌜ Kept (sofarOf x) ⌝ }
+    ensures { λ r. ⌜ r ≡ blockFits (sofarOf x) n ⌝ }
+{
+    let all = x.blocks.equations + n as u32;
+    let variables = x.sizes.variables as u32;
+    let more = x.blocks.count + 1 < x.sizes.blocks as u32;
+    (0 < n) & (all <= variables) & (more | (all == variables))
+}
+
+// A block: due where no equation is and blocks are left; its variables fit; its kind is 0 or 1.
+fn on_block(x: Progress, k: u8, n: u8) -> Judged
+    requires { ⌜ Kept (sofarOf x) ⌝ }
+    ensures { λ r. ⌜ judgedSays r ≡ go (blockDemands (sofarOf x) k n) (afterBlock (sofarOf x) k n) ⌝ }
+{
+    let z = x.sizes;
+    let blocks = x.blocks;
+    let moves = x.moves;
+    if !((blocks.due == 0) & (blocks.count < z.blocks as u32)) {
+        return Judged::Refused(Refusal::NotDue);
+    }
+    if !block_fits(x, n) {
+        return Judged::Refused(Refusal::BadSize);
+    }
+    if !(k <= 1) {
+        return Judged::Refused(Refusal::BadNumber);
+    }
+    Judged::Next(Progress {
+        sizes: z,
+        labels: z.states as u32,
+        blocks: BlocksRead {
+            count: blocks.count + 1,
+            kind: k as u32,
+            due: n as u32,
+            equations: blocks.equations,
+        },
+        moves: moves,
+    })
+}
+
+// An equation: due inside a block; its numbers in range; it names no variable of a later block.
+fn on_equation(x: Progress, o: u8, a: u8, b: u8) -> Judged
+    requires { ⌜ Kept (sofarOf x) ⌝ }
+    ensures { λ r. ⌜ judgedSays r ≡ go (equationDemands (sofarOf x) o a b) (afterEquation (sofarOf x)) ⌝ }
+{
+    let z = x.sizes;
+    let blocks = x.blocks;
+    let moves = x.moves;
+    if !(0 < blocks.due) {
+        return Judged::Refused(Refusal::NotDue);
+    }
+    if !limits::operands_ok(z, o, a, b) {
+        return Judged::Refused(Refusal::BadNumber);
+    }
+    if !limits::names_ok(blocks.equations + blocks.due, o, a, b) {
+        return Judged::Refused(Refusal::LaterBlock);
+    }
+    Judged::Next(Progress {
+        sizes: z,
+        labels: x.labels,
+        blocks: BlocksRead {
+            count: blocks.count,
+            kind: blocks.kind,
+            due: blocks.due - 1,
+            equations: blocks.equations + 1,
+        },
+        moves: moves,
+    })
+}
+
+// Whether moves and the end are due: after the last equation.
+fn moves_due(x: Progress) -> bool
+    ensures { λ r. ⌜ r ≡ movesDue (sofarOf x) ⌝ }
+{
+    (x.blocks.due == 0) & (x.blocks.count == x.sizes.blocks as u32)
+}
+
+// A move as one number.
+fn packed(m: Move) -> u64
+    ensures { λ r. ⌜ (r ≡ pack (m .source .0) (m .action .0) (m .target .0)) × (r < 8589934592) ⌝ }
+{
+    65536 * (m.source.0 as u64) + 1024 * (m.action.0 as u64) + (m.target.0 as u64)
+}
+
+// A move: due after the last equation; in range; in order; and there is room for it.
+fn on_move(l: Lent, x: Progress, m: Move) -> Judged
+    ensures { λ r. ⌜ judgedSays r ≡ go (moveDemands (lengthsBy l) (sofarOf x) (m .source .0) (m .action .0) (m .target .0)) (afterMove (sofarOf x) (pack (m .source .0) (m .action .0) (m .target .0))) ⌝ }
+{
+    let z = x.sizes;
+    let blocks = x.blocks;
+    let count = x.moves.count as usize;
+    let q = packed(m);
+    if !moves_due(x) {
+        return Judged::Refused(Refusal::NotDue);
+    }
+    if !limits::move_ok(z, m) {
+        return Judged::Refused(Refusal::BadNumber);
+    }
+    if !(x.moves.least <= q) {
+        return Judged::Refused(Refusal::OutOfOrder);
+    }
+    if !((count < limits::MOST_MOVES) & (count < l.moves)) {
+        return Judged::Refused(Refusal::Full);
+    }
+    Judged::Next(Progress {
+        sizes: z,
+        labels: x.labels,
+        blocks: blocks,
+        moves: MovesRead {
+            count: x.moves.count + 1,
+            least: q + 1,
+        },
+    })
+}
+
+// The end: due where moves are.
+fn on_end(x: Progress) -> Judged
+    ensures { λ r. ⌜ judgedSays r ≡ demand (endDemands (sofarOf x)) over ⌝ }
+{
+    if !moves_due(x) {
+        return Judged::Refused(Refusal::NotDue);
+    }
+    Judged::Over
+}
+
+// One record after the sizes. Sizes, stamps, inserts and deletes are never due there.
+pub fn judge_record(l: Lent, x: Progress, rec: Record) -> Judged
+    requires { ⌜ Kept (sofarOf x) ⌝ }
+    ensures { λ r. ⌜ judgedSays r ≡ step (lengthsBy l) (inside (sofarOf x)) (numbersOf rec) ⌝ }
+{
+    match rec {
+        Record::Label(s, v) => on_label(x, s, v),
+        Record::Block(k, n) => on_block(x, k, n),
+        Record::Equation(o, a, b) => on_equation(x, o, a, b),
+        Record::Move(m) => on_move(l, x, m),
+        Record::End => on_end(x),
+        _ => Judged::Refused(Refusal::NotDue),
+    }
+}
+
+// What reading a model comes to: a refusal with its place, or the sizes and the number of moves.
+pub enum ReadModel {
+    Refused(Refusal, usize),
+    Good(Sizes, u32),
+}
+
+// One record read and judged: the end of the reading, or the record, what has been read with it, and the next place.
+pub enum OneTurn {
+    Stop(ReadModel),
+    Go(Record, Progress, usize),
+}
+
+// After the end record: any byte is not due.
+fn at_end(x: Progress, next: usize, len: usize) -> OneTurn
+    ensures { λ r. ⌜ r ≡ endTurn x next len ⌝ }
+{
+    let z = x.sizes;
+    if next < len {
+        return OneTurn::Stop(ReadModel::Refused(Refusal::NotDue, next));
+    }
+    OneTurn::Stop(ReadModel::Good(z, x.moves.count))
+}
+
+// The record at a place, read and judged.
+pub fn turn(bytes: &[u8], l: Lent, x: Progress, at: usize) -> OneTurn
+    requires { ⌜ Kept (sofarOf x) ⌝ }
+    ensures { λ r. ⌜ Turned (lengthsBy l) (now (bytes .entry)) (inside (sofarOf x)) at r ⌝ }
+{
+    let read = wire::read_record(bytes, at);
+    let Read::Got(rec, next) = read else {
+        return OneTurn::Stop(ReadModel::Refused(Refusal::Broken, at));
+    };
+    let judged = judge_record(l, x, rec);
+    match judged {
+        Judged::Refused(e) => OneTurn::Stop(ReadModel::Refused(e, at)),
+        Judged::Next(y) => OneTurn::Go(rec, y, next),
+        Judged::Over => at_end(x, next, bytes.len()),
+    }
+}
+
+// What has been read after a sizes record.
+fn started_with(z: Sizes) -> Progress
+    ensures { λ r. ⌜ sofarOf r ≡ started z ⌝ }
+{
+    Progress {
+        sizes: z,
+        labels: 0,
+        blocks: BlocksRead {
+            count: 0,
+            kind: 0,
+            due: 0,
+            equations: 0,
+        },
+        moves: MovesRead { count: 0, least: 0 },
+    }
+}
+
+// The first record: the sizes, inside their limits, and no room shorter than they need.
+pub fn first_turn(bytes: &[u8], l: Lent) -> OneTurn
+    ensures { λ r. ⌜ Turned (lengthsBy l) (now (bytes .entry)) before 0 r ⌝ }
+{
+    let read = wire::read_record(bytes, 0);
+    let Read::Got(rec, next) = read else {
+        return OneTurn::Stop(ReadModel::Refused(Refusal::Broken, 0));
+    };
+    let Record::Sizes(z) = rec else {
+        return OneTurn::Stop(ReadModel::Refused(Refusal::NotDue, 0));
+    };
+    if !limits::sizes_ok(z) {
+        return OneTurn::Stop(ReadModel::Refused(Refusal::BadSize, 0));
+    }
+    if !limits::rooms_ok(l, z) {
+        return OneTurn::Stop(ReadModel::Refused(Refusal::ShortRoom, 0));
+    }
+    OneTurn::Go(rec, started_with(z), next)
+}
+
+// The records after the sizes.
+fn judge_rest(bytes: &[u8], l: Lent, x: Progress, start: usize) -> ReadModel
+    requires { ⌜ Kept (sofarOf x) ⌝ }
+    ensures { λ r. ⌜ readSays r ≡ from (lengthsBy l) (now (bytes .entry)) (inside (sofarOf x)) start ⌝ }
+{
+    let mut p = x;
+    let mut at = start;
+    while at < bytes.len() {
+        let t = turn(bytes, l, p, at);
+        match t {
+            OneTurn::Stop(a) => {
+                return a;
+            }
+            OneTurn::Go(_, y, n) => {
+                p = y;
+                at = n;
+            }
+        }
+    }
+    ReadModel::Refused(Refusal::Broken, at)
+}
+
+// The whole model: what loading it would say, before anything is stored.
+pub fn judge_model(bytes: &[u8], l: Lent) -> ReadModel
+    ensures { λ r. ⌜ readSays r ≡ summary (readModel (lengthsBy l) (now (bytes .entry))) ⌝ }
+{
+    let t = first_turn(bytes, l);
+    match t {
+        OneTurn::Stop(a) => a,
+        OneTurn::Go(_, y, n) => judge_rest(bytes, l, y, n),
+    }
+}

@@ -1,0 +1,22 @@
+-- `limits::pairs` meets its contract. Assumes nothing.
+use Prim.Native.Nat.{_*_, _≤_}
+use native.Mathlib.Nat.{mul-le-mul}
+use native.Mathlib.Omega.{arith}
+use borrow.Author.Needs.{needs}
+use Rattle.limits.proofs.pairs.Statement.{statement}
+use Rattle.limits.proofs.pairs.Tie as tie
+
+cast-result : tie.Need-cast-result
+cast-result c = search needs
+
+cast-result-2 : tie.Need-cast-result-2
+cast-result-2 c = search needs
+
+mul-result : tie.Need-mul-result
+mul-result c = let a = c .before .before .args .z in let h : a .variables * a .states ≤ 255 * 65535 = mul-le-mul {n₁ = a .variables} {m₁ = a .states} {n₂ = 255} {m₂ = 65535} (omega arith) (omega arith) in record { fits = omega arith }
+
+returns : tie.Need-returns
+returns c = search needs
+
+pub pairs-spec : {M : Type 1} → statement M
+pairs-spec = tie.close (tie.spec cast-result cast-result-2 mul-result returns)

@@ -1,0 +1,103 @@
+// The most of each thing, and whether the numbers of a model lie inside their limits.
+ghost use mathlib.Core.Path.{_≡_};
+ghost use Rattle.rules.specs.Limits.{sizesOk};
+ghost use Rattle.rules.specs.Model.{labelOk, moveOk, operandsOk, namesOk};
+ghost use Rattle.rules.specs.Rooms.{pairsOf, roomsOk};
+ghost use Rattle.limits.specs.Lent.{lengthsBy};
+use rules::Move;
+use rules::Sizes;
+
+pub const MOST_STATES: u16 = 256;
+
+pub const MOST_ACTIONS: u8 = 16;
+
+pub const MOST_PROPOSITIONS: u8 = 32;
+
+pub const MOST_VARIABLES: u8 = 32;
+
+pub const MOST_BLOCKS: u8 = 8;
+
+pub const MOST_MOVES: usize = 1024;
+
+pub const MOST_CHANGES: usize = 64;
+
+// How long the rooms are that a caller lends.
+pub struct Lent {
+    pub labels: usize,
+    pub equations: usize,
+    pub values: usize,
+    pub marks: usize,
+    pub moves: usize,
+}
+
+// Each size lies between its least and its most.
+pub fn sizes_ok(z: Sizes) -> bool
+    ensures { λ r. ⌜ r ≡ sizesOk z ⌝ }
+{
+    ((1 <= z.states) & (z.states <= MOST_STATES))
+        & ((1 <= z.actions) & (z.actions <= MOST_ACTIONS))
+        & (z.propositions <= MOST_PROPOSITIONS)
+        & ((1 <= z.variables) & (z.variables <= MOST_VARIABLES))
+        & ((1 <= z.blocks) & (z.blocks <= MOST_BLOCKS))
+}
+
+// How many pairs there are.
+fn pairs(z: Sizes) -> usize
+    ensures { λ r. ⌜ r ≡ pairsOf z ⌝ }
+{
+    (z.variables as usize) * (z.states as usize)
+}
+
+// No room for labels, equations, values or marks is shorter than the sizes need.
+pub fn rooms_ok(l: Lent, z: Sizes) -> bool
+    ensures { λ r. ⌜ r ≡ roomsOk (lengthsBy l) z ⌝ }
+{
+    let n = pairs(z);
+    (z.states as usize <= l.labels)
+        & (z.variables as usize <= l.equations)
+        & (n <= l.values)
+        & (n <= l.marks)
+}
+
+// The highest proposition of the set lies below the proposition count.
+pub fn label_ok(z: Sizes, v: u32) -> bool
+    ensures { λ r. ⌜ r ≡ labelOk z v ⌝ }
+{
+    32 - u32::leading_zeros(v) <= z.propositions as u32
+}
+
+// Source, action and target lie below their counts.
+pub fn move_ok(z: Sizes, m: Move) -> bool
+    ensures { λ r. ⌜ r ≡ moveOk z (m .source .0) (m .action .0) (m .target .0) ⌝ }
+{
+    (m.source.0 < z.states) & (m.action.0 < z.actions) & (m.target.0 < z.states)
+}
+
+// The operator is at most 7, what it uses lies below its count, and what it does not use is 0.
+pub fn operands_ok(z: Sizes, o: u8, a: u8, b: u8) -> bool
+    ensures { λ r. ⌜ r ≡ operandsOk z o a b ⌝ }
+{
+    if o < 2 {
+        return (a == 0) & (b == 0);
+    }
+    if o < 4 {
+        return (a < z.propositions) & (b == 0);
+    }
+    if o < 6 {
+        return (a < z.variables) & (b < z.variables);
+    }
+    (o < 8) & (a < z.actions) & (b < z.variables)
+}
+
+// The variables that an equation names lie below `end`, the first variable after its block.
+pub fn names_ok(end: u32, o: u8, a: u8, b: u8) -> bool
+    ensures { λ r. ⌜ r ≡ namesOk end o a b ⌝ }
+{
+    if o < 4 {
+        return true;
+    }
+    if o < 6 {
+        return ((a as u32) < end) & ((b as u32) < end);
+    }
+    (b as u32) < end
+}

@@ -1,0 +1,25 @@
+-- `spell::put4` meets its contract. Assumes nothing.
+use mathlib.Core.Path.{_≡_}
+use Prim.Native.Nat.{suc, _+_}
+use native.Mathlib.Omega.{arith}
+use borrow.Author.Needs.{needs}
+use Rattle.spell.proofs.put4.Statement.{statement}
+use Rattle.spell.proofs.put4.Tie as tie
+
+set-byte-requires : tie.Need-set-byte-requires
+set-byte-requires c κs = search needs
+
+add-put3 : tie.Need-add-put3
+add-put3 c = search needs
+
+put3-requires : tie.Need-put3-requires
+put3-requires c κs = search needs
+
+same-length : tie.Need-same-length
+same-length c = search needs
+
+returns : tie.Need-returns
+returns c = let a = c .before .before .before .before .before .before .before .before .before .args in let e : a .at + 1 ≡ suc (a .at) = omega arith in cc
+
+pub put4-spec : {M : Type 1} → statement M
+put4-spec = tie.close (tie.spec set-byte-requires add-put3 put3-requires same-length returns)

@@ -1,0 +1,102 @@
+// Each kind of record of a model, written from a place on.
+ghost use mathlib.Core.Path.{_≡_};
+ghost use mathlib.Core.List.{[], _∷_};
+ghost use Prim.Native.Nat.{_%_, _<_};
+ghost use lib.Seq.{sets};
+ghost use Rattle.rules.specs.Records.{bytes};
+ghost use Rattle.rules.specs.Session.{unword};
+ghost use Rattle.rules.specs.Spelling.{sizesRec, blockRec, equationRec, moveRec, endRec};
+ghost use Rattle.spell.specs.Written.{labelRec};
+use rules::Sizes;
+
+// Two bytes written from a place on, three, and four.
+fn put2(out: &mut [u8], at: usize, a: u8, b: u8)
+    requires { ⌜ at < 65560 ⌝ }
+    ensures { λ _. ⌜ now (out .exit) ≡ sets (now (out .entry)) at (a ∷ b ∷ []) ⌝ }
+{
+    rooms::set_byte(out, at, a);
+    rooms::set_byte(out, at + 1, b);
+}
+
+fn put3(out: &mut [u8], at: usize, a: u8, b: u8, c: u8)
+    requires { ⌜ at < 65552 ⌝ }
+    ensures { λ _. ⌜ now (out .exit) ≡ sets (now (out .entry)) at (a ∷ b ∷ c ∷ []) ⌝ }
+{
+    rooms::set_byte(out, at, a);
+    put2(out, at + 1, b, c);
+}
+
+fn put4(out: &mut [u8], at: usize, a: u8, b: u8, c: u8, d: u8)
+    requires { ⌜ at < 65544 ⌝ }
+    ensures { λ _. ⌜ now (out .exit) ≡ sets (now (out .entry)) at (a ∷ b ∷ c ∷ d ∷ []) ⌝ }
+{
+    rooms::set_byte(out, at, a);
+    put3(out, at + 1, b, c, d);
+}
+
+// The lowest byte of a number.
+fn low(x: u32) -> u8
+    ensures { λ r. ⌜ r ≡ x % 256 ⌝ }
+{
+    (x % 256) as u8
+}
+
+// Each kind of record of a model, written from a place on.
+pub fn write_sizes(out: &mut [u8], at: usize, z: Sizes)
+    requires { ⌜ at < 65536 ⌝ }
+    ensures { λ _. ⌜ now (out .exit) ≡ sets (now (out .entry)) at (bytes (sizesRec z)) ⌝ }
+{
+    let states = z.states as u32;
+    put4(out, at, 1, low(states), low(states / 256), z.actions);
+    put3(out, at + 4, z.propositions, z.variables, z.blocks);
+}
+
+pub fn write_label(out: &mut [u8], at: usize, s: u32, v: u32)
+    requires { ⌜ at < 65536 ⌝ }
+    ensures { λ _. ⌜ now (out .exit) ≡ sets (now (out .entry)) at (bytes (labelRec s v)) ⌝ }
+{
+    put3(out, at, 2, low(s), low(s / 256));
+    put4(
+        out,
+        at + 3,
+        low(v),
+        low(v / 256),
+        low(v / 256 / 256),
+        low(v / 256 / 256 / 256),
+    );
+}
+
+pub fn write_block(out: &mut [u8], at: usize, kind: u32, n: u32)
+    requires { ⌜ at < 65536 ⌝ }
+    ensures { λ _. ⌜ now (out .exit) ≡ sets (now (out .entry)) at (bytes (blockRec kind n)) ⌝ }
+{
+    put3(out, at, 3, low(kind), low(n));
+}
+
+pub fn write_equation(out: &mut [u8], at: usize, w: u32)
+    requires { ⌜ at < 65536 ⌝ }
+    ensures { λ _. ⌜ now (out .exit) ≡ sets (now (out .entry)) at (bytes (equationRec (unword w))) ⌝ }
+{
+    put4(out, at, 4, low(w), low(w / 256), low(w / 256 / 256));
+}
+
+pub fn write_move(out: &mut [u8], at: usize, q: u32)
+    requires { ⌜ at < 65536 ⌝ }
+    ensures { λ _. ⌜ now (out .exit) ≡ sets (now (out .entry)) at (bytes (moveRec q)) ⌝ }
+{
+    put4(
+        out,
+        at,
+        5,
+        low(q / 65536),
+        low(q / 65536 / 256),
+        low(q % 65536 / 1024),
+    );
+    put2(out, at + 4, low(q % 1024), low(q % 1024 / 256));
+}
+
+pub fn write_end(out: &mut [u8], at: usize)
+    ensures { λ _. ⌜ now (out .exit) ≡ sets (now (out .entry)) at (bytes endRec) ⌝ }
+{
+    rooms::set_byte(out, at, 6);
+}

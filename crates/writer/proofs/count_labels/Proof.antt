@@ -1,0 +1,58 @@
+-- `writer::count_labels` meets its contract. Assumes nothing.
+use mathlib.Core.List.{[], _∷_}
+use mathlib.Core.Path.{_≡_}
+use Prim.Native.Nat.{_+_, _-_, _≤_}
+use native.Mathlib.Omega.{arith}
+use lib.ListN.{getD}
+use borrow.Author.Needs.{needs}
+use Rattle.laws.specs.SpellingLength.{labelled}
+use Rattle.writer.specs.SpelledLaws.{labelled-step, labelled-end}
+use Rattle.writer.specs.Spelled.{rest}
+use Rattle.writer.proofs.count_labels.Statement.{statement}
+use Rattle.writer.proofs.count_labels.Tie as tie
+
+abbrev Inv-loop : tie.InvT-loop
+Inv-loop room n most k₀ i₀ k i =
+    (i ≤ n) × (k ≤ i) × (k + labelled (rest room i n) ≡ labelled (rest room 0 n))
+
+abbrev μ-loop : tie.MeasureT-loop
+μ-loop room n most k₀ i₀ k i = n - i
+
+loop-holds : tie.Need-loop-holds Inv-loop μ-loop
+loop-holds c = (omega arith, omega arith, omega arith)
+
+word-at-requires : tie.Need-word-at-requires Inv-loop μ-loop
+word-at-requires c κs = search needs
+
+one-requires : tie.Need-one-requires Inv-loop μ-loop
+one-requires c κs = search needs
+
+add-k : tie.Need-add-k Inv-loop μ-loop
+add-k c = omega arith
+
+add-i : tie.Need-add-i Inv-loop μ-loop
+add-i c = omega arith
+
+loop-less : tie.Need-loop-less Inv-loop μ-loop
+loop-less c = omega arith
+
+loop-again : tie.Need-loop-again Inv-loop μ-loop
+loop-again c = let a = c .before .before .before .before .before .args in let s = a .room .now in let l = c .before .before .before .loop in let e = labelled-step s (l .i) (a .n) (omega arith) in let f : c .one .result ≡ labelled (getD s (l .i) 0 ∷ []) = rw (c .before .word-at .ensures) at (c .one .ensures .0) in omega arith
+
+returns : tie.Need-returns Inv-loop μ-loop
+returns c = let a = c .before .before .before .args in let s = a .room .now in let l = c .before .loop in let e = labelled-end s (l .i) (a .n) (omega arith) in omega arith
+
+pub count-labels-spec : {M : Type 1} → statement M
+count-labels-spec =
+    tie.close
+    (tie.spec
+    Inv-loop
+    μ-loop
+    loop-holds
+    word-at-requires
+    one-requires
+    add-k
+    add-i
+    loop-less
+    loop-again
+    returns)

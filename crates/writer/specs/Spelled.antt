@@ -1,0 +1,47 @@
+-- The bytes of a model as they are written from its rooms, place by place. Definitions only.
+use mathlib.Core.Path.{_≡_}
+use mathlib.Core.Bool.{cond}
+use mathlib.Core.List.{List, [], _∷_, map}
+use Prim.Native.Nat.{ℕ, suc, _+_, _-_}
+use lib.Dec.{eqb}
+use lib.ListN.{length, getD}
+use lib.Seq.{sets}
+use Rattle.lists.specs.Lists.{listed}
+use Rattle.rules.specs.Model.{Equation, Model, runOf}
+use Rattle.rules.specs.Records.{bytesOf}
+use Rattle.rules.specs.Session.{unword}
+use Rattle.rules.specs.Spelling.{labelRecs, blockRec, equationRec, equationRecs, moveRecs}
+use Rattle.rules.specs.declared.Sizes.{Sizes}
+
+-- The entries of a room from place i up to place n; what lies past the room's end is 0.
+unfoldable pub rest : List ℕ → ℕ → ℕ → List ℕ
+rest room i n = listed i (n - i) (λ p. getD room p 0)
+
+-- Bytes written into a room from a place on: the room after, and the place after.
+abbrev pub Wrote : List ℕ → ℕ → List ℕ → List ℕ → ℕ → Type 0
+Wrote out at bs after next = (after ≡ sets out at bs) × (next ≡ at + length bs)
+
+-- One label's bytes, and those of the labels from state i on.
+abbrev pub oneLabel : ℕ → ℕ → List ℕ
+oneLabel s v = bytesOf (labelRecs s (v ∷ []))
+
+unfoldable pub labelBytes : List ℕ → ℕ → ℕ → List ℕ
+labelBytes room i n = bytesOf (labelRecs i (rest room i n))
+
+-- One equation's bytes, with its block's record where b blocks stand before and it is in another; and those of the
+-- equations from variable i on.
+unfoldable pub oneEquation : ℕ → Equation → List Equation → List ℕ
+oneEquation b e l =
+    bytesOf (cond (eqb (suc (e .block)) b) (equationRec e ∷ []) (blockRec (e .kind) (suc (runOf (suc (e .block)) l)) ∷ equationRec e ∷ []))
+
+unfoldable pub equationBytes : ℕ → List ℕ → ℕ → ℕ → List ℕ
+equationBytes b room i n = bytesOf (equationRecs b (map unword (rest room i n)))
+
+-- The bytes of the moves from number i on, and of the end.
+unfoldable pub moveBytes : List ℕ → ℕ → ℕ → List ℕ
+moveBytes room i n = bytesOf (moveRecs (rest room i n))
+
+-- The model that sizes and a move count cut out of the rooms.
+abbrev pub heldIn : Sizes → ℕ → List ℕ → List ℕ → List ℕ → Model
+heldIn z n labels equations moves =
+    record { sizes = z; labels = rest labels 0 (z .states); equations = map unword (rest equations 0 (z .variables)); moves = rest moves 0 n }

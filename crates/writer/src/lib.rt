@@ -1,0 +1,160 @@
+// A model written from its rooms: the one spelling, record by record.
+ghost use mathlib.Core.Path.{_≡_};
+ghost use mathlib.Core.List.{[], _∷_, map};
+ghost use Prim.Native.Nat.{suc, _+_, _*_, _/_, _≤_, _<_};
+ghost use lib.ListN.{getD};
+ghost use Rattle.rules.specs.Model.{runOf};
+ghost use Rattle.rules.specs.Session.{unword};
+ghost use Rattle.laws.specs.SpellingLength.{labelled};
+ghost use Rattle.writer.specs.Spelled.{rest, Wrote, oneLabel, labelBytes, oneEquation, equationBytes, moveBytes, heldIn};
+ghost use Rattle.rules.specs.Spelling.{encode};
+use rules::Sizes;
+
+// A label, where the set is not empty.
+fn put_label(out: &mut [u8], at: usize, s: usize, v: u32) -> usize
+    requires { ⌜ (at < 65536) × (s < 65536) ⌝ }
+    ensures { λ r. ⌜ Wrote (now (out .entry)) at (oneLabel s v) (now (out .exit)) r × (r ≤ at + 7) ⌝ }
+{
+    if v == 0 {
+        return at;
+    }
+    spell::write_label(out, at, s as u32, v);
+    at + 7
+}
+
+// The labels of n states.
+fn write_labels(out: &mut [u8], start: usize, room: &[u32], n: usize) -> usize
+    requires { ⌜ (start < 1000) × (n ≤ 256) ⌝ }
+    ensures { λ r. ⌜ Wrote (now (out .entry)) start (labelBytes (now (room .entry)) 0 n) (now (out .exit)) r × (r ≤ start + 7 * n) ⌝ }
+{
+    let mut at = start;
+    let mut i: usize = 0;
+    while i < n {
+        at = put_label(out, at, i, rooms::word_at(room, i));
+        i = i + 1;
+    }
+    at
+}
+
+// One more than the number of an equation's block.
+fn block_after(w: u32) -> u32
+    ensures { λ r. ⌜ r ≡ suc (w / 256 / 256 / 256 / 2) ⌝ }
+{
+    w / 256 / 256 / 256 / 2 + 1
+}
+
+// How many equations, from `start` on, stand in the block with number b - 1.
+fn run_of(room: &[u32], b: u32, start: usize, n: usize) -> u32
+    requires { ⌜ n ≤ 32 ⌝ }
+    ensures { λ r. ⌜ (r ≡ runOf b (map unword (rest (now (room .entry)) start n))) × (r ≤ 32) ⌝ }
+{
+    let mut k: u32 = 0;
+    let mut i = start;
+    while i < n {
+        if block_after(rooms::word_at(room, i)) != b {
+            return k;
+        }
+        k = k + 1;
+        i = i + 1;
+    }
+    k
+}
+
+// An equation, with a block's record before the first of each block.
+fn put_equation(out: &mut [u8], at: usize, room: &[u32], b: u32, i: usize, n: usize) -> usize
+    requires { ⌜ (at < 65000) × ((i < n) × (n ≤ 32)) ⌝ }
+    ensures { λ r. ⌜ Wrote (now (out .entry)) at (oneEquation b (unword (getD (now (room .entry)) i 0)) (map unword (rest (now (room .entry)) (i + 1) n))) (now (out .exit)) r × (r ≤ at + 7) ⌝ }
+{
+    let w = rooms::word_at(room, i);
+    let after = block_after(w);
+    if after == b {
+        spell::write_equation(out, at, w);
+        return at + 4;
+    }
+    let count = run_of(room, after, i + 1, n);
+    spell::write_block(out, at, w / 256 / 256 / 256 % 2, count + 1);
+    spell::write_equation(out, at + 3, w);
+    at + 7
+}
+
+// The n equations, block by block.
+fn write_equations(out: &mut [u8], start: usize, room: &[u32], n: usize) -> usize
+    requires { ⌜ (start < 3000) × (n ≤ 32) ⌝ }
+    ensures { λ r. ⌜ Wrote (now (out .entry)) start (equationBytes 0 (now (room .entry)) 0 n) (now (out .exit)) r × (r ≤ start + 7 * n) ⌝ }
+{
+    let mut at = start;
+    let mut b: u32 = 0;
+    let mut i: usize = 0;
+    while i < n {
+        at = put_equation(out, at, room, b, i, n);
+        b = block_after(rooms::word_at(room, i));
+        i = i + 1;
+    }
+    at
+}
+
+// The n moves, and the end.
+fn write_moves(out: &mut [u8], start: usize, room: &[u32], n: usize) -> usize
+    requires { ⌜ (start < 4000) × (n ≤ 1024) ⌝ }
+    ensures { λ r. ⌜ Wrote (now (out .entry)) start (moveBytes (now (room .entry)) 0 n) (now (out .exit)) r ⌝ }
+{
+    let mut at = start;
+    let mut i: usize = 0;
+    while i < n {
+        spell::write_move(out, at, rooms::word_at(room, i));
+        at = at + 6;
+        i = i + 1;
+    }
+    spell::write_end(out, at);
+    at + 1
+}
+
+// 1 where the set is not empty.
+fn one(v: u32) -> usize
+    ensures { λ r. ⌜ (r ≡ labelled (v ∷ [])) × (r ≤ 1) ⌝ }
+{
+    if v == 0 {
+        return 0;
+    }
+    1
+}
+
+// How many of the first n states have a label.
+fn count_labels(room: &[u32], n: u16) -> usize
+    ensures { λ r. ⌜ (r ≡ labelled (rest (now (room .entry)) 0 n)) × (r ≤ n) ⌝ }
+{
+    let most = n as usize;
+    let mut k: usize = 0;
+    let mut i: usize = 0;
+    while i < most {
+        k = k + one(rooms::word_at(room, i));
+        i = i + 1;
+    }
+    k
+}
+
+// The length of a model's spelling.
+pub fn spelled_length(z: Sizes, n: u32, labels: &[u32]) -> usize
+    ensures { λ r. ⌜ r ≡ 8 + 7 * labelled (rest (now (labels .entry)) 0 (z .states)) + 3 * z .blocks + 4 * z .variables + 6 * n ⌝ }
+{
+    let k = count_labels(labels, z.states);
+    8 + 7 * k + 3 * (z.blocks as usize) + 4 * (z.variables as usize) + 6 * (n as usize)
+}
+
+// A model's spelling, written from the front of the room on.
+pub fn write_model(
+    out: &mut [u8],
+    z: Sizes,
+    n: usize,
+    labels: &[u32],
+    equations: &[u32],
+    moves: &[u32],
+) -> usize
+    requires { ⌜ (z .states ≤ 256) × (z .variables ≤ 32) × (n ≤ 1024) ⌝ }
+    ensures { λ r. ⌜ Wrote (now (out .entry)) 0 (encode (heldIn z n (now (labels .entry)) (now (equations .entry)) (now (moves .entry)))) (now (out .exit)) r ⌝ }
+{
+    spell::write_sizes(out, 0, z);
+    let a = write_labels(out, 7, labels, z.states as usize);
+    let b = write_equations(out, a, equations, z.variables as usize);
+    write_moves(out, b, moves, n)
+}
