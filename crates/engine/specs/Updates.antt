@@ -1,17 +1,20 @@
 -- What an update leaves in the rooms, and what a load does. Assumes nothing.
 use mathlib.Core.Path.{_≡_, refl, sym, ap, ap₂, _∙_, subst, fun-ext}
 use mathlib.Core.Logic.{_⊎_, inl, inr}
-use mathlib.Core.Bool.{Bool, false}
+use mathlib.Core.Bool.{Bool, true, false}
 use mathlib.Core.List.{List, [], _++_}
 use Prim.Native.Nat.{ℕ, _+_, _*_, _≤_, _<_}
 use native.Mathlib.Decide.{decLt}
 use native.Mathlib.Omega.{arith}
-use lib.ListN.{length, getD, take, drop, replicate, length-replicate}
+use lib.ListN.{length, getD, take, drop, replicate, length-replicate, List·getD-eq-default}
 use lib.Seq.{ext-getD, getD-take, take-at, drop-append-seam}
 use lib.Dec.{eqb}
-use Rattle.lists.specs.Lists.{bit, fill}
+use lib.IntN.{ℤ, pos, _-ℤ_}
+use Rattle.lists.specs.Lists.{bit, listed, fill}
+use Rattle.lists.specs.Sums.{bit-le, sum-ext}
 use Rattle.lists.specs.Smallest.{at, table}
-use Rattle.lists.specs.TableLaws.{table-at, table-past, listed-is, listed-length, listed-same}
+use Rattle.lists.specs.TableLaws.{table-at, table-past, listed-is, listed-length, listed-same, bit-back}
+use Rattle.lists.specs.Tests.{tell}
 use Rattle.systems.specs.System as S
 use Rattle.systems.specs.Marks.{shiftOf, settleOf}
 use Rattle.systems.specs.Machine.{own}
@@ -20,13 +23,17 @@ use Rattle.systems.specs.ListMachine.{Job, valOf}
 use Rattle.rules.specs.Model.{Model}
 use Rattle.rules.specs.Rooms.{pairsOf}
 use Rattle.rules.specs.Batch.{Change, edited}
-use Rattle.rules.specs.Values.{Values, leanings, solve}
-use Rattle.rules.specs.Update.{changed, Turned, turnAll, markOf, visitsOn}
+use Rattle.rules.specs.Values.{Values, leanings, greatestIn, greatest, solve}
+use Rattle.rules.specs.Update.{changed, Turned, turnAll, markOf, visitsOn, trues, netOf}
 use Rattle.rules.specs.Calls.{valueAt, bits, marksOf}
 use Rattle.laws.specs.Edits.{Judged}
-use Rattle.laws.specs.ModelSystem.{frame, Sound}
+use Rattle.laws.specs.ModelSystem.{frame, block-past, Sound}
+use Rattle.laws.specs.Named.{variable-block}
+use Rattle.pairs.specs.EquationWords.{greatest-out}
+use Rattle.laws.specs.Accepted.{values-held}
 use Rattle.laws.specs.UpdateMoves.{update-values, update-shifted, update-settled, visits-agree}
 use Rattle.laws.specs.MachineRules.{Answers, machine-loads}
+use Rattle.starts.specs.Starts.{part-changed, net-counted}
 use Rattle.engine.specs.EngineRuns.{run-same, job-enough}
 use Rattle.engine.specs.Runs.{Started, Ran, Over, jobAfter, withMoves, run-ready, ran-answers}
 
@@ -173,3 +180,97 @@ moved-in m cs values₀ marks₀ cleared p values marks shift settle is-p e d = 
   values-are = ap (λ (q : ℕ). values ++ drop q values₀) is-p;
   marks-are = ap (λ (l : List ℕ). marks ++ l) (cleared-rest p marks₀ cleared e ∙ ap (λ (q : ℕ). drop q marks₀) is-p);
 }
+
+-- What an update leaves in the rooms and what it reports, as the rule says.
+pub record Leaves (m : Model) (t : Turned) (values₀ marks₀ values marks : List ℕ) (shift settle : ℕ) (net : ℤ) : Type 0 where
+  pub values-are : values ≡ fill (bits (pairsOf (m .sizes)) (at (t .values))) values₀
+  pub marks-are : marks ≡ fill (marksOf (pairsOf (m .sizes)) t) marks₀
+  pub shift-is : shift ≡ visitsOn m (at (t .shifted))
+  pub settle-is : settle ≡ visitsOn m (at (t .settled))
+  pub net-is : net ≡ netOf (pairsOf (m .sizes)) (valueAt values₀) (at (t .values))
+
+-- The part with what lies past it is the room filled.
+joined : (n : ℕ) (f : ℕ → ℕ) (part room : List ℕ) → part ≡ listed 0 n f → part ++ drop n room ≡ fill (listed 0 n f) room
+joined n f part room e = part-changed n part room (ap length e ∙ listed-length 0 n f) ∙ ap (λ (l : List ℕ). fill l room) e
+
+pub update-leaves : (m : Model) (cs : List Change) (values₀ marks₀ values marks : List ℕ) (shift settle p before after : ℕ) (net : ℤ) → Started m cs (take (pairsOf (m .sizes)) values₀)
+    → MovedIn m cs values₀ marks₀ values marks shift settle → p ≡ pairsOf (m .sizes) → before ≡ trues p (valueAt values₀) → after ≡ trues p (valueAt values)
+    → net ≡ pos after -ℤ pos before → Leaves m (turnAll m cs (valueAt values₀)) values₀ marks₀ values marks shift settle net
+update-leaves m cs values₀ marks₀ values marks shift settle p before after net s d is-p is-before is-after is-net = record {
+  values-are = filled;
+  marks-are = d .marks-are ∙ joined N (λ p. markOf (at (t .shifted) p) (at (t .settled) p)) (d .part-marks) marks₀ (f .marks-are);
+  shift-is = f .shift-is;
+  settle-is = f .settle-is;
+  net-is =
+      net-counted N (valueAt values₀) (at (t .values)) before after net (is-before ∙ ap (λ (q : ℕ). trues q (valueAt values₀)) is-p)
+      (is-after ∙ ap₂ (λ (q : ℕ) (l : List ℕ). trues q (valueAt l)) is-p filled ∙ sum-ext N _ (λ q. bit (at (t .values) q)) (λ q h. ap bit (values-held N (at (t .values)) values₀ q h))) is-net;
+}
+  where
+    N : ℕ
+    N = pairsOf (m .sizes)
+
+    t : Turned
+    t = turnAll m cs (valueAt values₀)
+
+    f : Follows m (turnAll m cs (valueAt values₀)) (d .part) (d .part-marks) shift settle
+    f = moved-follows m cs values₀ (d .part) (d .part-marks) shift settle s (d .moved)
+
+    filled : values ≡ fill (bits (pairsOf (m .sizes)) (at (turnAll m cs (valueAt values₀) .values))) values₀
+    filled = d .values-are ∙ joined (pairsOf (m .sizes)) (λ p. bit (at (turnAll m cs (valueAt values₀) .values) p)) (d .part) values₀ (f .values-are)
+
+-- No block lies past the last.
+none-past : (m : Model) → Sound m → greatest m (m .sizes .blocks) ≡ false
+unfolding greatest
+none-past m ok = elim (tell true (greatestIn (m .sizes .blocks) (m .equations))) [
+  | inl t ↦
+      let g = greatest-out (m .sizes .blocks) (m .equations) t in
+      let h = variable-block (m .sizes) (m .equations) (g .0) (ok .equations) (g .1) in
+      absurd (omega (arith, g .2))
+  | inr t ↦ t
+]
+
+-- What is filled again holds what it is filled with.
+fill-again : (n : ℕ) (new old room room₀ : List ℕ) → length new ≡ n → length old ≡ n → room ≡ fill old room₀ → fill new room ≡ fill new room₀
+fill-again n new old room room₀ e f g =
+    ap (λ (l : List ℕ). new ++ drop (length new) l) g
+    ∙ ap (λ (k : ℕ). new ++ drop k (old ++ drop (length old) room₀)) (e ∙ sym f)
+    ∙ ap (λ (l : List ℕ). new ++ l) (drop-append-seam old (drop (length old) room₀) ∙ ap (λ (k : ℕ). drop k room₀) (f ∙ sym e))
+
+-- A load: the values start as each block's own, and end as the model's.
+module _ (m : Model) (ok : Sound m) (values₀ own-room : List ℕ) (room : pairsOf (m .sizes) ≤ length values₀) (is-own : own-room ≡ fill (bits (pairsOf (m .sizes)) (own (frame m))) values₀) where
+  abbrev N : ℕ
+  N = pairsOf (m .sizes)
+
+  part-is : take N own-room ≡ bits N (own (frame m))
+  part-is = ap (take N) is-own ∙ take-at (bits N (own (frame m))) (drop (length (bits N (own (frame m)))) values₀) N (listed-length 0 N (λ p. bit (own (frame m) p)))
+
+  own-at : (p : ℕ) → getD (take N own-room) p 0 ≡ bit (own (frame m) p)
+  own-at p = ap (λ (l : List ℕ). getD l p 0) part-is ∙ elim (decLt p N) [
+    | yes h ↦ listed-is N (λ p. bit (own (frame m) p)) p h
+    | no h ↦
+        List·getD-eq-default (bits N (own (frame m))) 0 (let l = listed-length 0 N (λ p. bit (own (frame m) p)) in omega arith)
+        ∙ sym (ap bit (ap (greatest m) (block-past m p (omega arith)) ∙ none-past m ok))
+  ]
+
+  pub load-starts : Started m [] (take N own-room)
+  load-starts = started-none m (take N own-room) ok (ap length part-is ∙ listed-length 0 N (λ p. bit (own (frame m) p))) (λ p. let e = own-at p in let h = bit-le (own (frame m) p) in omega arith)
+
+  pub load-leaves : (marks₀ values marks : List ℕ) (shift settle : ℕ) → MovedIn m [] own-room marks₀ values marks shift settle → values ≡ fill (bits N (at (solve m))) values₀
+  load-leaves marks₀ values marks shift settle d =
+      d .values-are
+      ∙ joined N (λ p. bit (at (solve m) p)) (d .part) own-room
+      (moved-loads m (take N own-room) (d .part) (d .part-marks) shift settle load-starts (λ p. ap (λ (x : ℕ). eqb x 1) (own-at p) ∙ bit-back (own (frame m) p)) (d .moved))
+      ∙ fill-again N (bits N (at (solve m))) (bits N (own (frame m))) own-room values₀ (listed-length 0 N (λ p. bit (at (solve m) p)))
+      (listed-length 0 N (λ p. bit (own (frame m) p))) is-own
+
+  -- The marks that the machine left are cleared.
+  pub load-clears : (marks₀ values marks cleared : List ℕ) (shift settle p : ℕ) → MovedIn m [] own-room marks₀ values marks shift settle → p ≡ N
+      → cleared ≡ fill (replicate p 0) marks → cleared ≡ fill (replicate N 0) marks₀
+  load-clears marks₀ values marks cleared shift settle p d is-p e =
+      e ∙ ap (λ (q : ℕ). fill (replicate q 0) marks) is-p
+      ∙ fill-again N (replicate N 0) (d .part-marks) marks marks₀ (length-replicate N 0) long (d .marks-are ∙ part-changed N (d .part-marks) marks₀ long)
+    where
+      long : length (d .part-marks) ≡ pairsOf (m .sizes)
+      long =
+          ap length (sym (d .moved .marks-are) ∙ ap (λ (c : Job). c .pile .marks) (d .moved .ran .is))
+          ∙ run-ready m [] (take (pairsOf (m .sizes)) own-room) (d .moved .stack) load-starts (d .moved .room) (d .moved .ran .units) .formed .marks

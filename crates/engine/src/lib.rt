@@ -11,8 +11,11 @@ ghost use Rattle.systems.specs.Machine.{free, nextMark};
 ghost use Rattle.systems.specs.ListMachine.{turned, pushL, turnL};
 ghost use Rattle.rules.specs.Batch.{changesOk};
 ghost use Rattle.rules.specs.Rooms.{pairsOf};
-ghost use Rattle.rules.specs.Calls.{valueAt};
-ghost use Rattle.rules.specs.Values.{leanings};
+ghost use Rattle.rules.specs.Calls.{valueAt, bits};
+ghost use Rattle.rules.specs.Update.{turnAll};
+ghost use Rattle.rules.specs.Values.{leanings, solve};
+ghost use Rattle.lists.specs.Lists.{fill};
+ghost use Rattle.lists.specs.Smallest.{at};
 ghost use Rattle.laws.specs.ModelSystem.{frame};
 ghost use Rattle.laws.specs.ModelLeaners.{leanersOf};
 ghost use Rattle.pairs.specs.Drawn.{Drawn, tableOf};
@@ -22,7 +25,7 @@ ghost use Rattle.engine.specs.Jobs.{jobAs};
 ghost use Rattle.engine.specs.Engine.{unitE};
 ghost use Rattle.engine.specs.UnitLaws.{Ready};
 ghost use Rattle.engine.specs.Runs.{Started, Ran};
-ghost use Rattle.engine.specs.Updates.{Moved, MovedIn};
+ghost use Rattle.engine.specs.Updates.{Moved, MovedIn, Leaves};
 
 // Where an update stands: the block, the phase and the pair of the next look, the height of the stack, and the visits.
 pub struct Progress {
@@ -385,4 +388,71 @@ fn move_values(
         &mut values[..p],
         &mut marks[..p],
     )
+}
+
+// What an update reports: the visits, and the change in the number of true pairs.
+pub struct Effects {
+    pub visits: Visits,
+    pub net: i32,
+}
+
+// The values follow the changes that made the moves; the marks say what turned.
+pub fn update(
+    sizes: Sizes,
+    labels: &[u32],
+    equations: &[u32],
+    moves: &[u32],
+    n: usize,
+    changes: &[u32],
+    count: usize,
+    values: &mut [u8],
+    marks: &mut [u8],
+) -> Effects
+    requires { ⌜ Drawn sizes (now labels) (now equations) (now moves) n ⌝ }
+    requires { ⌜ changesOk sizes (changesOf (take count (now changes))) ≡ true ⌝ }
+    requires { ⌜ Started (tableOf sizes (now labels) (now equations) (now moves) n) (changesOf (take count (now changes))) (take (pairsOf sizes) (now values)) ⌝ }
+    requires { ⌜ (pairsOf sizes ≤ length (now values)) × (pairsOf sizes ≤ length (now marks)) ⌝ }
+    ensures { λ r. ⌜ Leaves (tableOf sizes (now (labels .entry)) (now (equations .entry)) (now (moves .entry)) n)
+        (turnAll (tableOf sizes (now (labels .entry)) (now (equations .entry)) (now (moves .entry)) n) (changesOf (take count (now (changes .entry)))) (valueAt (now (values .entry))))
+        (now (values .entry)) (now (marks .entry)) (now (values .exit)) (now (marks .exit)) (r .visits .shift) (r .visits .settle) (r .net) ⌝ }
+{
+    let p = seeks::pair_count(sizes);
+    let before = starts::count_true(values, p);
+    let visits = move_values(
+        sizes,
+        labels,
+        equations,
+        moves,
+        n,
+        changes,
+        count,
+        values,
+        marks,
+    );
+    let after = starts::count_true(values, p);
+    Effects {
+        visits: visits,
+        net: starts::net(before, after),
+    }
+}
+
+// The values of the model, found from each block's own value with no change; the marks are cleared.
+pub fn load_values(
+    sizes: Sizes,
+    labels: &[u32],
+    equations: &[u32],
+    moves: &[u32],
+    n: usize,
+    values: &mut [u8],
+    marks: &mut [u8],
+)
+    requires { ⌜ Drawn sizes (now labels) (now equations) (now moves) n ⌝ }
+    requires { ⌜ (pairsOf sizes ≤ length (now values)) × (pairsOf sizes ≤ length (now marks)) ⌝ }
+    ensures { λ _. ⌜ (now (values .exit) ≡ fill (bits (pairsOf sizes) (at (solve (tableOf sizes (now (labels .entry)) (now (equations .entry)) (now (moves .entry)) n)))) (now (values .entry)))
+        × (now (marks .exit) ≡ fill (replicate (pairsOf sizes) 0) (now (marks .entry))) ⌝ }
+{
+    let p = seeks::pair_count(sizes);
+    starts::own_values(sizes, equations, p, values);
+    move_values(sizes, labels, equations, moves, n, labels, 0, values, marks);
+    starts::clear(marks, p);
 }

@@ -55,7 +55,7 @@ same-kind z i b k (x ∷ es) (suc j) h l e =
     same-kind z (suc i) (x .block) (x .kind) es j (f .1) (le-of-suc-le-suc l) (e ∙ sym q) ∙ u
 
 -- Where a block is said to be greatest, one of its equations says so.
-greatest-out : (i : ℕ) (es : List Equation) → greatestIn i es ≡ true → (j : ℕ) × (j < length es) × (blockAt es j ≡ i) × (equationAt es j .kind ≡ 1)
+pub greatest-out : (i : ℕ) (es : List Equation) → greatestIn i es ≡ true → (j : ℕ) × (j < length es) × (blockAt es j ≡ i) × (equationAt es j .kind ≡ 1)
 greatest-out i [] h = let z : _≡_ {A = ℕ} 0 1 = cc in absurd (omega arith)
 greatest-out i (e ∷ es) h =
     elim (or-out (eqb (e .block) i && eqb (e .kind) 1) (greatestIn i es) h) [
