@@ -39,10 +39,10 @@ pub fn ask(session: Session, values: &[u8], here: State, x: Variable) -> Asked
     ensures { λ r. ⌜ askedSays r ≡ ask session (now (values .entry)) here x ⌝ }
 {
     let sizes = session.sizes;
-    if !sessions::sizes_ok(sizes) {
+    if !limits::sizes_ok(sizes) {
         return Asked::Refused(Refusal::NotAModel, 0);
     }
-    if values.len() < sessions::pairs_of(sizes) {
+    if values.len() < limits::pairs_of(sizes) {
         return Asked::Refused(Refusal::ShortRoom, 0);
     }
     if !numbers_ok(sizes, here, x) {

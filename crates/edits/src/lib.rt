@@ -136,7 +136,7 @@ fn fits(changes: &[u32], count: usize, moves: &[u32], n: usize, room: usize) -> 
     let inserted = inserts_in(changes, count);
     let deleted = table::least(count, changes.len()) - inserted;
     let held = table::least(n, moves.len());
-    let most = table::least(rules::MOST_MOVES, room);
+    let most = table::least(limits::MOST_MOVES, room);
     held + inserted <= most + deleted
 }
 

@@ -42,7 +42,7 @@ pub fn sizes_ok(z: Sizes) -> bool
 }
 
 // How many pairs there are.
-fn pairs(z: Sizes) -> usize
+pub fn pairs_of(z: Sizes) -> usize
     ensures { λ r. ⌜ r ≡ pairsOf z ⌝ }
 {
     (z.variables as usize) * (z.states as usize)
@@ -52,7 +52,7 @@ fn pairs(z: Sizes) -> usize
 pub fn rooms_ok(l: Lent, z: Sizes) -> bool
     ensures { λ r. ⌜ r ≡ roomsOk (lengthsBy l) z ⌝ }
 {
-    let n = pairs(z);
+    let n = pairs_of(z);
     (z.states as usize <= l.labels)
         & (z.variables as usize <= l.equations)
         & (n <= l.values)

@@ -1,21 +1,6 @@
 // What every layer speaks of: the numbers of states, actions and variables, moves, sizes, sessions, refusals, and the
 // answers of the four calls. What all of it means stands in specs/.
 
-// The most of each thing.
-pub const MOST_STATES: usize = 256;
-
-pub const MOST_ACTIONS: usize = 16;
-
-pub const MOST_PROPOSITIONS: usize = 32;
-
-pub const MOST_VARIABLES: usize = 32;
-
-pub const MOST_BLOCKS: usize = 8;
-
-pub const MOST_MOVES: usize = 1024;
-
-pub const MOST_CHANGES: usize = 64;
-
 // A state, an action and a variable: three kinds of number that do not mix.
 pub struct State(pub u16);
 

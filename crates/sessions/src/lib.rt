@@ -15,52 +15,23 @@ ghost use Rattle.sessions.specs.EquationWalk.{equationsFrom};
 use rules::Session;
 use rules::Sizes;
 
-// Whether each size lies inside its limits.
-pub fn sizes_ok(sizes: Sizes) -> bool
-    ensures { λ r. ⌜ r ≡ sizesOk sizes ⌝ }
-{
-    let states = sizes.states as usize;
-    let actions = sizes.actions as usize;
-    let variables = sizes.variables as usize;
-    let blocks = sizes.blocks as usize;
-    ((1 <= states) & (states <= rules::MOST_STATES))
-        & ((1 <= actions) & (actions <= rules::MOST_ACTIONS))
-        & (sizes.propositions as usize <= rules::MOST_PROPOSITIONS)
-        & ((1 <= variables) & (variables <= rules::MOST_VARIABLES))
-        & ((1 <= blocks) & (blocks <= rules::MOST_BLOCKS))
-}
-
 // 12 for the sizes: they and the move count are inside the limits, and the move room holds the moves.
 pub fn counts_ok(session: Session, room: usize) -> bool
     ensures { λ r. ⌜ r ≡ countsBy session room ⌝ }
 {
     let sizes = session.sizes;
-    sizes_ok(sizes) & (session.moves as usize <= table::least(rules::MOST_MOVES, room))
-}
-
-// How many pairs there are.
-pub fn pairs_of(sizes: Sizes) -> usize
-    ensures { λ r. ⌜ r ≡ pairsOf sizes ⌝ }
-{
-    sizes.variables as usize * sizes.states as usize
+    limits::sizes_ok(sizes) & (session.moves as usize <= table::least(limits::MOST_MOVES, room))
 }
 
 // 13: no room is shorter than the sizes need.
 pub fn rooms_ok(sizes: Sizes, labels: usize, equations: usize, values: usize, marks: usize) -> bool
     ensures { λ r. ⌜ r ≡ roomsOk (record { labels = labels; equations = equations; values = values; marks = marks; moves = 0 }) sizes ⌝ }
 {
-    let pairs = pairs_of(sizes);
+    let pairs = limits::pairs_of(sizes);
     (sizes.states as usize <= labels)
         & (sizes.variables as usize <= equations)
         & (pairs <= values)
         & (pairs <= marks)
-}
-
-// Whether the highest proposition of a set lies below the proposition count.
-pub fn label_ok(sizes: Sizes, label: u32) -> bool
-    ensures { λ r. ⌜ r ≡ labelOk sizes label ⌝ }
-{
-    32 - u32::leading_zeros(label) <= sizes.propositions as u32
 }
 
 // Whether each of the first n sets does.
@@ -71,7 +42,7 @@ fn labels_ok(sizes: Sizes, labels: &[u32], n: usize) -> bool
     let mut ok = true;
     while 0 < i {
         i = i - 1;
-        ok = label_ok(sizes, rooms::word_at(labels, i)) & ok;
+        ok = limits::label_ok(sizes, rooms::word_at(labels, i)) & ok;
     }
     ok
 }
@@ -226,12 +197,12 @@ pub fn model_ok(session: Session, labels: &[u32], equations: &[u32], moves: &[u3
     let sizes = session.sizes;
     let states = sizes.states as usize;
     let count = session.moves as usize;
-    sizes_ok(sizes)
+    limits::sizes_ok(sizes)
         & (table::least(states, labels.len()) == states)
         & labels_ok(sizes, labels, states)
         & equations_ok(sizes, equations, sizes.variables as usize)
         & moves_ok(sizes, moves, count)
-        & (table::least(count, moves.len()) <= rules::MOST_MOVES)
+        & (table::least(count, moves.len()) <= limits::MOST_MOVES)
 }
 
 // 12 for the rest: the rooms hold a model inside the limits, no value is over 1, no mark over 3, and the stamp is that of
@@ -247,7 +218,7 @@ pub fn rest_ok(
     ensures { λ r. ⌜ r ≡ restOk session (roomsOf (now (labels .entry)) (now (equations .entry)) (now (values .entry)) (now (marks .entry)) (now (moves .entry))) ⌝ }
 {
     let sizes = session.sizes;
-    let pairs = pairs_of(sizes);
+    let pairs = limits::pairs_of(sizes);
     model_ok(session, labels, equations, moves)
         & bytes_ok(values, pairs, 1)
         & bytes_ok(marks, pairs, 3)

@@ -5,8 +5,8 @@ use Rattle.rules.specs.Rooms.{roomsOk}
 use Rattle.limits.proofs.rooms_ok.Statement.{statement}
 use Rattle.limits.proofs.rooms_ok.Tie as tie
 
-pairs-requires : tie.Need-pairs-requires
-pairs-requires c κs = search needs
+pairs-of-requires : tie.Need-pairs-of-requires
+pairs-of-requires c κs = search needs
 
 cast-result : tie.Need-cast-result
 cast-result c = search needs
@@ -16,7 +16,7 @@ cast-result-2 c = search needs
 
 returns : tie.Need-returns
 unfolding roomsOk
-returns c = rw (c .before .before .before .before .before .before .pairs .ensures) refl
+returns c = rw (c .before .before .before .before .before .before .pairs-of .ensures) refl
 
 pub rooms-ok-spec : {M : Type 1} → statement M
-rooms-ok-spec = tie.close (tie.spec pairs-requires cast-result cast-result-2 returns)
+rooms-ok-spec = tie.close (tie.spec pairs-of-requires cast-result cast-result-2 returns)

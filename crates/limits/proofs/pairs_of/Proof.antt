@@ -1,10 +1,10 @@
--- A byte times a number of two bytes fits. Assumes nothing.
+-- `limits::pairs` meets its contract. Assumes nothing.
 use Prim.Native.Nat.{_*_, _≤_}
 use native.Mathlib.Nat.{mul-le-mul}
-use borrow.Author.Needs.{needs}
 use native.Mathlib.Omega.{arith}
-use Rattle.sessions.proofs.pairs_of.Statement.{statement}
-use Rattle.sessions.proofs.pairs_of.Tie as tie
+use borrow.Author.Needs.{needs}
+use Rattle.limits.proofs.pairs_of.Statement.{statement}
+use Rattle.limits.proofs.pairs_of.Tie as tie
 
 cast-result : tie.Need-cast-result
 cast-result c = search needs
@@ -13,7 +13,7 @@ cast-result-2 : tie.Need-cast-result-2
 cast-result-2 c = search needs
 
 mul-result : tie.Need-mul-result
-mul-result c = let z = c .before .before .args .sizes in let h : z .variables * z .states ≤ 256 * 65536 = mul-le-mul {n₂ = 256} {m₂ = 65536} (omega arith) (omega arith) in omega arith
+mul-result c = let a = c .before .before .args .z in let h : a .variables * a .states ≤ 255 * 65535 = mul-le-mul {n₁ = a .variables} {m₁ = a .states} {n₂ = 255} {m₂ = 65535} (omega arith) (omega arith) in record { fits = omega arith }
 
 returns : tie.Need-returns
 returns c = search needs
