@@ -1,0 +1,76 @@
+-- `loads::load` meets its contract. Assumes nothing.
+use native.Mathlib.Omega.{arith}
+use Rattle.store.specs.StoreLaws.{are-bytes}
+use Rattle.loads.specs.LoadLaws.{five, load-refused, found, load-good}
+use borrow.Author.Needs.{needs}
+use Rattle.loads.proofs.load.Statement.{statement}
+use Rattle.loads.proofs.load.Tie as tie
+
+read-model-requires : tie.Need-read-model-requires
+read-model-requires c κs = search needs
+
+enum-known-found : tie.Need-enum-known-found
+enum-known-found c = search needs
+
+enum-known-found-2 : tie.Need-enum-known-found-2
+enum-known-found-2 c = search needs
+
+cast-n : tie.Need-cast-n
+cast-n c = search needs
+
+load-values-requires : tie.Need-load-values-requires
+load-values-requires c κs = let a = c .before .before .before .before .before .before .before .before .before .before .before .before .before .before .before .before .before .before .before .before .before .before .before .before .args in let l = five (a .labels .now) (a .equations .now) (a .values .now) (a .marks .now) (a .moves .now) in let s = a .bytes .now in let y = are-bytes s (λ i. omega (arith, c .before .before .before .before .before .before .before .before .before .before .before .before .before .before .before .before .before .before .before .before .before .before .before .shared-slice-known .given i)) in let h = c .before .before .before .before .before .before .before .before .before .before .before .before .before .before .read-model .ensures in let g = c .before .before .before .before .before .before .found2 .given in let f = found l s y _ _ h (g .0 .0) (g .0 .1 .0) (g .1) in (f .drawn, (f .values-room, f .marks-room))
+
+stamp-of-requires : tie.Need-stamp-of-requires
+stamp-of-requires c κs = search needs
+
+same-length : tie.Need-same-length
+same-length c = search needs
+
+same-length-2 : tie.Need-same-length-2
+same-length-2 c = search needs
+
+same-length-3 : tie.Need-same-length-3
+same-length-3 c = search needs
+
+returns : tie.Need-returns
+returns c = let a = c .before .before .before .before .before .before .before .before .before .before .before .before .before .before .before .before .before .before .before .args in let l = five (a .labels .now) (a .equations .now) (a .values .now) (a .marks .now) (a .moves .now) in let s = a .bytes .now in let y = are-bytes s (λ i. omega (arith, c .before .before .before .before .before .before .before .before .before .before .before .before .before .before .before .before .before .before .shared-slice-known .given i)) in let h = c .before .before .before .before .before .before .before .before .before .read-model .ensures in let g = c .before .found .given in load-refused l s y _ _ h (g .0 .0) (g .0 .1 .0) (g .1)
+
+same-length-4 : tie.Need-same-length-4
+same-length-4 c = search needs
+
+same-length-5 : tie.Need-same-length-5
+same-length-5 c = search needs
+
+same-length-6 : tie.Need-same-length-6
+same-length-6 c = search needs
+
+same-length-7 : tie.Need-same-length-7
+same-length-7 c = search needs
+
+same-length-8 : tie.Need-same-length-8
+same-length-8 c = search needs
+
+returns-2 : tie.Need-returns-2
+returns-2 c = let a = c .before .before .before .before .before .before .before .before .before .before .before .before .before .before .before .before .before .before .before .before .before .before .before .before .before .before .before .before .before .before .before .args in let l = five (a .labels .now) (a .equations .now) (a .values .now) (a .marks .now) (a .moves .now) in let s = a .bytes .now in let y = are-bytes s (λ i. omega (arith, c .before .before .before .before .before .before .before .before .before .before .before .before .before .before .before .before .before .before .before .before .before .before .before .before .before .before .before .before .before .before .shared-slice-known .given i)) in let h = c .before .before .before .before .before .before .before .before .before .before .before .before .before .before .before .before .before .before .before .before .before .read-model .ensures in let g = c .before .before .before .before .before .before .before .before .before .before .before .before .before .found2 .given in let v = c .before .before .before .before .before .before .load-values .ensures in load-good l s y _ _ h (g .0 .0) (g .0 .1 .0) (g .1) _ _ _ (v .0) (v .1) (c .stamp-of .ensures)
+
+pub load-spec : {M : Type 1} → statement M
+load-spec =
+    tie.close
+    (tie.spec
+    read-model-requires
+    enum-known-found
+    enum-known-found-2
+    cast-n
+    load-values-requires
+    stamp-of-requires
+    same-length
+    same-length-2
+    same-length-3
+    returns
+    same-length-4
+    same-length-5
+    same-length-6
+    same-length-7
+    same-length-8
+    returns-2)

@@ -1,0 +1,145 @@
+-- A load, in the words of the code: what each way out leaves. Assumes nothing.
+use mathlib.Core.Path.{_≡_, refl, sym, ap, _∙_, subst}
+use mathlib.Core.Bool.{true}
+use mathlib.Core.List.{List}
+use Prim.Native.Nat.{ℕ, _+_, _≤_}
+use native.Mathlib.Nat.{zero-add}
+use lib.ListN.{length, take, replicate}
+use Rattle.lists.specs.Lists.{fill}
+use Rattle.lists.specs.Smallest.{at}
+use Rattle.lists.specs.Tests.{tests}
+use Rattle.rules.specs.Records.{Outcome, refused, accepted}
+use Rattle.rules.specs.Rooms.{Rooms, lengthsOf, pairsOf, roomsOk}
+use Rattle.rules.specs.Model.{Model, WellFormed}
+use Rattle.rules.specs.Moves.{stampOf}
+use Rattle.rules.specs.Load.{readModel}
+use Rattle.rules.specs.Values.{solve}
+use Rattle.rules.specs.Session.{sessionOf}
+use Rattle.rules.specs.Calls.{Left, bits, loadBy, load}
+use Rattle.rules.specs.Answers.{numberOf}
+use Rattle.rules.specs.declared.Refusal.{Refusal}
+use Rattle.rules.specs.declared.Session.{Session}
+use Rattle.rules.specs.declared.Sizes.{Sizes}
+use Rattle.laws.specs.RecordLaws.{AreBytes, never}
+use Rattle.laws.specs.ReadSpells.{read-spelling}
+use Rattle.laws.specs.SessionHolds.{holds-session}
+use Rattle.laws.specs.Accepted.{load-solved}
+use Rattle.judge.specs.Turning.{Summary, summary}
+use Rattle.judge.specs.declared.ReadModel.{ReadModel}
+use Rattle.judge.specs.declared.ReadModel.the-variants as M
+use Rattle.store.specs.Stored.{Stored, three, storedBy, ReadInto}
+use Rattle.pairs.specs.Drawn.{tableOf, Drawn}
+
+-- The five rooms.
+abbrev pub five : List ℕ → List ℕ → List ℕ → List ℕ → List ℕ → Rooms
+five labels equations values marks moves = record { labels = labels; equations = equations; values = values; marks = marks; moves = moves }
+
+-- The call left this answer and these rooms.
+abbrev pub loaded : Outcome Session → Rooms → Left Session Rooms
+loaded o l = record { answer = o; rooms = l }
+
+-- The three rooms that a reading fills, among the five.
+abbrev pub read-rooms : Rooms → Stored
+read-rooms l = three (l .labels) (l .equations) (l .moves)
+
+-- The five rooms after a reading.
+abbrev pub withRead : Stored → List ℕ → List ℕ → Rooms
+withRead u values marks = five (u .labels) (u .equations) values marks (u .moves)
+
+-- A reading that refused leaves what a refused load leaves.
+refused-leaves : (o : Outcome Model) (n p : ℕ) (l : Rooms) (u : Stored) → refused n p ≡ summary o → u ≡ storedBy o (read-rooms l)
+    → loaded (refused n p) (withRead u (l .values) (l .marks)) ≡ loadBy l o
+refused-leaves (refused k q) n p l u h e =
+    let a : n ≡ k = cc in
+    let b : p ≡ q = cc in
+    λ i. record {
+      answer = refused (a i) (b i);
+      rooms = record { labels = e i .labels; equations = e i .equations; values = l .values; marks = l .marks; moves = e i .moves };
+    }
+refused-leaves (accepted m) n p l u h e = absurd (never h)
+
+-- A reading that found a model says its sizes and its number of moves.
+pub good-model : (o : Outcome Model) (z : Sizes) (n : ℕ) → accepted (record { sizes = z; moves = n }) ≡ summary o
+    → (m : Model) × (o ≡ accepted m) × (z ≡ m .sizes) × (n ≡ length (m .moves))
+good-model (refused k q) z n h = absurd (never (sym h))
+good-model (accepted m) z n h =
+    let s : Summary = record { sizes = z; moves = n } in
+    let t : Summary = record { sizes = m .sizes; moves = 0 + length (m .moves) } in
+    let e : s ≡ t = cc in
+    (m, refl, ap (λ (x : Summary). x .sizes) e, ap (λ (x : Summary). x .moves) e ∙ zero-add (length (m .moves)))
+
+-- A model that fits the rooms, laid into them, is drawn from them again.
+module _ (l : Rooms) (m : Model) (w : WellFormed m) (r : roomsOk (lengthsOf l) (m .sizes) ≡ true) (c : length (m .moves) ≤ length (l .moves)) where
+  abbrev laid : Stored
+  laid = storedBy (accepted m) (read-rooms l)
+
+  pub laid-table : tableOf (m .sizes) (laid .labels) (laid .equations) (laid .moves) (length (m .moves)) ≡ m
+  laid-table = holds-session (sessionOf m) (loadBy l (accepted m) .rooms) m w (load-solved l m w r c .holds) .0
+
+  pub laid-drawn : Drawn (m .sizes) (laid .labels) (laid .equations) (laid .moves) (length (m .moves))
+  unfolding roomsOk
+  laid-drawn =
+      let h = load-solved l m w r c .holds in
+      let k = simp tests at (h .rooms) in
+      record { long-labels = k .0 .0 .0; long-equations = k .0 .0 .1; long-moves = h .room; model = subst WellFormed (sym laid-table) w }
+
+-- The rooms l, and a reading of the bytes s into them that answered r and left u.
+module _ (l : Rooms) (s : List ℕ) (y : AreBytes s) (r : ReadModel) (u : Stored) (h : ReadInto s (length (l .values)) (length (l .marks)) (read-rooms l) r u) where
+  -- A refusal of the reading is the answer, and the rooms stay.
+  pub load-refused : (why : Refusal) (p : ℕ) → r ≡ M.Refused why p → loaded (refused (numberOf why) p) (withRead u (l .values) (l .marks)) ≡ load l s
+  unfolding load
+  load-refused why p g = refused-leaves (readModel (lengthsOf l) s) (numberOf why) p l u (rw g at (h .says)) (h .stores)
+
+  module _ (z : Sizes) (n : ℕ) (g : r ≡ M.Good z n) where
+    -- The model that was read, and that it lies in the rooms.
+    pub record Found : Type 0 where
+      pub model : Model
+      pub read : readModel (lengthsOf l) s ≡ accepted model
+      pub count : n ≡ length (model .moves)
+      pub stored : u ≡ storedBy (accepted model) (read-rooms l)
+      pub table : tableOf z (u .labels) (u .equations) (u .moves) n ≡ model
+      pub drawn : Drawn z (u .labels) (u .equations) (u .moves) n
+      pub values-room : pairsOf z ≤ length (l .values)
+      pub marks-room : pairsOf z ≤ length (l .marks)
+
+    found-by : (m : Model) → readModel (lengthsOf l) s ≡ accepted m → z ≡ m .sizes → n ≡ length (m .moves) → Found
+    unfolding roomsOk
+    found-by m e a b =
+        let w = read-spelling (lengthsOf l) s m y e in
+        let t : u ≡ storedBy (accepted m) (read-rooms l) = h .stores ∙ ap (λ (o : Outcome Model). storedBy o (read-rooms l)) e in
+        let k = simp tests at (w .2) in
+        record {
+          model = m;
+          read = e;
+          count = b;
+          stored = t;
+          table = rw (a, b, t) (laid-table l m (w .0) (w .2) (w .3));
+          drawn = rw (a, b, t) (laid-drawn l m (w .0) (w .2) (w .3));
+          values-room = rw a (k .0 .1);
+          marks-room = rw a (k .1);
+        }
+
+    pub found : Found
+    found = let q = good-model (readModel (lengthsOf l) s) z n (rw g at (h .says)) in found-by (q .0) (q .1) (q .2) (q .3)
+
+    -- A model that was read is the session, and the values found for what lies in the rooms are its own.
+    pub load-good : (values marks : List ℕ) (stamp : ℕ)
+        → values ≡ fill (bits (pairsOf z) (at (solve (tableOf z (u .labels) (u .equations) (u .moves) n)))) (l .values)
+        → marks ≡ fill (replicate (pairsOf z) 0) (l .marks) → stamp ≡ stampOf (take n (u .moves))
+        → loaded (accepted (record { sizes = z; moves = n; stamp = stamp })) (withRead u values marks) ≡ load l s
+    unfolding load
+    load-good values marks stamp a b d =
+        let f = found in
+        let t = f .table in
+        let zs : z ≡ f .model .sizes = ap (λ (x : Model). x .sizes) t in
+        let vs : values ≡ fill (bits (pairsOf (f .model .sizes)) (at (solve (f .model)))) (l .values) =
+        a ∙ ap (λ (x : Model). fill (bits (pairsOf (x .sizes)) (at (solve x))) (l .values)) t in
+        let ks : marks ≡ fill (replicate (pairsOf (f .model .sizes)) 0) (l .marks) =
+        b ∙ ap (λ (x : Sizes). fill (replicate (pairsOf x) 0) (l .marks)) zs in
+        let ss : stamp ≡ stampOf (f .model .moves) = d ∙ ap (λ (x : Model). stampOf (x .moves)) t in
+        let is : loaded (accepted (record { sizes = z; moves = n; stamp = stamp })) (withRead u values marks) ≡ loadBy l (accepted (f .model)) =
+        λ i. record {
+          answer = accepted (record { sizes = zs i; moves = f .count i; stamp = ss i });
+          rooms = record { labels = f .stored i .labels; equations = f .stored i .equations; values = vs i; marks = ks i; moves = f .stored i .moves };
+        } in
+        is ∙ sym (ap (loadBy l) (f .read))

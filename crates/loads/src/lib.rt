@@ -1,0 +1,37 @@
+// The call that loads a model: read and judged, stored in the rooms lent, and its values found.
+ghost use mathlib.Core.Path.{_≡_};
+ghost use Rattle.rules.specs.Calls.{load};
+ghost use Rattle.rules.specs.Answers.{loadedSays};
+ghost use Rattle.loads.specs.LoadLaws.{five, loaded};
+use judge::ReadModel;
+use rules::Loaded;
+use rules::Session;
+
+// A model loaded: refused where the reading refuses it, with the rooms left as they were; else its session, with the values
+// found and the marks cleared.
+pub fn load(
+    bytes: &[u8],
+    labels: &mut [u32],
+    equations: &mut [u32],
+    values: &mut [u8],
+    marks: &mut [u8],
+    moves: &mut [u32],
+) -> Loaded
+    ensures { λ r. ⌜ loaded (loadedSays r) (five (now (labels .exit)) (now (equations .exit)) (now (values .exit)) (now (marks .exit)) (now (moves .exit)))
+        ≡ load (five (now (labels .entry)) (now (equations .entry)) (now (values .entry)) (now (marks .entry)) (now (moves .entry))) (now (bytes .entry)) ⌝ }
+{
+    let found = store::read_model(bytes, values.len(), marks.len(), labels, equations, moves);
+    match found {
+        ReadModel::Refused(why, at) => Loaded::Refused(why, at),
+        ReadModel::Good(sizes, count) => {
+            let n = count as usize;
+            engine::load_values(sizes, labels, equations, moves, n, values, marks);
+            let stamp = table::stamp_of(moves, n);
+            Loaded::Accepted(Session {
+                sizes: sizes,
+                moves: count,
+                stamp: stamp,
+            })
+        }
+    }
+}
