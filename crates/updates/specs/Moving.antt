@@ -1,9 +1,9 @@
 -- A session that was checked and a batch with which nothing is wrong: the table that the changes make. Assumes nothing.
 use mathlib.Core.Path.{_≡_, refl, sym, ap, _∙_, subst}
 use mathlib.Core.Logic.{inl, inr}
-use mathlib.Core.Bool.{Bool, true}
+use mathlib.Core.Bool.{true}
 use mathlib.Core.List.{List, [], _∷_, _++_, append-assoc}
-use Prim.Native.Nat.{ℕ, zero, suc, _+_, _-_, _≤_, _<_, min}
+use Prim.Native.Nat.{ℕ, zero, suc, _-_, _≤_, min}
 use native.Mathlib.Omega.{arith}
 use lib.ListN.{length, getD, take, drop, replicate, length-append}
 use lib.Seq.{take-at, length-take-le}
@@ -11,8 +11,7 @@ use lib.Dec.{leb}
 use Rattle.lists.specs.Lists.{all}
 use Rattle.lists.specs.Tests.{tell, and-is, leb-is}
 use Rattle.rules.specs.Limits.{most-moves, sizesOk}
-use Rattle.rules.specs.Moves.{stampOf}
-use Rattle.rules.specs.Model.{Model, movesOk, wellFormed, WellFormed}
+use Rattle.rules.specs.Model.{wellFormed, WellFormed}
 use Rattle.rules.specs.Records.{accepted}
 use Rattle.rules.specs.Rooms.{Rooms, pairsOf}
 use Rattle.rules.specs.Batch.{Change, Batch, changesOk, judge, inserts, edited}
@@ -21,7 +20,6 @@ use Rattle.rules.specs.Update.{changed}
 use Rattle.rules.specs.declared.Session.{Session}
 use Rattle.laws.specs.Edits.{Judged, AllOk, judge-out, edited-wellFormed}
 use Rattle.laws.specs.ModelSystem.{Sound, sound}
-use Rattle.table.specs.Ascending.{ascends}
 use Rattle.sessions.specs.CheckedMoves as Moves
 use Rattle.applies.specs.Kept.{Kept, appliedTo}
 use Rattle.applies.specs.Applied.{laid, applied-edits}

@@ -1,19 +1,19 @@
 -- A batch that was read into a room of 64 places: the first places, taken back as changes, are its changes. Assumes nothing.
 use mathlib.Core.Path.{_≡_, refl, sym, ap, ap₂, _∙_, subst}
 use mathlib.Core.Bool.{Bool, true, false}
-use mathlib.Core.List.{List, [], _∷_, _++_, map}
+use mathlib.Core.List.{List, [], _∷_, map}
 use Prim.Native.Nat.{ℕ, suc, _+_, _*_, _/_, _%_, _≤_, _<_}
 use native.Mathlib.Nat.{zero-add}
 use native.Mathlib.Omega.{arith}
-use lib.ListN.{length, getD, take, drop, replicate, length-map, length-replicate}
+use lib.ListN.{length, getD, take, drop, replicate, length-map}
 use lib.Seq.{sets, sets-eq, take-at}
 use lib.Dec.{eqb}
-use Rattle.lists.specs.Lists.{bit, fill}
+use Rattle.lists.specs.Lists.{bit}
 use Rattle.lists.specs.Tests.{and-is, leb-is}
 use Rattle.rules.specs.Limits.{most-changes, sizesOk}
 use Rattle.rules.specs.Records.{Outcome, refused, accepted, parts}
 use Rattle.rules.specs.Answers.{numberOf}
-use Rattle.rules.specs.Batch.{Change, Batch, changesOk, batchOk, readBatch}
+use Rattle.rules.specs.Batch.{Change, Batch, changesOk, readBatch}
 use Rattle.rules.specs.declared.Sizes.{Sizes}
 use Rattle.rules.specs.declared.Refusal.{Refusal}
 use Rattle.laws.specs.RecordLaws.{AreBytes, never}

@@ -1,3 +1,4 @@
+-- What the moves, the machine and the stamp come to is what the rule says. Assumes nothing.
 use Rattle.pairs.specs.DrawnLimits.{pairs-few}
 use mir.ValLaws.{toZ-ofZ}
 use mir.Syntax.{w32}
@@ -11,45 +12,31 @@ use Rattle.sessions.specs.Tested.{roomsOf}
 use borrow.Author.Needs.{needs}
 use Rattle.updates.proofs.move_on.Statement.{statement}
 use Rattle.updates.proofs.move_on.Tie as tie
-use Rattle.updates.proofs.move_on.Reads as reads
-use Rattle.updates.proofs.move_on.Lts as lts
-use Rattle.applies.proofs.apply.Reads as apply-reads
-use Rattle.edits.proofs.carried.Reads as carried-reads
-use Rattle.engine.proofs.update.Reads as update-reads
 
--- src/lib.rt:39:51
 cast-apply : tie.Need-cast-apply
 cast-apply c = search needs
 
--- src/lib.rt:39:9
 apply-requires : tie.Need-apply-requires
 apply-requires c κs = search needs
 
--- src/lib.rt:40:9
 update-requires : tie.Need-update-requires
 update-requires c κs = let s = c .before .before .before .before .before .before .before .before .before .before .before .before .before .before .before in let a = s .args in let l = roomsOf (a .labels .now) (a .equations .now) (a .values .now) (a .marks .now) (a .moves .now) in let cs = changesOf (take (a .count) (a .changes .now)) in let p = s .pre in let e = c .before .before .before .before .before .apply .ensures in (made-drawn (a .session) l cs p _ _ e, (p .in-range, (made-started (a .session) l cs p _ _ e, (p .is-sane .fits .values-room, p .is-sane .fits .marks-room))))
 
--- src/lib.rt:44:16
 cast-t23 : tie.Need-cast-t23
 cast-t23 c = let s = c .before .before .before .before .before .before .before .before .before .before .before .before .before .before .before .before .before .before .before .before .before in let a = s .args in let l = roomsOf (a .labels .now) (a .equations .now) (a .values .now) (a .marks .now) (a .moves .now) in let cs = changesOf (take (a .count) (a .changes .now)) in let few = made-few (a .session) l cs (s .pre) _ _ (c .before .before .before .before .before .before .before .before .before .before .before .apply .ensures) in record { fits = omega arith }
 
--- src/lib.rt:45:16
 carried-requires : tie.Need-carried-requires
 carried-requires c κs = search needs
 
--- src/lib.rt:24:1
 same-length : tie.Need-same-length
 same-length c = search needs
 
--- src/lib.rt:24:1
 same-length-2 : tie.Need-same-length-2
 same-length-2 c = search needs
 
--- src/lib.rt:24:1
 same-length-3 : tie.Need-same-length-3
 same-length-3 c = search needs
 
--- src/lib.rt:24:1
 returns : tie.Need-returns
 returns c = let s = c .before .before .before .before .before .before .before .before .before .before .before .before .before .before .before .before .before .before .before .before .before .before .before in let a = s .args in let l = roomsOf (a .labels .now) (a .equations .now) (a .values .now) (a .marks .now) (a .moves .now) in let cs = changesOf (take (a .count) (a .changes .now)) in update-reports (a .session) l cs (s .pre) _ _ (c .before .before .before .before .before .before .before .before .before .before .before .before .before .apply .ensures) _ _ _ _ _ _ (let f = c .before .before .before .before .before .before .before .update .ensures in record { values-are = f .values-are; marks-are = f .marks-are; shift-is = f .shift-is; settle-is = f .settle-is; net-is = toZ-ofZ w32 _ (record { sfits = net-small _ _ _ _ _ _ _ _ _ (pairs-few (a .session .sizes) (a .labels .now) (a .equations .now) _ _ (made-drawn (a .session) l cs (s .pre) _ _ (c .before .before .before .before .before .before .before .before .before .before .before .before .before .apply .ensures))) f }) ∙ f .net-is }) (c .before .carried .ensures)
 
