@@ -1,0 +1,131 @@
+-- A session that was checked and a batch with which nothing is wrong: the table that the changes make. Assumes nothing.
+use mathlib.Core.Path.{_≡_, refl, sym, ap, _∙_, subst}
+use mathlib.Core.Logic.{inl, inr}
+use mathlib.Core.Bool.{true}
+use mathlib.Core.List.{List, [], _∷_, _++_, append-assoc}
+use Prim.Native.Nat.{ℕ, zero, suc, _-_, _≤_, min}
+use native.Mathlib.Omega.{arith}
+use lib.ListN.{length, getD, take, drop, replicate, length-append}
+use lib.Seq.{take-at, length-take-le}
+use lib.Dec.{leb}
+use Rattle.lists.specs.Lists.{all}
+use Rattle.lists.specs.Tests.{tell, and-is, leb-is}
+use Rattle.rules.specs.Limits.{most-moves, sizesOk}
+use Rattle.rules.specs.Model.{wellFormed, WellFormed}
+use Rattle.rules.specs.Records.{accepted}
+use Rattle.rules.specs.Rooms.{Rooms, pairsOf}
+use Rattle.rules.specs.Batch.{Change, Batch, changesOk, judge, inserts, edited}
+use Rattle.rules.specs.Session.{held}
+use Rattle.rules.specs.Update.{changed}
+use Rattle.rules.specs.declared.Session.{Session}
+use Rattle.laws.specs.Edits.{Judged, AllOk, judge-out, edited-wellFormed}
+use Rattle.laws.specs.ModelSystem.{Sound, sound}
+use Rattle.sessions.specs.CheckedMoves as Moves
+use Rattle.applies.specs.Kept.{Kept, appliedTo}
+use Rattle.applies.specs.Applied.{laid, applied-edits}
+use Rattle.calls.specs.Checks.{checkOf, checkedSays}
+use Rattle.calls.specs.Passed.{Fits, passed-fits, passed-holds, passed-moves}
+use Rattle.calls.specs.declared.Checked.{Checked}
+use Rattle.calls.specs.declared.Checked.the-variants as Found
+use Rattle.pairs.specs.Drawn.{tableOf, Drawn}
+use Rattle.engine.specs.Runs.{Started, withMoves}
+
+-- What a session that was checked is known to be.
+pub record Sane (s : Session) (l : Rooms) : Type 0 where
+  pub fits : Fits s l
+  pub model : WellFormed (held s l)
+  pub moves : Moves.Checked s l
+  pub values : all (λ v. leb v 1) (take (pairsOf (s .sizes)) (l .values)) ≡ true
+
+-- The check says so.
+pub sane : (s : Session) (l : Rooms) (k : Checked) → checkedSays k ≡ checkOf s l → k ≡ Found.Good → Sane s l
+sane s l k h g = let p = passed-holds s l k h g in record { fits = passed-fits s l k h g; model = p .0; moves = passed-moves s l k h g; values = p .1 .values }
+
+-- Its sizes are inside the limits.
+pub sane-sizes : (s : Session) (l : Rooms) → Sane s l → sizesOk (s .sizes) ≡ true
+unfolding wellFormed
+sane-sizes s l p = let k = simp and-is at (p .model) in k .0 .0 .0 .0 .0
+
+-- Changes with which nothing is wrong in such a session.
+pub record Able (s : Session) (l : Rooms) (cs : List Change) : Type 0 where
+  pub is-sane : Sane s l
+  pub judged : Judged (held s l .moves) cs
+  pub in-range : changesOk (s .sizes) cs ≡ true
+  pub few : length (edited cs (held s l .moves)) ≤ min most-moves (length (l .moves))
+
+-- The judgement says so.
+pub able : (s : Session) (l : Rooms) (b b′ : Batch) → Sane s l → changesOk (s .sizes) (b .changes) ≡ true → judge (length (l .moves)) (held s l .moves) b ≡ accepted b′ → Able s l (b .changes)
+able s l b b′ p r j = let k = judge-out (length (l .moves)) (held s l .moves) b b′ j in record { is-sane = p; judged = k .1; in-range = r; few = k .2 }
+
+-- Inserts of changes in range are in range.
+inserts-ok : (s : Session) (cs : List Change) → changesOk (s .sizes) cs ≡ true → AllOk (s .sizes) (inserts cs)
+inserts-ok s [] h = tt
+inserts-ok s (c ∷ cs) h =
+    let k = simp and-is at h in
+    elim (tell true (c .insert)) [
+      | inl t ↦ rw t (k .0, inserts-ok s cs (k .1))
+      | inr t ↦ rw t (inserts-ok s cs (k .1))
+    ]
+
+-- Where no number of a list is over 1, none is.
+each-small : (l : List ℕ) → all (λ v. leb v 1) l ≡ true → (p : ℕ) → getD l p 0 ≤ 1
+each-small [] h p = omega arith
+each-small (v ∷ l) h zero = leb-is v 1 .0 (and-is (leb v 1) (all (λ v. leb v 1) l) .0 h .0)
+each-small (v ∷ l) h (suc p) = each-small l (and-is (leb v 1) (all (λ v. leb v 1) l) .0 h .1) p
+
+-- The changes were made in the room of the moves: it holds ms now, of which n are moves.
+module _ (s : Session) (l : Rooms) (cs : List Change) (a : Able s l cs) (ms : List ℕ) (n : ℕ)
+    (e : _≡_ {A = Kept} (record { moves = ms; count = n }) (appliedTo cs (record { moves = l .moves; count = s .moves }))) where
+  -- The room holds the edited moves.
+  pub made : _≡_ {A = Kept} (record { moves = ms; count = n }) (laid (s .moves) (l .moves) (edited cs (held s l .moves)))
+  made =
+      let f = a .few in
+      e ∙ applied-edits (s .moves) (l .moves) cs (a .is-sane .fits .moves-room) (a .is-sane .moves .ascend) (a .judged) (omega arith)
+
+  made-moves : take n ms ≡ edited cs (held s l .moves)
+  made-moves =
+      let es = edited cs (held s l .moves) in
+      let zs : List ℕ = replicate (s .moves - length es) 0 in
+      ap (λ (k : Kept). take (k .count) (k .moves)) made
+      ∙ ap (take (length es)) (append-assoc es zs (drop (length (es ++ zs)) (l .moves))) ∙ take-at es _ (length es) refl
+
+  -- There are few of them.
+  pub made-few : n ≤ most-moves
+  made-few = let f = a .few in let k = ap (λ (k : Kept). k .count) made in omega arith
+
+  made-long : n ≤ length ms
+  made-long =
+      let es = edited cs (held s l .moves) in
+      let zs : List ℕ = replicate (s .moves - length es) 0 in
+      let c = ap (λ (k : Kept). k .count) made in
+      let k = ap (λ (k : Kept). length (k .moves)) made in
+      let g = length-append (es ++ zs) (drop (length (es ++ zs)) (l .moves)) in
+      let h = length-append es zs in omega arith
+
+  -- The table in the rooms is the changed model.
+  pub made-table : tableOf (s .sizes) (l .labels) (l .equations) ms n ≡ changed cs (held s l)
+  made-table = ap (λ (k : List ℕ). withMoves k (held s l)) made-moves
+
+  made-model : WellFormed (changed cs (held s l))
+  made-model = let f = a .few in edited-wellFormed (held s l) cs (a .is-sane .model) (a .judged) (inserts-ok s cs (a .in-range)) (omega arith)
+
+  -- It is one that a load accepts.
+  pub made-drawn : Drawn (s .sizes) (l .labels) (l .equations) ms n
+  made-drawn = record {
+    long-labels = a .is-sane .fits .labels-room;
+    long-equations = a .is-sane .fits .equations-room;
+    long-moves = made-long;
+    model = subst WellFormed (sym made-table) made-model;
+  }
+
+  -- And the machine can start on it.
+  pub made-started : Started (tableOf (s .sizes) (l .labels) (l .equations) ms n) cs (take (pairsOf (s .sizes)) (l .values))
+  made-started = record {
+    old = held s l .moves;
+    made = sym made-moves;
+    judged = a .judged;
+    was-sound = sound (held s l) (a .is-sane .model);
+    is-sound = subst Sound (sym made-table) (sound (changed cs (held s l)) made-model);
+    long = length-take-le (pairsOf (s .sizes)) (l .values) (a .is-sane .fits .values-room);
+    small = each-small (take (pairsOf (s .sizes)) (l .values)) (a .is-sane .values);
+  }
