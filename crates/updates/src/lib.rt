@@ -51,7 +51,7 @@ fn move_on(
     let visits = done.visits;
     let after = Session {
         sizes: sizes,
-        moves: session.moves,
+        moves: n as u32,
         stamp: edits::carried(session.stamp, changes, count),
     };
     Report {
