@@ -39,15 +39,15 @@ abbrev pub loaded : Outcome Session → Rooms → Left Session Rooms
 loaded o l = record { answer = o; rooms = l }
 
 -- The three rooms that a reading fills, among the five.
-abbrev pub read-rooms : Rooms → Stored
-read-rooms l = three (l .labels) (l .equations) (l .moves)
+abbrev pub readRooms : Rooms → Stored
+readRooms l = three (l .labels) (l .equations) (l .moves)
 
 -- The five rooms after a reading.
 abbrev pub withRead : Stored → List ℕ → List ℕ → Rooms
 withRead u values marks = five (u .labels) (u .equations) values marks (u .moves)
 
 -- A reading that refused leaves what a refused load leaves.
-refused-leaves : (o : Outcome Model) (n p : ℕ) (l : Rooms) (u : Stored) → refused n p ≡ summary o → u ≡ storedBy o (read-rooms l)
+refused-leaves : (o : Outcome Model) (n p : ℕ) (l : Rooms) (u : Stored) → refused n p ≡ summary o → u ≡ storedBy o (readRooms l)
     → loaded (refused n p) (withRead u (l .values) (l .marks)) ≡ loadBy l o
 refused-leaves (refused k q) n p l u h e =
     let a : n ≡ k = cc in
@@ -59,7 +59,7 @@ refused-leaves (refused k q) n p l u h e =
 refused-leaves (accepted m) n p l u h e = absurd (never h)
 
 -- A reading that found a model says its sizes and its number of moves.
-pub good-model : (o : Outcome Model) (z : Sizes) (n : ℕ) → accepted (record { sizes = z; moves = n }) ≡ summary o
+good-model : (o : Outcome Model) (z : Sizes) (n : ℕ) → accepted (record { sizes = z; moves = n }) ≡ summary o
     → (m : Model) × (o ≡ accepted m) × (z ≡ m .sizes) × (n ≡ length (m .moves))
 good-model (refused k q) z n h = absurd (never (sym h))
 good-model (accepted m) z n h =
@@ -68,14 +68,17 @@ good-model (accepted m) z n h =
     let e : s ≡ t = cc in
     (m, refl, ap (λ (x : Summary). x .sizes) e, ap (λ (x : Summary). x .moves) e ∙ zero-add (length (m .moves)))
 
--- A model that fits the rooms, laid into them, is drawn from them again.
+-- A model inside the limits that fits the rooms l.
 module _ (l : Rooms) (m : Model) (w : WellFormed m) (r : roomsOk (lengthsOf l) (m .sizes) ≡ true) (c : length (m .moves) ≤ length (l .moves)) where
+  -- The three rooms with the model in front.
   abbrev laid : Stored
-  laid = storedBy (accepted m) (read-rooms l)
+  laid = storedBy (accepted m) (readRooms l)
 
+  -- Laid into them, it is what is cut out of them again.
   pub laid-table : tableOf (m .sizes) (laid .labels) (laid .equations) (laid .moves) (length (m .moves)) ≡ m
   laid-table = holds-session (sessionOf m) (loadBy l (accepted m) .rooms) m w (load-solved l m w r c .holds) .0
 
+  -- So the rooms are long enough, and a model inside the limits lies in them.
   pub laid-drawn : Drawn (m .sizes) (laid .labels) (laid .equations) (laid .moves) (length (m .moves))
   unfolding roomsOk
   laid-drawn =
@@ -84,7 +87,7 @@ module _ (l : Rooms) (m : Model) (w : WellFormed m) (r : roomsOk (lengthsOf l) (
       record { long-labels = k .0 .0 .0; long-equations = k .0 .0 .1; long-moves = h .room; model = subst WellFormed (sym laid-table) w }
 
 -- The rooms l, and a reading of the bytes s into them that answered r and left u.
-module _ (l : Rooms) (s : List ℕ) (y : AreBytes s) (r : ReadModel) (u : Stored) (h : ReadInto s (length (l .values)) (length (l .marks)) (read-rooms l) r u) where
+module _ (l : Rooms) (s : List ℕ) (y : AreBytes s) (r : ReadModel) (u : Stored) (h : ReadInto s (length (l .values)) (length (l .marks)) (readRooms l) r u) where
   -- A refusal of the reading is the answer, and the rooms stay.
   pub load-refused : (why : Refusal) (p : ℕ) → r ≡ M.Refused why p → loaded (refused (numberOf why) p) (withRead u (l .values) (l .marks)) ≡ load l s
   unfolding load
@@ -96,17 +99,18 @@ module _ (l : Rooms) (s : List ℕ) (y : AreBytes s) (r : ReadModel) (u : Stored
       pub model : Model
       pub read : readModel (lengthsOf l) s ≡ accepted model
       pub count : n ≡ length (model .moves)
-      pub stored : u ≡ storedBy (accepted model) (read-rooms l)
+      pub stored : u ≡ storedBy (accepted model) (readRooms l)
       pub table : tableOf z (u .labels) (u .equations) (u .moves) n ≡ model
       pub drawn : Drawn z (u .labels) (u .equations) (u .moves) n
       pub values-room : pairsOf z ≤ length (l .values)
       pub marks-room : pairsOf z ≤ length (l .marks)
 
+    -- It is found from what the rules' reading comes to.
     found-by : (m : Model) → readModel (lengthsOf l) s ≡ accepted m → z ≡ m .sizes → n ≡ length (m .moves) → Found
     unfolding roomsOk
     found-by m e a b =
         let w = read-spelling (lengthsOf l) s m y e in
-        let t : u ≡ storedBy (accepted m) (read-rooms l) = h .stores ∙ ap (λ (o : Outcome Model). storedBy o (read-rooms l)) e in
+        let t : u ≡ storedBy (accepted m) (readRooms l) = h .stores ∙ ap (λ (o : Outcome Model). storedBy o (readRooms l)) e in
         let k = simp tests at (w .2) in
         record {
           model = m;
@@ -119,6 +123,7 @@ module _ (l : Rooms) (s : List ℕ) (y : AreBytes s) (r : ReadModel) (u : Stored
           marks-room = rw a (k .1);
         }
 
+    -- And from what the code's reading answered.
     pub found : Found
     found = let q = good-model (readModel (lengthsOf l) s) z n (rw g at (h .says)) in found-by (q .0) (q .1) (q .2) (q .3)
 
