@@ -32,22 +32,3 @@ module _ (s : Session) (l : Rooms) (bytes : List ℕ) (k : Checked) (h : checked
     pub batch-goes : batchBy s l (andThen (readBatch (s .sizes) bytes) (judge (length (l .moves)) (held s l .moves))) ≡ batch s l bytes
     unfolding batch judged
     batch-goes = sym (ap (batchBy s l) (checked-goes s l k h _ g))
-
-    -- A refusal of the reading is the answer, and the rooms stay.
-    pub batch-unread : (n p : ℕ) → readBatch (s .sizes) bytes ≡ refused n p → updated (refused n p) l ≡ batch s l bytes
-    batch-unread n p e =
-        sym (ap (λ (o : Outcome Batch). batchBy s l (andThen o (judge (length (l .moves)) (held s l .moves)))) e) ∙ batch-goes
-
-    module _ (b : Batch) (e : readBatch (s .sizes) bytes ≡ accepted b) where
-      -- Of a batch that was read, the judgement decides.
-      pub batch-read : batchBy s l (judge (length (l .moves)) (held s l .moves) b) ≡ batch s l bytes
-      batch-read =
-          sym (ap (λ (o : Outcome Batch). batchBy s l (andThen o (judge (length (l .moves)) (held s l .moves)))) e) ∙ batch-goes
-
-      -- A refusal of the judgement is the answer, and the rooms stay.
-      pub batch-unfit : (n p : ℕ) → judge (length (l .moves)) (held s l .moves) b ≡ refused n p → updated (refused n p) l ≡ batch s l bytes
-      batch-unfit n p j = sym (ap (batchBy s l) j) ∙ batch-read
-
-      -- A batch with which nothing is wrong is applied.
-      pub batch-good : judge (length (l .moves)) (held s l .moves) b ≡ accepted b → batchBy s l (accepted b) ≡ batch s l bytes
-      batch-good j = sym (ap (batchBy s l) j) ∙ batch-read

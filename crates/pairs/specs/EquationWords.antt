@@ -92,22 +92,11 @@ greatest-kind z i b k (e ∷ es) (suc j) h l =
     eqb-in (equationAt es j .kind) 1 (same-kind z (suc i) (e .block) (e .kind) es j (f .1) (le-of-suc-le-suc l) (sym u) ∙ w) in
     ap (λ (x : Bool). (eqb (e .block) c && eqb (e .kind) 1) || x) ih ∙ covered (eqb (e .block) c && eqb (e .kind) 1) (eqb (equationAt es j .kind) 1) first
 
--- Past the end of the room the word of a variable is that of no equation.
-pub word-past : (equations : List ℕ) (x : ℕ) → length equations ≤ x → unword (getD equations x 0) ≡ nothing
-word-past equations x h = ap unword (List·getD-eq-default equations 0 h)
-
 -- A model that lies in rooms.
 module _ (z : Sizes) (labels equations moves : List ℕ) (n : ℕ) (d : Drawn z labels equations moves n) where
   -- The equation of a variable is what its word says.
   pub formula-word : (x : ℕ) → x < z .variables → values.equationAt (tableOf z labels equations moves n) (variable x) ≡ unword (getD equations x 0)
   formula-word x h = List·getD-map unword (take (z .variables) equations) x 0 ∙ ap unword (getD-take (z .variables) equations x 0 h)
-
-  -- Past the last variable there is no equation.
-  pub equation-past : (x : ℕ) → z .variables ≤ x → values.equationAt (tableOf z labels equations moves n) (variable x) ≡ nothing
-  equation-past x h =
-      let l = length-take (z .variables) equations in
-      let e = length-map (take (z .variables) equations) unword in
-      List·getD-eq-default (map unword (take (z .variables) equations)) nothing {n = x} (omega arith)
 
   -- The model in the rooms is inside the limits.
   pub drawn-sound : Sound (tableOf z labels equations moves n)

@@ -127,10 +127,6 @@ module _ (z : Sizes) (labels equations moves : List ℕ) (n : ℕ) (d : Drawn z 
       (operands-at z 0 0 0 (m .equations) (p / z .states) (ok .equations) (omega arith)) in
       rw (r .is-operator, r .is-first, r .is-second) e
 
-  -- What an "or" or an "and" names are variables.
-  pub join-names : 4 ≤ o → o < 6 → (a < z .variables) × (b < z .variables)
-  join-names g l = from-four z o a b operands-read g l
-
   -- A diamond or a box names an action and a variable.
   pub step-names : 6 ≤ o → (o < 8) × (a < 64) × (b < z .variables)
   unfolding wellFormed

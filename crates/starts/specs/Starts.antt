@@ -81,37 +81,9 @@ pub filled-bits : (n : ℕ) (v : Values) (room : List ℕ) → filled n (λ p. b
 unfolding filled
 filled-bits n v room = refl
 
--- What was written into a part of a room, from the room's start to n, with the rest of the room behind it.
-pub part-filled : (n : ℕ) (new room : List ℕ) → length new ≤ n → fill new (take n room) ++ drop n room ≡ fill new room
-part-filled n new room h =
-    append-assoc new (drop (length new) (take n room)) (drop n room) ∙ ap (λ (l : List ℕ). new ++ l) (rest (length new) n room h)
-  where
-    rest : (k n : ℕ) (l : List ℕ) → k ≤ n → drop k (take n l) ++ drop n l ≡ drop k l
-    rest zero n l h = take-append-drop n l
-    rest (suc k) zero l h = absurd (not-suc-le-zero h)
-    rest (suc k) (suc n) [] h = refl
-    rest (suc k) (suc n) (x ∷ l) h = rest k n l (le-of-suc-le-suc h)
-
 -- A part that was changed as a whole.
 pub part-changed : (n : ℕ) (part room : List ℕ) → length part ≡ n → part ++ drop n room ≡ fill part room
 part-changed n part room e = ap (λ (k : ℕ). part ++ drop k room) (sym e)
-
--- A place that was set to 0 reads 0.
-pub cleared-at : (n : ℕ) (room : List ℕ) (p : ℕ) → p < n → _≡_ {A = ℕ} (getD (fill (replicate n 0) room) p 0) 0
-cleared-at n room p h =
-    let zs : List ℕ = replicate n 0 in
-    let l : length zs ≡ n = length-replicate n 0 in
-    filled-at zs room p (omega arith) ∙ zeros-at n p
-
--- Values that were written into a room are read as their bits.
-pub bits-back : (n : ℕ) (v : Values) (room : List ℕ) (p : ℕ) → p < n → getD (fill (bits n v) room) p 0 ≡ bit (v p)
-bits-back n v room p h =
-    let l = listed-length 0 n (λ p. bit (v p)) in
-    filled-at (bits n v) room p (omega arith) ∙ listed-is n (λ p. bit (v p)) p h
-
--- Values that were written into a room leave its length as it was.
-pub bits-long : (n : ℕ) (v : Values) (room : List ℕ) → n ≤ length room → length (fill (bits n v) room) ≡ length room
-bits-long n v room h = let l = listed-length 0 n (λ p. bit (v p)) in fill-length (bits n v) room (omega arith)
 
 -- The kinds in the words are the own values of the blocks.
 pub own-filled : (z : Sizes) (labels equations moves : List ℕ) (n : ℕ) → Drawn z labels equations moves n → (room : List ℕ)
