@@ -321,7 +321,8 @@ edited-wellFormed m cs h j o n =
     let k = simp and-is at h in
     simp and-is (((((k .0 .0 .0 .0 .0, k .0 .0 .0 .0 .1), k .0 .0 .0 .1), k .0 .0 .1), edited-ok (m .sizes) (m .moves) cs j o (k .0 .1)), leb-is _ _ .1 n)
 
-all-ok : (z : Sizes) (cs : List Change) → changesOk z cs ≡ true → AllOk z (inserts cs)
+-- Inserts of changes in range are in range.
+pub all-ok : (z : Sizes) (cs : List Change) → changesOk z cs ≡ true → AllOk z (inserts cs)
 all-ok z [] h = tt
 all-ok z (c ∷ cs) h =
     let k = simp and-is at h in

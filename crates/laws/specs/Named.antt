@@ -40,8 +40,8 @@ run-block b (e ∷ es) (suc j) h =
       | inl t ↦ run-block b es j (le-of-suc-le-suc (rw t at h))
     ]
 
--- block numbers never fall
-head-block : (z : Sizes) (i b k : ℕ) (e : Equation) (es : List Equation) → equationsOk z i b k (e ∷ es) ≡ true → b ≤ suc (e .block)
+-- Block numbers never fall.
+pub head-block : (z : Sizes) (i b k : ℕ) (e : Equation) (es : List Equation) → equationsOk z i b k (e ∷ es) ≡ true → b ≤ suc (e .block)
 head-block z i b k e es h =
     let f = simp and-is at h in
     elim (tell true (eqb (suc (e .block)) b)) [
@@ -49,7 +49,7 @@ head-block z i b k e es h =
       | inr t ↦ let g = simp and-is at (rw t at (f .0 .0 .0)) in let c = eqb-is (e .block) b .0 (g .0 .0) in omega arith
     ]
 
-least-block : (z : Sizes) (i b k : ℕ) (es : List Equation) (j : ℕ) → equationsOk z i b k es ≡ true → j < length es → b ≤ suc (blockAt es j)
+pub least-block : (z : Sizes) (i b k : ℕ) (es : List Equation) (j : ℕ) → equationsOk z i b k es ≡ true → j < length es → b ≤ suc (blockAt es j)
 least-block z i b k [] j h l = absurd (not-suc-le-zero l)
 least-block z i b k (e ∷ es) zero h l = head-block z i b k e es h
 least-block z i b k (e ∷ es) (suc j) h l =

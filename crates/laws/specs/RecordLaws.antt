@@ -1,4 +1,4 @@
--- AreBytes and records: what is written is accepted back, and what is accepted, written again, is what was there. Assumes nothing.
+-- Bytes and records: what is written is accepted back, and what is accepted, written again, is what was there. Assumes nothing.
 use mathlib.Core.Path.{_≡_, refl, ap, ap₂, _∙_}
 use mathlib.Core.Logic.{_⊎_, inl, inr}
 use mathlib.Core.Bool.{Bool, true, false, cond, _&&_}
@@ -22,6 +22,11 @@ Fits (w ∷ ws) (f ∷ fs) = (f < 256 ^ w) × Fits ws fs
 abbrev pub AreBytes : List ℕ → Type 0
 AreBytes [] = Unit {0}
 AreBytes (b ∷ s) = (b < 256) × AreBytes s
+
+-- Bytes, one by one.
+pub are-bytes : (s : List ℕ) → ((i : ℕ) → getD s i 0 < 256) → AreBytes s
+are-bytes [] h = tt
+are-bytes (b ∷ s) h = (h 0, are-bytes s (λ i. h (suc i)))
 
 abbrev pub Writable : Rec → Type 0
 Writable r = (known (r .kind) ≡ true) × Fits (widths (r .kind)) (r .body)

@@ -17,26 +17,10 @@ use Rattle.rules.specs.Session.{unword}
 use Rattle.rules.specs.Values.{variable, nothing, blockOf, greatestIn, greatest}
 use Rattle.rules.specs.declared.Sizes.{Sizes}
 use Rattle.rules.specs.Values as values
-use Rattle.laws.specs.Named.{equationAt, blockAt}
+use Rattle.laws.specs.Named.{equationAt, blockAt, head-block, least-block}
 use Rattle.laws.specs.ModelSystem.{frame, block-at, Sound, sound}
 use Rattle.pairs.specs.Drawn.{tableOf, Drawn}
 use Rattle.pairs.specs.Words.{kindIn, blockIn}
-
--- Block numbers never fall.
-head-block : (z : Sizes) (i b k : ℕ) (e : Equation) (es : List Equation) → equationsOk z i b k (e ∷ es) ≡ true → b ≤ suc (e .block)
-head-block z i b k e es h =
-    let f = simp and-is at h in
-    elim (tell true (eqb (suc (e .block)) b)) [
-      | inl t ↦ let c = eqb-is (suc (e .block)) b .0 t in omega arith
-      | inr t ↦ let g = simp and-is at (rw t at (f .0 .0 .0)) in let c = eqb-is (e .block) b .0 (g .0 .0) in omega arith
-    ]
-
-least-block : (z : Sizes) (i b k : ℕ) (es : List Equation) (j : ℕ) → equationsOk z i b k es ≡ true → j < length es → b ≤ suc (blockAt es j)
-least-block z i b k [] j h l = absurd (not-suc-le-zero l)
-least-block z i b k (e ∷ es) zero h l = head-block z i b k e es h
-least-block z i b k (e ∷ es) (suc j) h l =
-    let n = least-block z (suc i) (suc (e .block)) (e .kind) es j (simp and-is at h .1) (le-of-suc-le-suc l) in
-    let c = head-block z i b k e es h in omega arith
 
 -- The equations that go on with a block have its kind.
 same-kind : (z : Sizes) (i b k : ℕ) (es : List Equation) (j : ℕ) → equationsOk z i (suc b) k es ≡ true → j < length es → blockAt es j ≡ b → equationAt es j .kind ≡ k

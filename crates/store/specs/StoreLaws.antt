@@ -148,11 +148,6 @@ pub stored-none : (l : Lengths) (s : List ℕ) (t : Stored) → Stops l before (
 unfolding readModel last laid
 stored-none l s t f m e = let w = last-by l s (started (m .sizes)) 0 t before (partsAt s 0) m f e in rw w refl
 
--- Bytes, one by one.
-pub are-bytes : (s : List ℕ) → ((i : ℕ) → getD s i 0 < 256) → AreBytes s
-are-bytes [] h = tt
-are-bytes (b ∷ s) h = (h 0, are-bytes s (λ i. h (suc i)))
-
 -- Stored from the front on, where there is room, is the room filled.
 sets-fill : (new room : List ℕ) → length new ≤ length room → sets room 0 new ≡ fill new room
 sets-fill new room h = sets-eq new room 0 (rw zero-add h) ∙ rw zero-add refl

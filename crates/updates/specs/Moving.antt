@@ -18,7 +18,7 @@ use Rattle.rules.specs.Batch.{Change, Batch, changesOk, judge, inserts, edited}
 use Rattle.rules.specs.Session.{held}
 use Rattle.rules.specs.Update.{changed}
 use Rattle.rules.specs.declared.Session.{Session}
-use Rattle.laws.specs.Edits.{Judged, AllOk, judge-out, edited-wellFormed}
+use Rattle.laws.specs.Edits.{Judged, AllOk, judge-out, edited-wellFormed, all-ok}
 use Rattle.laws.specs.ModelSystem.{Sound, sound}
 use Rattle.sessions.specs.CheckedMoves as Moves
 use Rattle.applies.specs.Kept.{Kept, appliedTo}
@@ -56,16 +56,6 @@ pub record Able (s : Session) (l : Rooms) (cs : List Change) : Type 0 where
 -- The judgement says so.
 pub able : (s : Session) (l : Rooms) (b b′ : Batch) → Sane s l → changesOk (s .sizes) (b .changes) ≡ true → judge (length (l .moves)) (held s l .moves) b ≡ accepted b′ → Able s l (b .changes)
 able s l b b′ p r j = let k = judge-out (length (l .moves)) (held s l .moves) b b′ j in record { is-sane = p; judged = k .1; in-range = r; few = k .2 }
-
--- Inserts of changes in range are in range.
-inserts-ok : (s : Session) (cs : List Change) → changesOk (s .sizes) cs ≡ true → AllOk (s .sizes) (inserts cs)
-inserts-ok s [] h = tt
-inserts-ok s (c ∷ cs) h =
-    let k = simp and-is at h in
-    elim (tell true (c .insert)) [
-      | inl t ↦ rw t (k .0, inserts-ok s cs (k .1))
-      | inr t ↦ rw t (inserts-ok s cs (k .1))
-    ]
 
 -- Where no number of a list is over 1, none is.
 each-small : (l : List ℕ) → all (λ v. leb v 1) l ≡ true → (p : ℕ) → getD l p 0 ≤ 1
@@ -107,7 +97,7 @@ module _ (s : Session) (l : Rooms) (cs : List Change) (a : Able s l cs) (ms : Li
   made-table = ap (λ (k : List ℕ). withMoves k (held s l)) made-moves
 
   made-model : WellFormed (changed cs (held s l))
-  made-model = let f = a .few in edited-wellFormed (held s l) cs (a .is-sane .model) (a .judged) (inserts-ok s cs (a .in-range)) (omega arith)
+  made-model = let f = a .few in edited-wellFormed (held s l) cs (a .is-sane .model) (a .judged) (all-ok (s .sizes) cs (a .in-range)) (omega arith)
 
   -- It is one that a load accepts.
   pub made-drawn : Drawn (s .sizes) (l .labels) (l .equations) ms n

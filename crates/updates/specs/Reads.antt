@@ -24,11 +24,6 @@ use Rattle.batches.specs.declared.ReadBatch.{ReadBatch}
 use Rattle.batches.specs.declared.ReadBatch.the-variants as B
 use Rattle.edits.specs.Changes.{changeOf, changesOf}
 
--- Bytes, one by one.
-pub bytes-are : (s : List ℕ) → ((i : ℕ) → getD s i 0 < 256) → AreBytes s
-bytes-are [] h = tt
-bytes-are (b ∷ s) h = (h 0, bytes-are s (λ i. h (suc i)))
-
 -- Twice a move and the bit of an insert, taken back.
 taken-back : (b : Bool) (q : ℕ) → changeOf (2 * q + bit b) ≡ record { insert = b; move = q }
 taken-back true q =

@@ -1,6 +1,6 @@
 -- `loads::load` meets its contract. Assumes nothing.
 use native.Mathlib.Omega.{arith}
-use Rattle.store.specs.StoreLaws.{are-bytes}
+use Rattle.laws.specs.RecordLaws.{are-bytes}
 use Rattle.loads.specs.LoadLaws.{five, load-refused, found, load-good}
 use borrow.Author.Needs.{needs}
 use Rattle.loads.proofs.load.Statement.{statement}

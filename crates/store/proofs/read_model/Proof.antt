@@ -1,7 +1,8 @@
 -- `store::read_model` meets its contract. Assumes nothing.
 use native.Mathlib.Omega.{arith}
 use borrow.Author.Needs.{needs}
-use Rattle.store.specs.StoreLaws.{are-bytes, read-refused, read-good}
+use Rattle.laws.specs.RecordLaws.{are-bytes}
+use Rattle.store.specs.StoreLaws.{read-refused, read-good}
 use Rattle.store.specs.Stored.{three}
 use Rattle.store.proofs.read_model.Statement.{statement}
 use Rattle.store.proofs.read_model.Tie as tie
