@@ -1,6 +1,5 @@
 // The calls: the question about one pair, whole, and what the other calls ask of a session before anything else.
 ghost use mathlib.Core.Path.{_≡_};
-ghost use Rattle.rules.specs.Values.{pair};
 ghost use Rattle.rules.specs.Calls.{ask};
 ghost use Rattle.rules.specs.Answers.{askedSays};
 ghost use Rattle.sessions.specs.Tested.{roomsOf};
@@ -26,13 +25,6 @@ fn numbers_ok(sizes: Sizes, here: State, x: Variable) -> bool
     (here.0 < sizes.states) & (x.0 < sizes.variables)
 }
 
-// The number of the pair of a state and a variable.
-pub fn pair_of(sizes: Sizes, here: State, x: Variable) -> usize
-    ensures { λ r. ⌜ r ≡ pair sizes here x ⌝ }
-{
-    x.0 as usize * sizes.states as usize + here.0 as usize
-}
-
 // The value of one pair. It is refused 12 for the sizes, 13 for the room of the values, 4 for a state or a variable not below
 // its count, and 12 for the one byte read.
 pub fn ask(session: Session, values: &[u8], here: State, x: Variable) -> Asked
@@ -48,7 +40,7 @@ pub fn ask(session: Session, values: &[u8], here: State, x: Variable) -> Asked
     if !numbers_ok(sizes, here, x) {
         return Asked::Refused(Refusal::BadNumber, 0);
     }
-    let v = rooms::byte_at(values, pair_of(sizes, here, x));
+    let v = rooms::byte_at(values, limits::pair_of(sizes, here, x));
     if 1 < v {
         return Asked::Refused(Refusal::NotAModel, 0);
     }

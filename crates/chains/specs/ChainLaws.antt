@@ -1,7 +1,6 @@
--- What the chains hold: from the head of a target's chain the moves into it are found, the last first. Assumes nothing.
+-- What the chains hold: from the head of a number's chain the words that have it are found, the last first. Assumes nothing.
 use mathlib.Core.Path.{_≡_, refl, sym, ap, _∙_, subst}
-use mathlib.Core.Logic.{inl, inr}
-use mathlib.Core.Bool.{cond}
+use mathlib.Core.Logic.{_⊎_, inl, inr}
 use mathlib.Core.List.{List}
 use Prim.Native.Nat.{ℕ, zero, suc, _+_, _≤_, _<_}
 use native.Mathlib.Nat.{not-suc-le-zero, le-of-suc-le-suc, eq-or-lt-of-le}
@@ -11,67 +10,105 @@ use native.Mathlib.Omega.{arith}
 use lib.ListN.{length, getD, set, length-set}
 use lib.Seq.{getD-set-same, getD-set-other}
 use Rattle.lists.specs.Tests.{eqb-in, eqb-no}
-use Rattle.rules.specs.Moves.{target}
-use Rattle.chains.specs.Chains.{Chain, link, linked, lastTo}
+use Rattle.chains.specs.Chains.{link, linked, lastTo}
 
--- One move more.
-pub linked-more : (ms : List ℕ) (j : ℕ) (h g k : Chain) → g ≡ linked ms j h → k ≡ link ms j g → k ≡ linked ms (j + 1) h
-unfolding linked
-linked-more ms j h g k e f = rw add-one (f ∙ ap (link ms j) e)
+-- The heads and the links that chains of the first n words have, where their room is r. There are heads up to the links.
+pub record Chained (key : ℕ → ℕ) (heads links : ℕ) (ws : List ℕ) (n : ℕ) (r : List ℕ) : Type 0 where
+  pub ends : (t : ℕ) → heads + t < links → getD r (heads + t) 0 ≡ lastTo key ws t n
+  pub steps : (j : ℕ) → j < n → getD r (links + j) 0 ≡ lastTo key ws (key (getD ws j 0)) j
 
--- No room changes its length.
-pub linked-long : (ms : List ℕ) (j : ℕ) (h : Chain) → (length (linked ms j h .last) ≡ length (h .last)) × (length (linked ms j h .next) ≡ length (h .next))
-unfolding linked link
-linked-long ms zero h = (refl, refl)
-linked-long ms (suc j) h =
-    let k = linked-long ms j h in
-    (simp length-set (k .0), simp length-set (k .1))
-
--- The heads and the links that chains of the first n moves have.
-pub record Chained (ms : List ℕ) (n : ℕ) (last next : List ℕ) : Type 0 where
-  pub heads : (t : ℕ) → t < length last → getD last t 0 ≡ lastTo ms t n
-  pub links : (j : ℕ) → j < n → getD next j 0 ≡ lastTo ms (target (getD ms j 0)) j
-
-last-hit : (ms : List ℕ) (t j : ℕ) → target (getD ms j 0) ≡ t → lastTo ms t (suc j) ≡ suc j
-unfolding lastTo
-last-hit ms t j e = rw (eqb-in _ t e) refl
-
-last-miss : (ms : List ℕ) (t j : ℕ) → (target (getD ms j 0) ≡ t → ⊥) → lastTo ms t (suc j) ≡ lastTo ms t j
-unfolding lastTo
-last-miss ms t j e = rw (eqb-no _ t .1 e) refl
-
--- One move more keeps them.
-chained-more : (ms : List ℕ) (h : Chain) (n : ℕ) → suc n ≤ length (h .next) → ((j : ℕ) → j < suc n → target (getD ms j 0) < length (h .last))
-    → Chained ms n (linked ms n h .last) (linked ms n h .next) → Chained ms (suc n) (linked ms (suc n) h .last) (linked ms (suc n) h .next)
-unfolding linked link
-chained-more ms h n l f c = record {
-  heads = λ t k. elim (ℕ-discrete (target (getD ms n 0)) t) [
-    | yes e ↦
-        subst (λ (x : ℕ). getD (set (linked ms n h .last) (target (getD ms n 0)) (n + 1)) x 0 ≡ lastTo ms x (suc n)) e
-        (getD-set-same (linked ms n h .last) (target (getD ms n 0)) (n + 1) 0 (let a = f n (omega arith) in omega (arith, long .0)) ∙ rw add-one (sym (last-hit ms (target (getD ms n 0)) n refl)))
-    | no e ↦
-        getD-set-other (linked ms n h .last) (target (getD ms n 0)) t (n + 1) 0 (λ z. e (sym z))
-        ∙ c .heads t (let a = length-set (linked ms n h .last) (target (getD ms n 0)) (n + 1) in omega arith) ∙ sym (last-miss ms t n e)
-  ];
-  links = λ j k. elim (ℕ-discrete j n) [
-    | yes e ↦
-        subst (λ (x : ℕ). getD (set (linked ms n h .next) n (getD (linked ms n h .last) (target (getD ms n 0)) 0)) x 0 ≡ lastTo ms (target (getD ms x 0)) x) (sym e)
-        (getD-set-same (linked ms n h .next) n (getD (linked ms n h .last) (target (getD ms n 0)) 0) 0 (omega (arith, long .1))
-        ∙ c .heads (target (getD ms n 0)) (let a = f n (omega arith) in omega (arith, long .0)))
-    | no e ↦
-        getD-set-other (linked ms n h .next) n j (getD (linked ms n h .last) (target (getD ms n 0)) 0) 0 e ∙ c .links j (below e (le-of-suc-le-suc k))
-  ];
+-- Chains stay where the room does not change between its first head and its last link.
+pub chained-kept : (key : ℕ → ℕ) (heads links : ℕ) (ws : List ℕ) (n : ℕ) (r q : List ℕ) → heads ≤ links
+    → ((i : ℕ) → heads ≤ i → i < links + n → getD q i 0 ≡ getD r i 0) → Chained key heads links ws n r → Chained key heads links ws n q
+chained-kept key heads links ws n r q o same c = record {
+  ends = λ t h. same (heads + t) (omega arith) (omega arith) ∙ c .ends t h;
+  steps = λ j h. same (links + j) (omega arith) (omega arith) ∙ c .steps j h;
 }
-  where
-    long : (length (linked ms n h .last) ≡ length (h .last)) × (length (linked ms n h .next) ≡ length (h .next))
-    long = linked-long ms n h
 
-    below : {j : ℕ} → (j ≡ n → ⊥) → j ≤ n → j < n
-    below e k = elim (eq-or-lt-of-le k) [ inl a ↦ absurd (e a) | inr a ↦ a ]
+module _ (key : ℕ → ℕ) (heads links : ℕ) (ws : List ℕ) where
+  -- One word more.
+  pub linked-more : (j : ℕ) (r q p : List ℕ) → q ≡ linked key heads links ws j r → p ≡ link key heads links ws j q → p ≡ linked key heads links ws (j + 1) r
+  unfolding linked
+  linked-more j r q p e f = rw add-one (f ∙ ap (link key heads links ws j) e)
 
--- From empty chains, one move after the other.
-pub chained : (ms : List ℕ) (h : Chain) → ((t : ℕ) → getD (h .last) t 0 ≡ 0) → (n : ℕ) → n ≤ length (h .next)
-    → ((j : ℕ) → j < n → target (getD ms j 0) < length (h .last)) → Chained ms n (linked ms n h .last) (linked ms n h .next)
-unfolding linked link lastTo
-chained ms h none zero l f = record { heads = λ t k. none t; links = λ j k. absurd (not-suc-le-zero k) }
-chained ms h none (suc n) l f = chained-more ms h n l f (chained ms h none n (omega arith) (λ j k. f j (omega arith)))
+  -- The room keeps its length.
+  pub linked-long : (j : ℕ) (r : List ℕ) → length (linked key heads links ws j r) ≡ length r
+  unfolding linked link
+  linked-long zero r = refl
+  linked-long (suc j) r = simp length-set (linked-long j r)
+
+  last-hit : (t j : ℕ) → key (getD ws j 0) ≡ t → lastTo key ws t (suc j) ≡ suc j
+  unfolding lastTo
+  last-hit t j e = rw (eqb-in _ t e) refl
+
+  last-miss : (t j : ℕ) → (key (getD ws j 0) ≡ t → ⊥) → lastTo key ws t (suc j) ≡ lastTo key ws t j
+  unfolding lastTo
+  last-miss t j e = rw (eqb-no _ t .1 e) refl
+
+  -- What lies before the heads or after the links is kept.
+  pub linked-keeps : (n : ℕ) (r : List ℕ) (i : ℕ) → heads ≤ links → ((j : ℕ) → j < n → heads + key (getD ws j 0) < links) → (i < heads) ⊎ (links + n ≤ i)
+      → getD (linked key heads links ws n r) i 0 ≡ getD r i 0
+  unfolding linked link
+  linked-keeps zero r i o f h = refl
+  linked-keeps (suc n) r i o f h =
+      let q = linked key heads links ws n r in
+      let k = heads + key (getD ws n 0) in
+      let v = getD q k 0 in
+      let l = f n (omega arith) in
+      getD-set-other (set q (links + n) v) k i (n + 1) 0 (apart h l) ∙ getD-set-other q (links + n) i v 0 (past h l)
+      ∙ linked-keeps n r i o (λ j g. f j (omega arith)) (still h)
+    where
+      apart : (i < heads) ⊎ (links + suc n ≤ i) → heads + key (getD ws n 0) < links → i ≡ heads + key (getD ws n 0) → ⊥
+      apart (inl a) l e = absurd (omega arith)
+      apart (inr a) l e = absurd (omega arith)
+
+      past : (i < heads) ⊎ (links + suc n ≤ i) → heads + key (getD ws n 0) < links → i ≡ links + n → ⊥
+      past (inl a) l e = absurd (omega arith)
+      past (inr a) l e = absurd (omega arith)
+
+      still : (i < heads) ⊎ (links + suc n ≤ i) → (i < heads) ⊎ (links + n ≤ i)
+      still (inl a) = inl a
+      still (inr a) = inr (omega arith)
+
+  -- One word more keeps the chains.
+  chained-more : (n : ℕ) (r : List ℕ) → links + suc n ≤ length r → heads + key (getD ws n 0) < links
+      → Chained key heads links ws n r → Chained key heads links ws (suc n) (link key heads links ws n r)
+  unfolding link
+  chained-more n r l f c = record {
+    ends = λ t k. elim (ℕ-discrete (key (getD ws n 0)) t) [
+      | yes e ↦
+          subst (λ (x : ℕ). getD (set (set r (links + n) old) place (n + 1)) (heads + x) 0 ≡ lastTo key ws x (suc n)) e
+          (getD-set-same (set r (links + n) old) place (n + 1) 0 (omega (arith, long)) ∙ rw add-one (sym (last-hit (key (getD ws n 0)) n refl)))
+      | no e ↦
+          getD-set-other (set r (links + n) old) place (heads + t) (n + 1) 0 (λ z. e (omega arith))
+          ∙ getD-set-other r (links + n) (heads + t) old 0 (λ z. absurd (omega arith)) ∙ c .ends t k ∙ sym (last-miss t n e)
+    ];
+    steps = λ j k. getD-set-other (set r (links + n) old) place (links + j) (n + 1) 0 (λ z. absurd (omega arith))
+        ∙ elim (ℕ-discrete j n) [
+          | yes e ↦
+              subst (λ (x : ℕ). getD (set r (links + n) old) (links + x) 0 ≡ lastTo key ws (key (getD ws x 0)) x) (sym e)
+              (getD-set-same r (links + n) old 0 (omega arith) ∙ c .ends (key (getD ws n 0)) f)
+          | no e ↦ getD-set-other r (links + n) (links + j) old 0 (λ z. e (omega arith)) ∙ c .steps j (below e (le-of-suc-le-suc k))
+        ];
+  }
+    where
+      place : ℕ
+      place = heads + key (getD ws n 0)
+
+      old : ℕ
+      old = getD r place 0
+
+      long : length (set r (links + n) old) ≡ length r
+      long = length-set r (links + n) old
+
+      below : {j : ℕ} → (j ≡ n → ⊥) → j ≤ n → j < n
+      below e k = elim (eq-or-lt-of-le k) [ inl a ↦ absurd (e a) | inr a ↦ a ]
+
+  -- From empty heads, one word after the other.
+  pub chained : (r : List ℕ) → ((t : ℕ) → heads + t < links → getD r (heads + t) 0 ≡ 0) → (n : ℕ) → links + n ≤ length r
+      → ((j : ℕ) → j < n → heads + key (getD ws j 0) < links) → Chained key heads links ws n (linked key heads links ws n r)
+  unfolding linked lastTo
+  chained r none zero l f = record { ends = none; steps = λ j k. absurd (not-suc-le-zero k) }
+  chained r none (suc n) l f =
+      let a = linked-long n r in
+      chained-more n (linked key heads links ws n r) (omega arith) (f n (omega arith)) (chained r none n (omega arith) (λ j k. f j (omega arith)))

@@ -1,28 +1,87 @@
-// Moves found by their target: for each state the last move into it, and for each move the one before it with the same
-// target, both as one more than a place, 0 for none. Built once per call, in local arrays.
+// Words found by one of their numbers: moves by their target, changes by the source of their move, equations by their
+// block. For each number the last word that has it is kept, and for each word the one before it with the same number, both as one
+// more than a place, 0 for none. All three kinds of chain lie in one room, built once per call.
 ghost use mathlib.Core.Path.{_≡_};
 ghost use Prim.Native.Nat.{_+_, _≤_, _<_};
-ghost use Rattle.chains.specs.Chains.{link, linked};
+ghost use lib.ListN.{getD};
+ghost use Rattle.chains.specs.Chains.{keyOf, headsAt, linksAt, link, linked};
 
-// Puts the move at j at the head of its target's chain.
-pub fn put_link(moves: &[u32], j: usize, last: &mut [u16], next: &mut [u16])
-    requires { ⌜ j < 65535 ⌝ }
-    ensures { λ _. ⌜ (record { last = now (last .exit); next = now (next .exit) }) ≡ link (now (moves .entry)) j (record { last = now (last .entry); next = now (next .entry) }) ⌝ }
-{
-    let t = (rooms::word_at(moves, j) % 1024) as usize;
-    let before = rooms::half_at(last, t);
-    rooms::set_half(next, j, before);
-    rooms::set_half(last, t, (j + 1) as u16);
+// What words are chained by.
+pub enum By {
+    Target,
+    Source,
+    Block,
 }
 
-// Chains the first n moves.
-pub fn index(moves: &[u32], n: usize, last: &mut [u16], next: &mut [u16])
+// The number by which a word is chained.
+fn key_of(w: u32, by: By) -> usize
+    ensures { λ r. ⌜ (r ≡ keyOf by w) × (r < 32768) ⌝ }
+{
+    match by {
+        By::Target => (w % 1024) as usize,
+        By::Source => (w / 2 / 65536) as usize,
+        By::Block => (w / 256 / 256 / 256 / 2) as usize,
+    }
+}
+
+// Where the heads of a kind of chain begin in the room.
+fn heads_at(by: By) -> usize
+    ensures { λ r. ⌜ (r ≡ headsAt by) × (r < 2048) ⌝ }
+{
+    match by {
+        By::Target => 0,
+        By::Source => 1280,
+        By::Block => 1600,
+    }
+}
+
+// Where the links of a kind of chain begin in the room.
+fn links_at(by: By) -> usize
+    ensures { λ r. ⌜ (r ≡ linksAt by) × (r < 2048) ⌝ }
+{
+    match by {
+        By::Target => 256,
+        By::Source => 1536,
+        By::Block => 1632,
+    }
+}
+
+// One more than the place of the last word that has the number, or 0.
+pub fn head(room: &[u16], by: By, key: usize) -> usize
+    requires { ⌜ key < 65536 ⌝ }
+    ensures { λ r. ⌜ (r ≡ getD (now (room .entry)) (headsAt by + key) 0) × (r < 65536) ⌝ }
+{
+    rooms::half_at(room, heads_at(by) + key) as usize
+}
+
+// One more than the place of the word before the one at j with the same number, or 0.
+pub fn before(room: &[u16], by: By, j: usize) -> usize
+    requires { ⌜ j < 65536 ⌝ }
+    ensures { λ r. ⌜ (r ≡ getD (now (room .entry)) (linksAt by + j) 0) × (r < 65536) ⌝ }
+{
+    rooms::half_at(room, links_at(by) + j) as usize
+}
+
+// Puts the word at j at the head of its chain.
+fn put_link(words: &[u32], j: usize, by: By, room: &mut [u16])
+    requires { ⌜ j < 65535 ⌝ }
+    ensures { λ _. ⌜ now (room .exit) ≡ link (keyOf by) (headsAt by) (linksAt by) (now (words .entry)) j (now (room .entry)) ⌝ }
+{
+    let key = key_of(rooms::word_at(words, j), by);
+    let place = heads_at(by) + key;
+    let last = rooms::half_at(room, place);
+    rooms::set_half(room, links_at(by) + j, last);
+    rooms::set_half(room, place, (j + 1) as u16);
+}
+
+// Chains the first n words.
+pub fn index(words: &[u32], n: usize, by: By, room: &mut [u16])
     requires { ⌜ n ≤ 65535 ⌝ }
-    ensures { λ _. ⌜ (record { last = now (last .exit); next = now (next .exit) }) ≡ linked (now (moves .entry)) n (record { last = now (last .entry); next = now (next .entry) }) ⌝ }
+    ensures { λ _. ⌜ now (room .exit) ≡ linked (keyOf by) (headsAt by) (linksAt by) (now (words .entry)) n (now (room .entry)) ⌝ }
 {
     let mut j: usize = 0;
     while j < n {
-        put_link(moves, j, last, next);
+        put_link(words, j, by, room);
         j = j + 1;
     }
 }

@@ -5,3 +5,4 @@ pub mod TurnLaws
 pub mod UnitLaws
 pub mod Runs
 pub mod Updates
+pub mod Indexes

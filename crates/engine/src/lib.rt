@@ -1,4 +1,5 @@
 // The step machine that moves the values: pairs are looked at, wait, and turn. One unit is one look or one turn.
+use chains::By;
 use rules::Sizes;
 use rules::Visits;
 use visits::Spread;
@@ -20,7 +21,10 @@ ghost use Rattle.laws.specs.ModelSystem.{frame};
 ghost use Rattle.laws.specs.ModelLeaners.{leanersOf};
 ghost use Rattle.pairs.specs.Drawn.{Drawn, tableOf};
 ghost use Rattle.pairs.specs.Looks.{changesOf, lookTest};
+ghost use Rattle.chains.specs.Chains.{keyOf, headsAt, linksAt};
 ghost use Rattle.chains.specs.ChainLaws.{Chained};
+ghost use Rattle.chains.specs.Indexed.{Indexed};
+ghost use Rattle.chains.specs.declared.By.the-variants as By;
 ghost use Rattle.engine.specs.Jobs.{jobAs};
 ghost use Rattle.engine.specs.Engine.{unitE};
 ghost use Rattle.engine.specs.UnitLaws.{Ready};
@@ -66,16 +70,16 @@ fn turn(
     equations: &[u32],
     moves: &[u32],
     n: usize,
-    last: &[u16],
-    next: &[u16],
+    index: &[u16],
     values: &mut [u8],
     marks: &mut [u8],
     stack: &mut [u16],
     at: Progress,
 ) -> Progress
     requires { ⌜ Drawn sizes (now labels) (now equations) (now moves) n ⌝ }
-    requires { ⌜ Chained (now moves) n (now last) (now next) ⌝ }
-    requires { ⌜ (sizes .states ≤ length (now last)) × (((0 < at .top) × (at .top ≤ 8192)) × ((getD (now stack) (at .top - 1) 0 < pairsOf sizes) × ((at .shifts < 100000000000) × (at .settles < 100000000000)))) ⌝ }
+    requires { ⌜ Chained (keyOf By.Target) (headsAt By.Target) (linksAt By.Target) (now moves) n (now index) ⌝ }
+    requires { ⌜ Chained (keyOf By.Block) (headsAt By.Block) (linksAt By.Block) (now equations) (sizes .variables) (now index) ⌝ }
+    requires { ⌜ ((0 < at .top) × (at .top ≤ 8192)) × ((getD (now stack) (at .top - 1) 0 < pairsOf sizes) × ((at .shifts < 100000000000) × (at .settles < 100000000000))) ⌝ }
     ensures { λ r. ⌜ jobAs (now (values .exit)) (now (marks .exit)) (now (stack .exit)) (r .block) (r .settling) (r .place) (r .top) (r .shifts) (r .settles)
         ≡ turnL (frame (tableOf sizes (now (labels .entry)) (now (equations .entry)) (now (moves .entry)) n))
         (leanings (tableOf sizes (now (labels .entry)) (now (equations .entry)) (now (moves .entry)) n))
@@ -96,8 +100,7 @@ fn turn(
         equations,
         moves,
         n,
-        last,
-        next,
+        index,
         values,
         marks,
         stack,
@@ -124,6 +127,7 @@ fn look_at(
     n: usize,
     changes: &[u32],
     count: usize,
+    index: &[u16],
     values: &[u8],
     marks: &mut [u8],
     stack: &mut [u16],
@@ -132,8 +136,9 @@ fn look_at(
     p: usize,
 ) -> usize
     requires { ⌜ Drawn sizes (now labels) (now equations) (now moves) n ⌝ }
-    requires { ⌜ (p < pairsOf sizes) × (top ≤ 8192) ⌝ }
+    requires { ⌜ (p < pairsOf sizes) × ((top ≤ 8192) × ((count ≤ length (now changes)) × (count < 65536))) ⌝ }
     requires { ⌜ changesOk sizes (changesOf (take count (now changes))) ≡ true ⌝ }
+    requires { ⌜ Chained (keyOf By.Source) (headsAt By.Source) (linksAt By.Source) (now changes) count (now index) ⌝ }
     ensures { λ t. ⌜ (record { marks = now (marks .exit); stack = now (stack .exit); top = t })
         ≡ pushL (free settling) (nextMark settling)
         (lookTest (tableOf sizes (now (labels .entry)) (now (equations .entry)) (now (moves .entry)) n) (changesOf (take count (now (changes .entry)))) settling (valueAt (now (values .entry))) (λ q. getD (now (marks .entry)) q 0))
@@ -149,6 +154,7 @@ fn look_at(
             n,
             changes,
             count,
+            index,
             values,
             marks,
             settling,
@@ -167,21 +173,20 @@ fn unit(
     equations: &[u32],
     moves: &[u32],
     n: usize,
-    last: &[u16],
-    next: &[u16],
     changes: &[u32],
     count: usize,
+    index: &[u16],
     values: &mut [u8],
     marks: &mut [u8],
     stack: &mut [u16],
     at: Progress,
 ) -> Progress
     requires { ⌜ Drawn sizes (now labels) (now equations) (now moves) n ⌝ }
-    requires { ⌜ Chained (now moves) n (now last) (now next) ⌝ }
+    requires { ⌜ Indexed (sizes .variables) (now equations) (now moves) n (now changes) count (now index) ⌝ }
     requires { ⌜ changesOk sizes (changesOf (take count (now changes))) ≡ true ⌝ }
     requires { ⌜ Ready (tableOf sizes (now labels) (now equations) (now moves) n)
         (jobAs (now values) (now marks) (now stack) (at .block) (at .settling) (at .place) (at .top) (at .shifts) (at .settles)) ⌝ }
-    requires { ⌜ (sizes .states ≤ length (now last)) × ((at .shifts < 100000000000) × (at .settles < 100000000000)) ⌝ }
+    requires { ⌜ ((count ≤ length (now changes)) × (count < 65536)) × ((at .shifts < 100000000000) × (at .settles < 100000000000)) ⌝ }
     ensures { λ r. ⌜ jobAs (now (values .exit)) (now (marks .exit)) (now (stack .exit)) (r .block) (r .settling) (r .place) (r .top) (r .shifts) (r .settles)
         ≡ unitE (tableOf sizes (now (labels .entry)) (now (equations .entry)) (now (moves .entry)) n) (changesOf (take count (now (changes .entry))))
         (jobAs (now (values .entry)) (now (marks .entry)) (now (stack .entry)) (at .block) (at .settling) (at .place) (at .top) (at .shifts) (at .settles)) ⌝ }
@@ -194,8 +199,7 @@ fn unit(
             equations,
             moves,
             n,
-            last,
-            next,
+            index,
             values,
             marks,
             stack,
@@ -221,6 +225,7 @@ fn unit(
             n,
             changes,
             count,
+            index,
             values,
             marks,
             stack,
@@ -228,10 +233,11 @@ fn unit(
             s.settling,
             s.place,
         );
+        let next = s.place + 1;
         return Progress {
             block: s.block,
             settling: s.settling,
-            place: s.place + 1,
+            place: next,
             top: top,
             shifts: at.shifts,
             settles: at.settles,
@@ -267,19 +273,18 @@ fn run(
     equations: &[u32],
     moves: &[u32],
     n: usize,
-    last: &[u16],
-    next: &[u16],
     changes: &[u32],
     count: usize,
+    index: &[u16],
     values: &mut [u8],
     marks: &mut [u8],
     stack: &mut [u16],
 ) -> Progress
     requires { ⌜ Drawn sizes (now labels) (now equations) (now moves) n ⌝ }
-    requires { ⌜ Chained (now moves) n (now last) (now next) ⌝ }
+    requires { ⌜ Indexed (sizes .variables) (now equations) (now moves) n (now changes) count (now index) ⌝ }
     requires { ⌜ changesOk sizes (changesOf (take count (now changes))) ≡ true ⌝ }
     requires { ⌜ Started (tableOf sizes (now labels) (now equations) (now moves) n) (changesOf (take count (now changes))) (now values) ⌝ }
-    requires { ⌜ (sizes .states ≤ length (now last)) × ((now marks ≡ replicate (pairsOf sizes) 0) × (pairsOf sizes ≤ length (now stack))) ⌝ }
+    requires { ⌜ ((count ≤ length (now changes)) × (count < 65536)) × ((now marks ≡ replicate (pairsOf sizes) 0) × (pairsOf sizes ≤ length (now stack))) ⌝ }
     ensures { λ r. ⌜ Ran (tableOf sizes (now (labels .entry)) (now (equations .entry)) (now (moves .entry)) n) (changesOf (take count (now (changes .entry)))) (now (values .entry)) (now (stack .entry))
         (jobAs (now (values .exit)) (now (marks .exit)) (now (stack .exit)) (r .block) (r .settling) (r .place) (r .top) (r .shifts) (r .settles)) ⌝ }
 {
@@ -291,7 +296,7 @@ fn run(
         shifts: 0,
         settles: 0,
     };
-    let mut left = 4 * seeks::pair_count(sizes);
+    let mut left = 4 * limits::pairs_of(sizes);
     while 0 < left {
         at = unit(
             sizes,
@@ -299,10 +304,9 @@ fn run(
             equations,
             moves,
             n,
-            last,
-            next,
             changes,
             count,
+            index,
             values,
             marks,
             stack,
@@ -311,6 +315,27 @@ fn run(
         left = left_after(sizes, at.block, at.top, left);
     }
     at
+}
+
+// Chains the moves, the changes and the variables in an empty room.
+fn chain_all(
+    sizes: Sizes,
+    labels: &[u32],
+    equations: &[u32],
+    moves: &[u32],
+    n: usize,
+    changes: &[u32],
+    count: usize,
+    room: &mut [u16],
+)
+    requires { ⌜ Drawn sizes (now labels) (now equations) (now moves) n ⌝ }
+    requires { ⌜ changesOk sizes (changesOf (take count (now changes))) ≡ true ⌝ }
+    requires { ⌜ (count ≤ 64) × ((count ≤ length (now changes)) × (now room ≡ replicate 1664 0)) ⌝ }
+    ensures { λ _. ⌜ Indexed (sizes .variables) (now (equations .entry)) (now (moves .entry)) n (now (changes .entry)) count (now (room .exit)) ⌝ }
+{
+    chains::index(moves, n, By::Target, room);
+    chains::index(changes, count, By::Source, room);
+    chains::index(equations, sizes.variables as usize, By::Block, room);
 }
 
 // From values and marks as long as there are pairs to the end of the update, with a stack and chains of its own.
@@ -328,31 +353,40 @@ fn drive(
     requires { ⌜ Drawn sizes (now labels) (now equations) (now moves) n ⌝ }
     requires { ⌜ changesOk sizes (changesOf (take count (now changes))) ≡ true ⌝ }
     requires { ⌜ Started (tableOf sizes (now labels) (now equations) (now moves) n) (changesOf (take count (now changes))) (now values) ⌝ }
-    requires { ⌜ now marks ≡ replicate (pairsOf sizes) 0 ⌝ }
+    requires { ⌜ (now marks ≡ replicate (pairsOf sizes) 0) × ((count ≤ 64) × (count ≤ length (now changes))) ⌝ }
     ensures { λ r. ⌜ Moved (tableOf sizes (now (labels .entry)) (now (equations .entry)) (now (moves .entry)) n) (changesOf (take count (now (changes .entry)))) (now (values .entry))
         (now (values .exit)) (now (marks .exit)) (r .shift) (r .settle) ⌝ }
 {
-    let mut last = [0u16; 256];
-    let mut next = [0u16; 1024];
+    let mut index = [0u16; 1664];
     let mut stack = [0u16; 8192];
-    chains::index(moves, n, &mut last, &mut next);
+    chain_all(
+        sizes,
+        labels,
+        equations,
+        moves,
+        n,
+        changes,
+        count,
+        &mut index,
+    );
     let at = run(
         sizes,
         labels,
         equations,
         moves,
         n,
-        &last,
-        &next,
         changes,
         count,
+        &index,
         values,
         marks,
         &mut stack,
     );
+    let shift = at.shifts as u32;
+    let settle = at.settles as u32;
     Visits {
-        shift: at.shifts as u32,
-        settle: at.settles as u32,
+        shift: shift,
+        settle: settle,
     }
 }
 
@@ -371,11 +405,11 @@ fn move_values(
     requires { ⌜ Drawn sizes (now labels) (now equations) (now moves) n ⌝ }
     requires { ⌜ changesOk sizes (changesOf (take count (now changes))) ≡ true ⌝ }
     requires { ⌜ Started (tableOf sizes (now labels) (now equations) (now moves) n) (changesOf (take count (now changes))) (take (pairsOf sizes) (now values)) ⌝ }
-    requires { ⌜ (pairsOf sizes ≤ length (now values)) × (pairsOf sizes ≤ length (now marks)) ⌝ }
+    requires { ⌜ ((pairsOf sizes ≤ length (now values)) × (pairsOf sizes ≤ length (now marks))) × ((count ≤ 64) × (count ≤ length (now changes))) ⌝ }
     ensures { λ r. ⌜ MovedIn (tableOf sizes (now (labels .entry)) (now (equations .entry)) (now (moves .entry)) n) (changesOf (take count (now (changes .entry))))
         (now (values .entry)) (now (marks .entry)) (now (values .exit)) (now (marks .exit)) (r .shift) (r .settle) ⌝ }
 {
-    let p = seeks::pair_count(sizes);
+    let p = limits::pairs_of(sizes);
     starts::clear(marks, p);
     drive(
         sizes,
@@ -411,12 +445,12 @@ pub fn update(
     requires { ⌜ Drawn sizes (now labels) (now equations) (now moves) n ⌝ }
     requires { ⌜ changesOk sizes (changesOf (take count (now changes))) ≡ true ⌝ }
     requires { ⌜ Started (tableOf sizes (now labels) (now equations) (now moves) n) (changesOf (take count (now changes))) (take (pairsOf sizes) (now values)) ⌝ }
-    requires { ⌜ (pairsOf sizes ≤ length (now values)) × (pairsOf sizes ≤ length (now marks)) ⌝ }
+    requires { ⌜ ((pairsOf sizes ≤ length (now values)) × (pairsOf sizes ≤ length (now marks))) × ((count ≤ 64) × (count ≤ length (now changes))) ⌝ }
     ensures { λ r. ⌜ Leaves (tableOf sizes (now (labels .entry)) (now (equations .entry)) (now (moves .entry)) n)
         (turnAll (tableOf sizes (now (labels .entry)) (now (equations .entry)) (now (moves .entry)) n) (changesOf (take count (now (changes .entry)))) (valueAt (now (values .entry))))
         (now (values .entry)) (now (marks .entry)) (now (values .exit)) (now (marks .exit)) (r .visits .shift) (r .visits .settle) (r .net) ⌝ }
 {
-    let p = seeks::pair_count(sizes);
+    let p = limits::pairs_of(sizes);
     let before = starts::count_true(values, p);
     let visits = move_values(
         sizes,
@@ -451,7 +485,7 @@ pub fn load_values(
     ensures { λ _. ⌜ (now (values .exit) ≡ fill (bits (pairsOf sizes) (at (solve (tableOf sizes (now (labels .entry)) (now (equations .entry)) (now (moves .entry)) n)))) (now (values .entry)))
         × (now (marks .exit) ≡ fill (replicate (pairsOf sizes) 0) (now (marks .entry))) ⌝ }
 {
-    let p = seeks::pair_count(sizes);
+    let p = limits::pairs_of(sizes);
     starts::own_values(sizes, equations, p, values);
     move_values(sizes, labels, equations, moves, n, labels, 0, values, marks);
     starts::clear(marks, p);

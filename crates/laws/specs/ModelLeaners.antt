@@ -1,11 +1,11 @@
--- Who leans on a pair of a model: for each variable of its block in turn, "and" and "or" at the same state, diamond and box
--- along the moves into the state, the last move first. Each leaning inside the block is listed once. Assumes nothing.
+-- Who leans on a pair of a model: for each variable of its block, the last first, "and" and "or" at the same state, diamond
+-- and box along the moves into the state, the last move first. Each leaning inside the block is listed once. Assumes nothing.
 use mathlib.Core.Path.{_≡_, refl, sym, ap, _∙_}
 use mathlib.Core.Logic.{inl, inr}
 use mathlib.Core.Bool.{Bool, true, false, _&&_, cond}
 use mathlib.Core.List.{List, [], _∷_, _++_, map}
 use Prim.Native.Nat.{ℕ, zero, suc, _+_, _*_, _/_, _%_, _≤_, _<_}
-use native.Mathlib.Nat.{eq-or-lt-of-le, mod-lt, div-lt-iff-lt-mul, mod-add-div'}
+use native.Mathlib.Nat.{add-comm, eq-or-lt-of-le, mod-lt, div-lt-iff-lt-mul, mod-add-div'}
 use native.Mathlib.Decide.{decLt, ℕ-discrete}
 use native.Mathlib.Omega.{arith}
 use lib.Dec.{eqb, ltb}
@@ -43,7 +43,7 @@ leanersOn m x t y = cond (eqb (equationAt m y .block) (equationAt m x .block)) (
 
 abbrev pub leanersTo : Model → Variable → State → ℕ → List ℕ
 leanersTo m x t zero = []
-leanersTo m x t (suc n) = leanersTo m x t n ++ leanersOn m x t (variable n)
+leanersTo m x t (suc n) = leanersOn m x t (variable n) ++ leanersTo m x t n
 
 -- Who leans on the pair q, inside its block.
 unfoldable pub leanersOf : Model → ℕ → List ℕ
@@ -229,9 +229,10 @@ module _ (m : Model) (s t : State) (z x : Variable) (h : s .0 < m .sizes .states
   by-variables : (ok : Sound m) (n : ℕ) → times leaner (leanersTo m x t n) ≡ cond (ltb (z .0) n) (share (z .0)) 0
   by-variables ok zero = ap (λ (b : Bool). cond b (share (z .0)) 0) (sym (ltb-no (z .0) 0 .1 (omega arith)))
   by-variables ok (suc n) =
-      times-append leaner (leanersTo m x t n) (leanersOn m x t (variable n))
-      ∙ ap (λ (k : ℕ). k + times leaner (leanersOn m x t (variable n))) (by-variables ok n)
-      ∙ ap (λ (k : ℕ). cond (ltb (z .0) n) (share (z .0)) 0 + k) (by-variable ok (variable n))
+      times-append leaner (leanersOn m x t (variable n)) (leanersTo m x t n)
+      ∙ ap (λ (k : ℕ). times leaner (leanersOn m x t (variable n)) + k) (by-variables ok n)
+      ∙ ap (λ (k : ℕ). k + cond (ltb (z .0) n) (share (z .0)) 0) (by-variable ok (variable n))
+      ∙ add-comm (cond (eqb n (z .0)) (share n) 0) (cond (ltb (z .0) n) (share (z .0)) 0)
       ∙ one-more share (z .0) n
 
 -- The list is what the machine asks for: each leaning inside the block once.

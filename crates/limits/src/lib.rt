@@ -1,11 +1,15 @@
 // The most of each thing, and whether the numbers of a model lie inside their limits.
 ghost use mathlib.Core.Path.{_≡_};
+ghost use Prim.Native.Nat.{_<_};
 ghost use Rattle.rules.specs.Limits.{sizesOk};
 ghost use Rattle.rules.specs.Model.{labelOk, moveOk, operandsOk, namesOk};
 ghost use Rattle.rules.specs.Rooms.{pairsOf, roomsOk};
+ghost use Rattle.rules.specs.Values.{pair};
 ghost use Rattle.limits.specs.Lent.{lengthsBy};
 use rules::Move;
 use rules::Sizes;
+use rules::State;
+use rules::Variable;
 
 pub const MOST_STATES: u16 = 256;
 
@@ -43,9 +47,16 @@ pub fn sizes_ok(z: Sizes) -> bool
 
 // How many pairs there are.
 pub fn pairs_of(z: Sizes) -> usize
-    ensures { λ r. ⌜ r ≡ pairsOf z ⌝ }
+    ensures { λ r. ⌜ (r ≡ pairsOf z) × (r < 16777216) ⌝ }
 {
     (z.variables as usize) * (z.states as usize)
+}
+
+// The number of the pair of a state and a variable.
+pub fn pair_of(z: Sizes, here: State, x: Variable) -> usize
+    ensures { λ r. ⌜ r ≡ pair z here x ⌝ }
+{
+    x.0 as usize * z.states as usize + here.0 as usize
 }
 
 // No room for labels, equations, values or marks is shorter than the sizes need.

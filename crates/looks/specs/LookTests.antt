@@ -1,5 +1,5 @@
 -- What is asked of a pair that is looked at while its block shifts, in the words that lie in the rooms. Definitions only.
-use mathlib.Core.Bool.{Bool, not, _&&_}
+use mathlib.Core.Bool.{Bool, not, cond, _&&_}
 use mathlib.Core.List.{List}
 use Prim.Native.Nat.{ℕ, _+_, _*_, _/_, _%_}
 use lib.Dec.{eqb, ltb}
@@ -28,3 +28,8 @@ unfoldable pub dropsOwn : Sizes → List ℕ → List ℕ → List ℕ → Bool 
 dropsOwn z equations values marks b s a x w =
     not (eqb (w % 2) 1)
     && (own (state s) (record { 0 = a }) (w / 2) && is (not b) (pastIn z equations values marks (x * z .states + target (w / 2))))
+
+-- Is it the one, where gaining counts, or else the other?
+unfoldable pub touches : Sizes → List ℕ → List ℕ → List ℕ → Bool → Bool → ℕ → ℕ → ℕ → ℕ → Bool
+unfolding addsOwn dropsOwn
+touches z equations values marks b gaining s a x w = cond gaining (addsOwn s a w) (dropsOwn z equations values marks b s a x w)

@@ -9,7 +9,7 @@ use lib.ListN.{getD, take}
 use lib.Dec.{eqb, ltb}
 use Rattle.lists.specs.Lists.{is, any}
 use Rattle.lists.specs.Sets.{none}
-use Rattle.lists.specs.Tests.{_∈_, tests, tell, and-is, and-no, or-false, eqb-same, ltb-in, ltb-no}
+use Rattle.lists.specs.Tests.{_∈_, tests, tell, and-is, and-no, or-false, eqb-same, eqb-out, ltb-in, ltb-no}
 use Rattle.systems.specs.Machine as machine
 use Rattle.rules.specs.Moves.{source, action, target}
 use Rattle.rules.specs.Model.{Model, moveOk}
@@ -25,11 +25,11 @@ use Rattle.laws.specs.ModelSystem.{frame, leanings-at, pairs-full, pair-below, 
 use Rattle.pairs.specs.Drawn.{tableOf, Drawn}
 use Rattle.pairs.specs.Looks.{changesOf, lookTest}
 use Rattle.pairs.specs.Words.{ReadsAs, wordOf, kindIn, blockIn, pastIn}
-use Rattle.pairs.specs.Part.{partOf}
+use Rattle.pairs.specs.Part.{ownMoves}
 use Rattle.pairs.specs.EquationWords.{drawn-sound, block-word}
 use Rattle.pairs.specs.GivesWords.{two, term-read, step-names, targets-read}
 use Rattle.pairs.specs.AsksWords.{is-both, past-word, own-value}
-use Rattle.looks.specs.LookTests.{wentIn, leadsGone, addsOwn, dropsOwn}
+use Rattle.looks.specs.LookTests.{wentIn, leadsGone, addsOwn, dropsOwn, touches}
 
 -- Tests that say the same of each entry say the same of some entry.
 any-same : (f g : ℕ → Bool) (l : List ℕ) → ((q : ℕ) → q ∈ l → f q ≡ g q) → any f l ≡ any g l
@@ -80,6 +80,25 @@ either true true g l = refl
 either true false g l = or-false g
 either false true g l = or-false g
 either false false g l = refl
+
+-- What some change adds or some change drops, as one test on the changes; only changes at the state pass it.
+module _ (z : Sizes) (equations values marks : List ℕ) (b gaining : Bool) (s a x : ℕ) where
+  pub touches-any : (l : List ℕ) → any (touches z equations values marks b gaining s a x) l
+      ≡ cond gaining (any (addsOwn s a) l) (any (dropsOwn z equations values marks b s a x) l)
+  unfolding touches
+  touches-any l = go gaining
+    where
+      go : (g : Bool) → any (λ w. cond g (addsOwn s a w) (dropsOwn z equations values marks b s a x w)) l ≡ cond g (any (addsOwn s a) l) (any (dropsOwn z equations values marks b s a x) l)
+      go true = refl
+      go false = refl
+
+  pub touches-here : (w : ℕ) → touches z equations values marks b gaining s a x w ≡ true → source (w / 2) ≡ s
+  unfolding touches addsOwn dropsOwn
+  touches-here w e = go gaining e
+    where
+      go : (g : Bool) → cond g (addsOwn s a w) (dropsOwn z equations values marks b s a x w) ≡ true → source (w / 2) ≡ s
+      go true f = eqb-out (source (w / 2)) s (simp and-is at f .1 .0)
+      go false f = eqb-out (source (w / 2)) s (simp and-is at f .1 .0 .0)
 
 -- The three ways in which a pair is found to have gone.
 module _ (z : Sizes) (equations values marks : List ℕ) (b : Bool) (i q : ℕ) where
@@ -243,10 +262,10 @@ module _ (z : Sizes) (labels equations moves : List ℕ) (n : ℕ) (d : Drawn z 
   -- A diamond or a box: where it gains or loses so, or one of its moves leads to a pair that went.
   pub look-step : is (not w) (pastIn z equations values marks p) ≡ true → 6 ≤ o
       → shiftTest (tableOf z labels equations moves n) l values marks p
-      ≡ (cond (is (not w) (eqb o 7)) (any (addsOwn (p % z .states) a) l) (any (dropsOwn z equations values marks w (p % z .states) a b) l)
-      || any (leadsGone z equations values marks w i b) (partOf (p % z .states) a (take n moves)))
+      ≡ (any (touches z equations values marks w (is (not w) (eqb o 7)) (p % z .states) a b) l
+      || any (leadsGone z equations values marks w i b) (ownMoves (p % z .states) a (take n moves)))
   unfolding leadsGone
   look-step e g =
       let m = tableOf z labels equations moves n in
-      looked ∙ seed-step m l (pastBy m values marks) (p % z .states) w (pastIn z equations values marks p) (wentIn z equations values marks w i) a b
-      (partOf (p % z .states) a (take n moves)) (dropsOwn z equations values marks w (p % z .states) a b) (lost g) (targets-read z labels equations moves n d p h o a b i k r g) e o g (step-names z labels equations moves n d p h o a b i k r g .0)
+      rw (touches-any z equations values marks w (is (not w) (eqb o 7)) (p % z .states) a b l) (looked ∙ seed-step m l (pastBy m values marks) (p % z .states) w (pastIn z equations values marks p) (wentIn z equations values marks w i) a b
+      (ownMoves (p % z .states) a (take n moves)) (dropsOwn z equations values marks w (p % z .states) a b) (lost g) (targets-read z labels equations moves n d p h o a b i k r g) e o g (step-names z labels equations moves n d p h o a b i k r g .0))

@@ -1,6 +1,10 @@
 // Whether a pair must turn when it is looked at.
+use chains::By;
 use pairs::Formula;
+use rules::Action;
 use rules::Sizes;
+use rules::State;
+use rules::Variable;
 ghost use mathlib.Core.Path.{_≡_};
 ghost use mathlib.Core.Bool.{true, false, not, cond, _||_};
 ghost use Prim.Native.Nat.{_+_, _*_, _≤_, _<_};
@@ -9,13 +13,17 @@ ghost use lib.Seq.{slice};
 ghost use lib.Dec.{eqb};
 ghost use Rattle.lists.specs.Lists.{is, any};
 ghost use Rattle.rules.specs.Rooms.{pairsOf};
-ghost use Rattle.rules.specs.Values.{state, own};
+ghost use Rattle.rules.specs.Values.{own};
 ghost use Rattle.rules.specs.Batch.{changesOk};
 ghost use Rattle.rules.specs.Calls.{valueAt};
 ghost use Rattle.pairs.specs.Drawn.{tableOf, Drawn};
 ghost use Rattle.pairs.specs.Looks.{changesOf, lookTest};
-ghost use Rattle.pairs.specs.Part.{partOf};
-ghost use Rattle.looks.specs.LookTests.{wentIn, leadsGone, addsOwn, dropsOwn};
+ghost use Rattle.pairs.specs.Part.{ownMoves};
+ghost use Rattle.table.specs.Ascending.{ascends};
+ghost use Rattle.chains.specs.Chains.{keyOf, headsAt, linksAt};
+ghost use Rattle.chains.specs.ChainLaws.{Chained};
+ghost use Rattle.chains.specs.declared.By.the-variants as By;
+ghost use Rattle.looks.specs.LookTests.{wentIn, leadsGone, addsOwn, dropsOwn, touches};
 
 // Did the pair q, of a block before this one, go to b?
 fn went(
@@ -47,13 +55,14 @@ fn leads_gone_to(
     marks: &[u8],
     b: bool,
     block: usize,
-    x: u8,
+    x: Variable,
     q: u32,
 ) -> bool
     requires { ⌜ 0 < sizes .states ⌝ }
-    ensures { λ r. ⌜ r ≡ leadsGone sizes (now (equations .entry)) (now (values .entry)) (now (marks .entry)) b block x q ⌝ }
+    ensures { λ r. ⌜ r ≡ leadsGone sizes (now (equations .entry)) (now (values .entry)) (now (marks .entry)) b block (x .0) q ⌝ }
 {
-    let p = pairs::pair_at(sizes, (q % 1024) as usize, x);
+    let t = (q % 1024) as u16;
+    let p = limits::pair_of(sizes, State(t), x);
     went(sizes, equations, values, marks, b, block, p)
 }
 
@@ -66,12 +75,12 @@ fn leads_gone(
     marks: &[u8],
     b: bool,
     block: usize,
-    x: u8,
+    x: Variable,
     from: usize,
     end: usize,
 ) -> bool
     requires { ⌜ (0 < sizes .states) × (end ≤ length (now moves)) ⌝ }
-    ensures { λ r. ⌜ r ≡ any (leadsGone sizes (now (equations .entry)) (now (values .entry)) (now (marks .entry)) b block x) (slice from end (now (moves .entry))) ⌝ }
+    ensures { λ r. ⌜ r ≡ any (leadsGone sizes (now (equations .entry)) (now (values .entry)) (now (marks .entry)) b block (x .0)) (slice from end (now (moves .entry))) ⌝ }
 {
     let mut i = from;
     while i < end {
@@ -85,18 +94,15 @@ fn leads_gone(
 }
 
 // Is the move one of the state's moves with the action?
-fn owns(q: u32, s: usize, a: u8) -> bool
-    ensures { λ r. ⌜ r ≡ own (state s) (record { 0 = a }) q ⌝ }
+fn owns(q: u32, s: State, a: Action) -> bool
+    ensures { λ r. ⌜ r ≡ own s a q ⌝ }
 {
-    if (q / 65536) as usize == s {
-        return q % 65536 / 1024 == a as u32;
-    }
-    false
+    (table::source_of(q) == s.0 as u32) & (table::action_of(q) == a.0 as u32)
 }
 
 // Is the change an insert of such a move?
-fn adds_own(w: u32, s: usize, a: u8) -> bool
-    ensures { λ r. ⌜ r ≡ addsOwn s a w ⌝ }
+fn adds_own(w: u32, s: State, a: Action) -> bool
+    ensures { λ r. ⌜ r ≡ addsOwn (s .0) (a .0) w ⌝ }
 {
     if w % 2 == 1 {
         return owns(w / 2, s, a);
@@ -111,88 +117,79 @@ fn drops_own(
     values: &[u8],
     marks: &[u8],
     b: bool,
-    s: usize,
-    a: u8,
-    x: u8,
+    s: State,
+    a: Action,
+    x: Variable,
     w: u32,
 ) -> bool
     requires { ⌜ 0 < sizes .states ⌝ }
-    ensures { λ r. ⌜ r ≡ dropsOwn sizes (now (equations .entry)) (now (values .entry)) (now (marks .entry)) b s a x w ⌝ }
+    ensures { λ r. ⌜ r ≡ dropsOwn sizes (now (equations .entry)) (now (values .entry)) (now (marks .entry)) b (s .0) (a .0) (x .0) w ⌝ }
 {
     if w % 2 == 1 {
         return false;
     }
     if owns(w / 2, s, a) {
-        let p = pairs::pair_at(sizes, (w / 2 % 1024) as usize, x);
+        let t = (w / 2 % 1024) as u16;
+        let p = limits::pair_of(sizes, State(t), x);
         return pairs::other(b, pairs::old_value(sizes, equations, values, marks, p));
     }
     false
 }
 
-// Do the changes insert such a move?
-fn gains(changes: &[u32], count: usize, s: usize, a: u8) -> bool
-    requires { ⌜ count ≤ length (now changes) ⌝ }
-    ensures { λ r. ⌜ r ≡ any (addsOwn s a) (take count (now (changes .entry))) ⌝ }
-{
-    let mut i: usize = 0;
-    while i < count {
-        if adds_own(rooms::word_at(changes, i), s, a) {
-            return true;
-        }
-        i = i + 1;
-    }
-    false
-}
-
-// Do the changes delete such a move, to a pair of x whose old value is not b?
-fn loses(
+// Does the change insert such a move, where gaining counts, or delete one?
+fn touches_own(
     sizes: Sizes,
     equations: &[u32],
-    changes: &[u32],
-    count: usize,
     values: &[u8],
     marks: &[u8],
     b: bool,
-    s: usize,
-    a: u8,
-    x: u8,
+    gaining: bool,
+    s: State,
+    a: Action,
+    x: Variable,
+    w: u32,
 ) -> bool
-    requires { ⌜ (0 < sizes .states) × (count ≤ length (now changes)) ⌝ }
-    ensures { λ r. ⌜ r ≡ any (dropsOwn sizes (now (equations .entry)) (now (values .entry)) (now (marks .entry)) b s a x) (take count (now (changes .entry))) ⌝ }
+    requires { ⌜ 0 < sizes .states ⌝ }
+    ensures { λ r. ⌜ r ≡ touches sizes (now (equations .entry)) (now (values .entry)) (now (marks .entry)) b gaining (s .0) (a .0) (x .0) w ⌝ }
 {
-    let mut i: usize = 0;
-    while i < count {
-        let w = rooms::word_at(changes, i);
-        if drops_own(sizes, equations, values, marks, b, s, a, x, w) {
-            return true;
-        }
-        i = i + 1;
+    if gaining {
+        return adds_own(w, s, a);
     }
-    false
+    drops_own(sizes, equations, values, marks, b, s, a, x, w)
 }
 
-// Does a diamond gain such a move, or a box lose one, where b is true; or the other way round?
+// Does a diamond gain such a move, or a box lose one, where b is true; or the other way round? The changes are walked along the
+// chain of the state.
 fn touched(
     sizes: Sizes,
     equations: &[u32],
     changes: &[u32],
     count: usize,
+    index: &[u16],
     values: &[u8],
     marks: &[u8],
     b: bool,
     each: bool,
-    s: usize,
-    a: u8,
-    x: u8,
+    s: State,
+    a: Action,
+    x: Variable,
 ) -> bool
-    requires { ⌜ (0 < sizes .states) × (count ≤ length (now changes)) ⌝ }
-    ensures { λ r. ⌜ r ≡ cond (is (not b) each) (any (addsOwn s a) (take count (now (changes .entry))))
-        (any (dropsOwn sizes (now (equations .entry)) (now (values .entry)) (now (marks .entry)) b s a x) (take count (now (changes .entry)))) ⌝ }
+    requires { ⌜ (0 < sizes .states) × ((count ≤ length (now changes)) × ((s .0 < 256) × (count < 65536))) ⌝ }
+    requires { ⌜ Chained (keyOf By.Source) (headsAt By.Source) (linksAt By.Source) (now changes) count (now index) ⌝ }
+    ensures { λ r. ⌜ r ≡ any (touches sizes (now (equations .entry)) (now (values .entry)) (now (marks .entry)) b (is (not b) each) (s .0) (a .0) (x .0)) (take count (now (changes .entry))) ⌝ }
 {
-    if pairs::other(b, each) {
-        return gains(changes, count, s, a);
+    let gaining = pairs::other(b, each);
+    let here = s.0 as usize;
+    let mut k = chains::head(index, By::Source, here);
+    while 0 < k {
+        let j = k - 1;
+        let w = rooms::word_at(changes, j);
+        if touches_own(sizes, equations, values, marks, b, gaining, s, a, x, w) {
+            return true;
+        }
+        k = chains::before(index, By::Source, j);
     }
-    loses(sizes, equations, changes, count, values, marks, b, s, a, x)
+    false
 }
 
 // Do the state's moves with the action lead to a pair of x that went to b?
@@ -205,14 +202,14 @@ fn leans_gone(
     marks: &[u8],
     b: bool,
     block: usize,
-    s: usize,
-    a: u8,
-    x: u8,
+    s: State,
+    a: Action,
+    x: Variable,
 ) -> bool
-    requires { ⌜ (0 < sizes .states) × (n ≤ length (now moves)) × (s < 65536) ⌝ }
-    ensures { λ r. ⌜ r ≡ any (leadsGone sizes (now (equations .entry)) (now (values .entry)) (now (marks .entry)) b block x) (partOf s a (take n (now (moves .entry)))) ⌝ }
+    requires { ⌜ (0 < sizes .states) × ((n ≤ length (now moves)) × (ascends 0 (take n (now moves)) ≡ true)) ⌝ }
+    ensures { λ r. ⌜ r ≡ any (leadsGone sizes (now (equations .entry)) (now (values .entry)) (now (marks .entry)) b block (x .0)) (ownMoves (s .0) (a .0) (take n (now (moves .entry)))) ⌝ }
 {
-    let part = pairs::part::part_of(moves, n, s as u32, a as u32);
+    let part = table::part_of(moves, n, s.0 as u32, a.0 as u32);
     leads_gone(
         sizes,
         equations,
@@ -234,19 +231,19 @@ fn join_seeds(
     values: &[u8],
     marks: &[u8],
     b: bool,
-    s: usize,
+    s: State,
     e: Formula,
 ) -> bool
-    requires { ⌜ (0 < sizes .states) × (s < 65536) ⌝ }
-    ensures { λ r. ⌜ r ≡ (wentIn sizes (now (equations .entry)) (now (values .entry)) (now (marks .entry)) b (e .block) (e .first * sizes .states + s)
-        || wentIn sizes (now (equations .entry)) (now (values .entry)) (now (marks .entry)) b (e .block) (e .second * sizes .states + s)) ⌝ }
+    requires { ⌜ 0 < sizes .states ⌝ }
+    ensures { λ r. ⌜ r ≡ (wentIn sizes (now (equations .entry)) (now (values .entry)) (now (marks .entry)) b (e .block) (e .first * sizes .states + s .0)
+        || wentIn sizes (now (equations .entry)) (now (values .entry)) (now (marks .entry)) b (e .block) (e .second * sizes .states + s .0)) ⌝ }
 {
     let block = e.block as usize;
-    let first = pairs::pair_at(sizes, s, e.first);
+    let first = limits::pair_of(sizes, s, Variable(e.first));
     if went(sizes, equations, values, marks, b, block, first) {
         return true;
     }
-    let second = pairs::pair_at(sizes, s, e.second);
+    let second = limits::pair_of(sizes, s, Variable(e.second));
     went(sizes, equations, values, marks, b, block, second)
 }
 
@@ -258,25 +255,28 @@ fn step_seeds(
     n: usize,
     changes: &[u32],
     count: usize,
+    index: &[u16],
     values: &[u8],
     marks: &[u8],
     b: bool,
-    s: usize,
+    s: State,
     e: Formula,
 ) -> bool
-    requires { ⌜ (0 < sizes .states) × (s < 65536) × (n ≤ length (now moves)) × (count ≤ length (now changes)) ⌝ }
-    ensures { λ r. ⌜ r ≡ (cond (is (not b) (eqb (e .operator) 7)) (any (addsOwn s (e .first)) (take count (now (changes .entry))))
-        (any (dropsOwn sizes (now (equations .entry)) (now (values .entry)) (now (marks .entry)) b s (e .first) (e .second)) (take count (now (changes .entry))))
-        || any (leadsGone sizes (now (equations .entry)) (now (values .entry)) (now (marks .entry)) b (e .block) (e .second)) (partOf s (e .first) (take n (now (moves .entry))))) ⌝ }
+    requires { ⌜ (0 < sizes .states) × ((n ≤ length (now moves)) × (ascends 0 (take n (now moves)) ≡ true)) ⌝ }
+    requires { ⌜ (count ≤ length (now changes)) × ((s .0 < 256) × (count < 65536)) ⌝ }
+    requires { ⌜ Chained (keyOf By.Source) (headsAt By.Source) (linksAt By.Source) (now changes) count (now index) ⌝ }
+    ensures { λ r. ⌜ r ≡ (any (touches sizes (now (equations .entry)) (now (values .entry)) (now (marks .entry)) b (is (not b) (eqb (e .operator) 7)) (s .0) (e .first) (e .second)) (take count (now (changes .entry)))
+        || any (leadsGone sizes (now (equations .entry)) (now (values .entry)) (now (marks .entry)) b (e .block) (e .second)) (ownMoves (s .0) (e .first) (take n (now (moves .entry))))) ⌝ }
 {
     let each = e.operator == 7;
-    let a = e.first;
-    let x = e.second;
+    let a = Action(e.first);
+    let x = Variable(e.second);
     if touched(
         sizes,
         equations,
         changes,
         count,
+        index,
         values,
         marks,
         b,
@@ -291,16 +291,6 @@ fn step_seeds(
     leans_gone(sizes, equations, moves, n, values, marks, b, block, s, a, x)
 }
 
-// How many of the changes are in the room.
-fn within(changes: &[u32], count: usize) -> usize
-    ensures { λ r. ⌜ (take r (now (changes .entry)) ≡ take count (now (changes .entry))) × (r ≤ length (now (changes .entry))) ⌝ }
-{
-    if count < changes.len() {
-        return count;
-    }
-    changes.len()
-}
-
 // Is the pair a seed of the shift that the changes start?
 fn seeds(
     sizes: Sizes,
@@ -310,18 +300,21 @@ fn seeds(
     n: usize,
     changes: &[u32],
     count: usize,
+    index: &[u16],
     values: &[u8],
     marks: &[u8],
     p: usize,
 ) -> bool
     requires { ⌜ Drawn sizes (now labels) (now equations) (now moves) n ⌝ }
-    requires { ⌜ (p < pairsOf sizes) × (count ≤ length (now changes)) ⌝ }
+    requires { ⌜ (p < pairsOf sizes) × ((count ≤ length (now changes)) × (count < 65536)) ⌝ }
     requires { ⌜ changesOk sizes (changesOf (take count (now changes))) ≡ true ⌝ }
+    requires { ⌜ Chained (keyOf By.Source) (headsAt By.Source) (linksAt By.Source) (now changes) count (now index) ⌝ }
     ensures { λ r. ⌜ r ≡ lookTest (tableOf sizes (now (labels .entry)) (now (equations .entry)) (now (moves .entry)) n)
         (changesOf (take count (now (changes .entry)))) false (valueAt (now (values .entry))) (λ q. getD (now (marks .entry)) q 0) p ⌝ }
 {
     let states = sizes.states as usize;
-    let s = p % states;
+    let here = (p % states) as u16;
+    let s = State(here);
     let e = pairs::formula_at(equations, p / states);
     let o = e.operator;
     if o < 4 {
@@ -339,6 +332,7 @@ fn seeds(
             n,
             changes,
             count,
+            index,
             values,
             marks,
             own,
@@ -358,21 +352,22 @@ pub fn look(
     n: usize,
     changes: &[u32],
     count: usize,
+    index: &[u16],
     values: &[u8],
     marks: &[u8],
     settling: bool,
     p: usize,
 ) -> bool
     requires { ⌜ Drawn sizes (now labels) (now equations) (now moves) n ⌝ }
-    requires { ⌜ p < pairsOf sizes ⌝ }
+    requires { ⌜ (p < pairsOf sizes) × ((count ≤ length (now changes)) × (count < 65536)) ⌝ }
     requires { ⌜ changesOk sizes (changesOf (take count (now changes))) ≡ true ⌝ }
+    requires { ⌜ Chained (keyOf By.Source) (headsAt By.Source) (linksAt By.Source) (now changes) count (now index) ⌝ }
     ensures { λ r. ⌜ r ≡ lookTest (tableOf sizes (now (labels .entry)) (now (equations .entry)) (now (moves .entry)) n)
         (changesOf (take count (now (changes .entry)))) settling (valueAt (now (values .entry))) (λ q. getD (now (marks .entry)) q 0) p ⌝ }
 {
     if settling {
         return pairs::asks(sizes, labels, equations, moves, n, values, true, p);
     }
-    let inside = within(changes, count);
     seeds(
         sizes,
         labels,
@@ -380,7 +375,8 @@ pub fn look(
         moves,
         n,
         changes,
-        inside,
+        count,
+        index,
         values,
         marks,
         p,

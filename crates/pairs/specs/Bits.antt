@@ -2,8 +2,8 @@
 use mathlib.Core.Path.{_≡_, refl, ap}
 use mathlib.Core.Bool.{Bool, false, not}
 use mathlib.Core.List.{List}
-use Prim.Native.Nat.{ℕ, zero, suc, _*_, _/_, _%_, _^_, _≤_, _<_}
-use native.Mathlib.Nat.{mul-le-mul-right, pow-le-pow-right, div-eq-of-lt}
+use Prim.Native.Nat.{ℕ, zero, suc, _/_, _%_, _^_, _≤_, _<_}
+use native.Mathlib.Nat.{pow-le-pow-right, div-eq-of-lt}
 use native.Mathlib.Omega.{arith}
 use lib.ListN.{getD}
 use lib.Dec.{eqb}
@@ -17,10 +17,6 @@ pub no-bit : (w q : ℕ) → w < 4294967296 → 32 ≤ q → eqb (w / 2 ^ q % 2)
 no-bit w q h k =
     let p : 4294967296 ≤ 2 ^ q = pow-le-pow-right {n = 2} (omega arith) k in
     ap (λ (n : ℕ). eqb (n % 2) 1) (let l : w < 2 ^ q = omega arith in div-eq-of-lt l)
-
--- A variable's number times the state count is small.
-pub small-product : (x s : ℕ) → x < 256 → s < 65536 → x * s < 16777216
-small-product x s h k = let p = mul-le-mul-right {m = x} {n = 255} s (omega arith) in omega arith
 
 shifted : (b x : Bool) (m : ℕ) → 0 < m → m < 3 → pastOf b x m ≡ not b
 shifted b x zero h k = absurd (omega arith)

@@ -22,7 +22,7 @@ use Rattle.laws.specs.Walks.{small}
 use Rattle.laws.specs.Named.{equationAt}
 use Rattle.pairs.specs.Drawn.{tableOf, Drawn}
 use Rattle.pairs.specs.Words.{ReadsAs, wordOf, leadsTo}
-use Rattle.pairs.specs.Part.{keyOf, below, partOf, part-targets}
+use Rattle.pairs.specs.Part.{ownMoves, part-targets}
 use Rattle.pairs.specs.EquationWords.{formula-word, drawn-sound, variable-in}
 
 -- A number with only two ways to be.
@@ -86,24 +86,6 @@ from-six : (z : Sizes) (o a b : ℕ) → operandsOk z o a b ≡ true → 6 ≤ o
 unfolding operandsOk
 from-six z o a b h k = simp tests at (rw (ltb-no o 2 .1 (omega arith), ltb-no o 4 .1 (omega arith), ltb-no o 6 .1 k) at h)
 
-below-le : (k : ℕ) (l : List ℕ) → below k l ≤ length l
-below-le k [] = omega arith
-below-le k (q ∷ l) = go (ltb q k) (below-le k l)
-  where
-    go : (b : Bool) → below k l ≤ length l → bit b + below k l ≤ suc (length l)
-    go true h = omega arith
-    go false h = omega arith
-
--- A count over the first n moves is at most n.
-pub below-most : (k n : ℕ) (l : List ℕ) → below k (take n l) ≤ n
-below-most k n l = let h = below-le k (take n l) in let t = length-take n l in omega arith
-
--- The part of the first n moves is a part of all of them.
-pub part-in : (s a n : ℕ) (l : List ℕ) → partOf s a (take n l) ≡ slice (below (keyOf s a) (take n l)) (below (keyOf s a + 1024) (take n l)) l
-part-in s a n l =
-    let h = below-most (keyOf s a + 1024) n l in
-    ap (λ (x : List ℕ). drop (below (keyOf s a) (take n l)) x) (take-take (below (keyOf s a + 1024) (take n l)) n l h)
-
 -- The pair p of a model that lies in rooms, and the numbers that were read out of its word.
 module _ (z : Sizes) (labels equations moves : List ℕ) (n : ℕ) (d : Drawn z labels equations moves n) (p : ℕ) (h : p < pairsOf z)
     (o a b i k : ℕ) (r : ReadsAs (wordOf z equations p) o a b i k) where
@@ -135,9 +117,9 @@ module _ (z : Sizes) (labels equations moves : List ℕ) (n : ℕ) (d : Drawn z 
       let q = small z (simp and-is at (d .model) .0 .0 .0 .0 .0) in
       (f .0 .0, omega arith, f .1)
 
-  -- The targets of the state's moves with the action, by the counts.
-  pub targets-read : 6 ≤ o → targets (state (p % z .states)) (record { 0 = a }) (take n moves) ≡ map target (partOf (p % z .states) a (take n moves))
-  targets-read g = part-targets z (p % z .states) a (step-names g .1) 0 (take n moves) (drawn-sound z labels equations moves n d .moves)
+  -- The targets of the state's moves with the action, as they stand.
+  pub targets-read : 6 ≤ o → targets (state (p % z .states)) (record { 0 = a }) (take n moves) ≡ map target (ownMoves (p % z .states) a (take n moves))
+  targets-read g = part-targets z (p % z .states) a (step-names g .1) (take n moves) (drawn-sound z labels equations moves n d .moves)
 
   given : (v : Values) → gives (tableOf z labels equations moves n) v p ≡ givesBy (tableOf z labels equations moves n) v (state (p % z .states)) (getD (terms a b) o (constant false))
   unfolding gives
@@ -161,10 +143,10 @@ module _ (z : Sizes) (labels equations moves : List ℕ) (n : ℕ) (d : Drawn z 
 
   pub gives-step : (values : List ℕ) → 6 ≤ o
       → gives (tableOf z labels equations moves n) (valueAt values) p
-      ≡ is (not (eqb o 7)) (any (leadsTo z values b (eqb o 7)) (partOf (p % z .states) a (take n moves)))
+      ≡ is (not (eqb o 7)) (any (leadsTo z values b (eqb o 7)) (ownMoves (p % z .states) a (take n moves)))
   gives-step values g =
       given (valueAt values)
-      ∙ by-step (tableOf z labels equations moves n) values (state (p % z .states)) a b o (partOf (p % z .states) a (take n moves))
+      ∙ by-step (tableOf z labels equations moves n) values (state (p % z .states)) a b o (ownMoves (p % z .states) a (take n moves))
       (targets-read g) g (step-names g .0)
 
 -- There are states.

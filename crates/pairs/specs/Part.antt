@@ -1,79 +1,64 @@
--- The moves of a state with an action stand side by side in an ascending table: they are the part between two counts.
--- Assumes nothing.
-use mathlib.Core.Path.{_≡_, refl, ap}
-use mathlib.Core.Logic.{inl, inr}
-use mathlib.Core.Bool.{true, false}
+-- The moves of a state with an action, as they stand side by side in an ascending list. Assumes nothing.
+use mathlib.Core.Path.{_≡_, refl, sym, ap, _∙_}
+use mathlib.Core.Bool.{Bool, true, false}
 use mathlib.Core.List.{List, [], _∷_, map}
-use Prim.Native.Nat.{ℕ, suc, _+_, _*_, _≤_, _<_}
+use Prim.Native.Nat.{ℕ, zero, suc, _+_, _-_, _≤_, _<_}
+use native.Mathlib.Nat.{sub-zero}
 use native.Mathlib.Omega.{arith}
-use lib.Seq.{slice}
+use lib.ListN.{length, take, drop, length-take}
+use lib.Seq.{slice, take-take}
 use lib.Dec.{ltb}
-use Rattle.lists.specs.Lists.{count}
-use Rattle.lists.specs.Tests.{tests, tell, and-is, and-in, no-way, ltb-in, ltb-out, ltb-no, eqb-in, leb-is}
-use Rattle.rules.specs.Moves.{target}
+use Rattle.lists.specs.Lists.{bit}
+use Rattle.rules.specs.Moves.{pack, target}
 use Rattle.rules.specs.Model.{movesOk}
-use Rattle.rules.specs.Values.{state, own, targets}
+use Rattle.rules.specs.Values.{state, targets}
 use Rattle.rules.specs.declared.Sizes.{Sizes}
-use Rattle.rules.specs.declared.Action.{Action}
+use Rattle.table.specs.Ascending.{below}
+use Rattle.table.specs.OwnMoves.{partOf, within, model-targets}
+use Rattle.table.specs.declared.Part.{Part}
 
--- The least number that a move of the state with the action can have.
-abbrev pub keyOf : ℕ → ℕ → ℕ
-keyOf s a = 65536 * s + 1024 * a
+-- The moves of the state with the action.
+abbrev pub ownMoves : ℕ → ℕ → List ℕ → List ℕ
+ownMoves s a ms = slice (partOf s a ms .from) (partOf s a ms .end) ms
 
--- How many of the moves have a number below k.
-abbrev pub below : ℕ → List ℕ → ℕ
-below k ms = count (λ q. ltb q k) ms
+-- A part that is cut off at its end first, or at its beginning first.
+either-first : (f e : ℕ) (l : List ℕ) → take (e - f) (drop f l) ≡ slice f e l
+either-first zero e l = ap (λ (x : ℕ). take x l) (sub-zero e)
+either-first (suc f) zero l = let d : 0 - suc f ≡ 0 = omega arith in ap (λ (x : ℕ). take x (drop (suc f) l)) d
+either-first (suc f) (suc e) [] = none (suc e - suc f)
+  where
+    none : (k : ℕ) → take k (drop {A = ℕ} (suc f) []) ≡ []
+    none zero = refl
+    none (suc k) = refl
+either-first (suc f) (suc e) (q ∷ l) =
+    let d : suc e - suc f ≡ e - f = omega arith in
+    ap (λ (x : ℕ). take x (drop f l)) d ∙ either-first f e l
 
--- The moves of the state with the action, by the two counts.
-abbrev pub partOf : ℕ → ℕ → List ℕ → List ℕ
-partOf s a ms = slice (below (keyOf s a) ms) (below (keyOf s a + 1024) ms) ms
+-- The targets of a state's moves are those of its part.
+pub part-targets : (z : Sizes) (s a : ℕ) → a < 64 → (ms : List ℕ) → movesOk z 0 ms ≡ true
+    → targets (state s) (record { 0 = a }) ms ≡ map target (ownMoves s a ms)
+part-targets z s a low ms h =
+    model-targets z (state s) (record { 0 = a }) ms low h ∙ ap (map target) (either-first (partOf s a ms .from) (partOf s a ms .end) ms)
 
-abbrev action : ℕ → Action
-action a = record { 0 = a }
+below-le : (k : ℕ) (l : List ℕ) → below k l ≤ length l
+below-le k [] = omega arith
+below-le k (q ∷ l) = go (ltb q k) (below-le k l)
+  where
+    go : (b : Bool) → below k l ≤ length l → bit b + below k l ≤ suc (length l)
+    go true h = omega arith
+    go false h = omega arith
 
-own-before : (s a q : ℕ) → q < keyOf s a → own (state s) (action a) q ≡ false
-own-before s a q h = no-way (own (state s) (action a) q) (λ e. let k = simp tests at e in omega arith)
+module _ (s a n : ℕ) (l : List ℕ) (p : Part) (e : p ≡ partOf s a (take n l)) where
+  -- A part of the first n moves ends with them.
+  pub part-ends : p .end ≤ n
+  part-ends =
+      let h = below-le (pack s (a + 1) 0) (take n l) in
+      let t = length-take n l in
+      let f = ap (λ (q : Part). q .end) e in
+      omega arith
 
-own-after : (s a q : ℕ) → keyOf s a + 1024 ≤ q → own (state s) (action a) q ≡ false
-own-after s a q h = no-way (own (state s) (action a) q) (λ e. let k = simp tests at e in omega arith)
-
-own-inside : (s a q : ℕ) → a < 64 → keyOf s a ≤ q → q < keyOf s a + 1024 → own (state s) (action a) q ≡ true
-own-inside s a q l h k = and-in (eqb-in _ s (omega arith)) (eqb-in _ a (omega arith))
-
--- None of the moves from `least` on has a number below it.
-none-below : (z : Sizes) (least k : ℕ) (ms : List ℕ) → movesOk z least ms ≡ true → k ≤ least → below k ms ≡ 0
-none-below z least k [] h l = refl
-none-below z least k (q ∷ ms) h l =
-    let f = simp and-is at h in
-    let o = leb-is least q .0 (f .0 .0) in
-    let t = ltb-no q k .1 (omega arith) in
-    let r = none-below z (suc q) k ms (f .1) (omega arith) in
-    rw (t, r) refl
-
-one-more : (n : ℕ) → 1 + n ≡ suc n
-one-more n = omega arith
-
--- The targets of a state's moves are those of the part.
-pub part-targets : (z : Sizes) (s a : ℕ) → a < 64 → (least : ℕ) (ms : List ℕ) → movesOk z least ms ≡ true
-    → targets (state s) (action a) ms ≡ map target (partOf s a ms)
-part-targets z s a l least [] h = refl
-part-targets z s a l least (q ∷ ms) h =
-    let k = keyOf s a in
-    let f = simp and-is at h in
-    let ih = part-targets z s a l (suc q) ms (f .1) in
-    elim (tell true (ltb q k)) [
-      | inl t ↦
-          let o = ltb-out q k t in
-          let u = ltb-in q (k + 1024) (omega arith) in
-          rw (t, u, own-before s a q o, one-more (below k ms), one-more (below (k + 1024) ms)) ih
-      | inr t ↦
-          let o = ltb-no q k .0 t in
-          let r = none-below z (suc q) k ms (f .1) (omega arith) in
-          elim (tell true (ltb q (k + 1024))) [
-            | inl u ↦ rw (t, u, own-inside s a q l o (ltb-out q (k + 1024) u), r, one-more (below (k + 1024) ms)) (ap (λ (x : List ℕ). target q ∷ x) (rw r at ih))
-            | inr u ↦
-                let w = ltb-no q (k + 1024) .0 u in
-                let r2 = none-below z (suc q) (k + 1024) ms (f .1) (omega arith) in
-                rw (t, u, own-after s a q w, r, r2) (rw (r, r2) at ih)
-          ]
-    ]
+  -- The part of the first n moves is a part of all of them.
+  pub part-in : slice (p .from) (p .end) l ≡ ownMoves s a (take n l)
+  part-in =
+      ap (λ (x : List ℕ). drop (p .from) x) (sym (take-take (p .end) n l part-ends))
+      ∙ ap (λ (q : Part). slice (q .from) (q .end) (take n l)) e

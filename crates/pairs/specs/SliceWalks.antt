@@ -8,9 +8,7 @@ use native.Mathlib.Numerals.{add-one}
 use native.Mathlib.Omega.{arith}
 use lib.ListN.{length, getD, take, length-take, drop-of-length-le}
 use lib.Seq.{slice, slice-cons}
-use lib.Dec.{ltb}
-use Rattle.lists.specs.Lists.{any, bit}
-use Rattle.pairs.specs.Part.{below}
+use Rattle.lists.specs.Lists.{any}
 
 module _ (f : ℕ → Bool) (l : List ℕ) (i e : ℕ) where
   any-more : i < e → e ≤ length l → any f (slice i e l) ≡ (f (getD l i 0) || any f (slice (i + 1) e l))
@@ -27,11 +25,3 @@ module _ (f : ℕ → Bool) (l : List ℕ) (i e : ℕ) where
   -- Nothing is left.
   pub any-end : e ≤ i → any f (slice i e l) ≡ false
   any-end h = let t = length-take e l in ap (any f) (drop-of-length-le (take e l) {i = i} (omega arith))
-
--- The entry at i counts, or not.
-pub below-more : (k : ℕ) (l : List ℕ) (i e : ℕ) → i < e → e ≤ length l → below k (slice i e l) ≡ bit (ltb (getD l i 0) k) + below k (slice (i + 1) e l)
-below-more k l i e h t =
-    ap (below k) (slice-cons i e l 0 h t) ∙ ap (λ (j : ℕ). bit (ltb (getD l i 0) k) + below k (slice j e l)) (sym (add-one i))
-
-pub below-end : (k : ℕ) (l : List ℕ) (i e : ℕ) → e ≤ i → below k (slice i e l) ≡ 0
-below-end k l i e h = let t = length-take e l in ap (below k) (drop-of-length-le (take e l) {i = i} (omega arith))

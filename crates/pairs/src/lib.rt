@@ -1,8 +1,8 @@
 // What is asked of one pair of a model: its equation, what it gives, its old value, and whether it must turn.
+use rules::Action;
 use rules::Sizes;
-
-pub mod part;
-
+use rules::State;
+use rules::Variable;
 ghost use mathlib.Core.Path.{_≡_};
 ghost use mathlib.Core.Bool.{true, false, not, cond, _&&_, _||_};
 ghost use Prim.Native.Nat.{_+_, _*_, _/_, _%_, _≤_, _<_};
@@ -18,7 +18,8 @@ ghost use Rattle.rules.specs.Rooms.{pairsOf};
 ghost use Rattle.rules.specs.Values as rule;
 ghost use Rattle.laws.specs.ModelSystem.{frame};
 ghost use Rattle.pairs.specs.Drawn.{tableOf, Drawn};
-ghost use Rattle.pairs.specs.Part.{partOf};
+ghost use Rattle.table.specs.Ascending.{ascends};
+ghost use Rattle.pairs.specs.Part.{ownMoves};
 ghost use Rattle.pairs.specs.Words.{ReadsAs, kindIn, blockIn, pastIn, leadsTo};
 
 // An equation, taken out of its word: the operator, what it names, the block, and the block's kind.
@@ -82,14 +83,6 @@ pub fn other(b: bool, v: bool) -> bool
     v
 }
 
-// The number of the pair of state s and variable x.
-pub fn pair_at(sizes: Sizes, s: usize, x: u8) -> usize
-    requires { ⌜ s < 65536 ⌝ }
-    ensures { λ r. ⌜ r ≡ x * sizes .states + s ⌝ }
-{
-    (x as usize) * (sizes.states as usize) + s
-}
-
 // The value before the update, told from the value and the mark.
 pub fn old_value(sizes: Sizes, equations: &[u32], values: &[u8], marks: &[u8], p: usize) -> bool
     requires { ⌜ 0 < sizes .states ⌝ }
@@ -107,20 +100,21 @@ pub fn old_value(sizes: Sizes, equations: &[u32], values: &[u8], marks: &[u8], p
 }
 
 // Does the proposition hold at the state? There are none from 32 on.
-fn holds_at(labels: &[u32], s: usize, q: u8) -> bool
-    ensures { λ r. ⌜ r ≡ holds (now (labels .entry)) (state s) q ⌝ }
+fn holds_at(labels: &[u32], s: State, q: u8) -> bool
+    ensures { λ r. ⌜ r ≡ holds (now (labels .entry)) s q ⌝ }
 {
     if 32 <= q {
         return false;
     }
-    (rooms::word_at(labels, s) >> q) % 2 == 1
+    (rooms::word_at(labels, s.0 as usize) >> q) % 2 == 1
 }
 
 // Does the move lead to a pair of x whose value is not b?
-fn leads_to(sizes: Sizes, q: u32, values: &[u8], x: u8, b: bool) -> bool
-    ensures { λ r. ⌜ r ≡ leadsTo sizes (now (values .entry)) x b q ⌝ }
+fn leads_to(sizes: Sizes, q: u32, values: &[u8], x: Variable, b: bool) -> bool
+    ensures { λ r. ⌜ r ≡ leadsTo sizes (now (values .entry)) (x .0) b q ⌝ }
 {
-    let p = pair_at(sizes, (q % 1024) as usize, x);
+    let t = (q % 1024) as u16;
+    let p = limits::pair_of(sizes, State(t), x);
     let v = value_at(values, p);
     other(b, v)
 }
@@ -130,13 +124,13 @@ fn leads(
     sizes: Sizes,
     moves: &[u32],
     values: &[u8],
-    x: u8,
+    x: Variable,
     b: bool,
     from: usize,
     end: usize,
 ) -> bool
     requires { ⌜ end ≤ length (now moves) ⌝ }
-    ensures { λ r. ⌜ r ≡ any (leadsTo sizes (now (values .entry)) x b) (slice from end (now (moves .entry))) ⌝ }
+    ensures { λ r. ⌜ r ≡ any (leadsTo sizes (now (values .entry)) (x .0) b) (slice from end (now (moves .entry))) ⌝ }
 {
     let mut i = from;
     while i < end {
@@ -164,15 +158,15 @@ fn stepped(
     moves: &[u32],
     n: usize,
     values: &[u8],
-    s: usize,
-    a: u8,
-    x: u8,
+    s: State,
+    a: Action,
+    x: Variable,
     each: bool,
 ) -> bool
-    requires { ⌜ (n ≤ length (now moves)) × (s < 65536) ⌝ }
-    ensures { λ r. ⌜ r ≡ is (not each) (any (leadsTo sizes (now (values .entry)) x each) (partOf s a (take n (now (moves .entry))))) ⌝ }
+    requires { ⌜ (n ≤ length (now moves)) × (ascends 0 (take n (now moves)) ≡ true) ⌝ }
+    ensures { λ r. ⌜ r ≡ is (not each) (any (leadsTo sizes (now (values .entry)) (x .0) each) (ownMoves (s .0) (a .0) (take n (now (moves .entry))))) ⌝ }
 {
-    let part = part::part_of(moves, n, s as u32, a as u32);
+    let part = table::part_of(moves, n, s.0 as u32, a.0 as u32);
     let found = leads(sizes, moves, values, x, each, part.from, part.end);
     other(each, found)
 }
@@ -192,7 +186,8 @@ pub fn gives(
     ensures { λ r. ⌜ r ≡ rule.gives (tableOf sizes (now (labels .entry)) (now (equations .entry)) (now (moves .entry)) n) (valueAt (now (values .entry))) p ⌝ }
 {
     let states = sizes.states as usize;
-    let s = p % states;
+    let here = (p % states) as u16;
+    let s = State(here);
     let e = formula_at(equations, p / states);
     let o = e.operator;
     if o < 2 {
@@ -202,11 +197,13 @@ pub fn gives(
         return other(o == 3, holds_at(labels, s, e.first));
     }
     if o < 6 {
-        let first = value_at(values, pair_at(sizes, s, e.first));
-        let second = value_at(values, pair_at(sizes, s, e.second));
+        let first = value_at(values, limits::pair_of(sizes, s, Variable(e.first)));
+        let second = value_at(values, limits::pair_of(sizes, s, Variable(e.second)));
         return joined(o == 5, first, second);
     }
-    stepped(sizes, moves, n, values, s, e.first, e.second, o == 7)
+    let a = Action(e.first);
+    let x = Variable(e.second);
+    stepped(sizes, moves, n, values, s, a, x, o == 7)
 }
 
 // Must the pair turn, where one that it leans on has turned?

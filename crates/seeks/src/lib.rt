@@ -11,19 +11,12 @@ ghost use Rattle.laws.specs.ModelSystem.{frame};
 ghost use Rattle.systems.specs.ListMachine.{nextPair, seek, phases};
 ghost use Rattle.seeks.specs.Seeking.{aheadOf, startAfter, placeOf, SeeksOn};
 
-// How many pairs there are.
-pub fn pair_count(sizes: Sizes) -> usize
-    ensures { λ r. ⌜ (r ≡ pairsOf sizes) × (r < 16777216) ⌝ }
-{
-    (sizes.variables as usize) * (sizes.states as usize)
-}
-
 // Is the pair p below the count, and of another block?
 fn is_ahead(sizes: Sizes, equations: &[u32], block: usize, p: usize) -> bool
     requires { ⌜ 0 < sizes .states ⌝ }
     ensures { λ r. ⌜ r ≡ aheadOf sizes (now (equations .entry)) block p ⌝ }
 {
-    if p < pair_count(sizes) {
+    if p < limits::pairs_of(sizes) {
         return pairs::block_of(sizes, equations, p) != block;
     }
     false
@@ -98,7 +91,7 @@ fn seek_phase(
     ensures { λ r. ⌜ SeeksOn (frame (tableOf sizes (now (labels .entry)) (now (equations .entry)) (now (moves .entry)) n)) (at .block) (at .settling) (at .place) (at .left) (r .block) (r .settling) (r .place) (r .left) ⌝ }
 {
     let p = next_pair(sizes, labels, equations, moves, n, at.block, at.place);
-    if p < pair_count(sizes) {
+    if p < limits::pairs_of(sizes) {
         return Spot {
             block: at.block,
             settling: at.settling,

@@ -3,7 +3,7 @@
 ghost use mathlib.Core.Path.{_≡_};
 ghost use mathlib.Core.Bool.{true};
 ghost use Prim.Native.Nat.{_≤_};
-ghost use lib.ListN.{take};
+ghost use lib.ListN.{length, take};
 ghost use Rattle.rules.specs.Batch.{changesOk};
 ghost use Rattle.rules.specs.Records.{accepted};
 ghost use Rattle.rules.specs.Answers.{updatedSays};
@@ -32,6 +32,7 @@ fn move_on(
     moves: &mut [u32],
 ) -> Report
     requires { ⌜ Able session (roomsOf (now labels) (now equations) (now values) (now marks) (now moves)) (changesOf (take count (now changes))) ⌝ }
+    requires { ⌜ (count ≤ 64) × (count ≤ length (now changes)) ⌝ }
     ensures { λ r. ⌜ updated (accepted r) (roomsOf (now (labels .entry)) (now (equations .entry)) (now (values .exit)) (now (marks .exit)) (now (moves .exit)))
         ≡ batchOf session (roomsOf (now (labels .entry)) (now (equations .entry)) (now (values .entry)) (now (marks .entry)) (now (moves .entry))) (changesOf (take count (now (changes .entry)))) ⌝ }
 {
@@ -49,9 +50,10 @@ fn move_on(
         marks,
     );
     let visits = done.visits;
+    let held = n as u32;
     let after = Session {
         sizes: sizes,
-        moves: n as u32,
+        moves: held,
         stamp: edits::carried(session.stamp, changes, count),
     };
     Report {
@@ -74,7 +76,7 @@ fn judge_on(
     moves: &mut [u32],
 ) -> Updated
     requires { ⌜ Sane session (roomsOf (now labels) (now equations) (now values) (now marks) (now moves)) ⌝ }
-    requires { ⌜ count ≤ 64 ⌝ }
+    requires { ⌜ (count ≤ 64) × (count ≤ length (now changes)) ⌝ }
     requires { ⌜ changesOk (session .sizes) (changesOf (take count (now changes))) ≡ true ⌝ }
     ensures { λ r. ⌜ updated (updatedSays r) (roomsOf (now (labels .entry)) (now (equations .entry)) (now (values .exit)) (now (marks .exit)) (now (moves .exit)))
         ≡ batchRead session (roomsOf (now (labels .entry)) (now (equations .entry)) (now (values .entry)) (now (marks .entry)) (now (moves .entry)))

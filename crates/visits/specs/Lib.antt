@@ -5,5 +5,6 @@ pub mod SourceLaws
 pub mod LeanerWords
 pub mod OperatorBelow
 pub mod ChainVisits
+pub mod MoveVisits
 pub mod VariableVisits
 pub mod BlockVisits

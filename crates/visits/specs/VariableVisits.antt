@@ -1,6 +1,6 @@
 -- The visits of one variable, by what its equation is. Assumes nothing.
-use mathlib.Core.Path.{_≡_, refl, sym, ap, ap₂, _∙_}
-use mathlib.Core.Bool.{Bool, true, false, cond}
+use mathlib.Core.Path.{_≡_, sym}
+use mathlib.Core.Bool.{Bool, cond}
 use mathlib.Core.List.{List, [], _∷_, _++_}
 use Prim.Native.Nat.{ℕ, _≤_, _<_}
 use lib.Dec.{eqb, ltb}
@@ -9,7 +9,7 @@ use Rattle.rules.specs.Model.{Equation, Model}
 use Rattle.rules.specs.Values.{pair, state, variable}
 use Rattle.rules.specs.declared.Sizes.{Sizes}
 use Rattle.visits.specs.Visits.{Visit, visited, sourcesTo, pairsAt}
-use Rattle.visits.specs.VisitLaws.{visited-none, visited-append}
+use Rattle.visits.specs.VisitLaws.{visited-none}
 use Rattle.visits.specs.LeanerWords.{leanersBy}
 
 module _ (m : Model) (ph : Bool) (vs : List ℕ) (z : Sizes) (ms : List ℕ) (n x t y : ℕ) (e : Equation) (v : Visit) where
@@ -24,12 +24,10 @@ module _ (m : Model) (ph : Bool) (vs : List ℕ) (z : Sizes) (ms : List ℕ) (n 
 
   module _ (o first second : ℕ) (is-o : o ≡ e .operator) (is-first : first ≡ e .first) (is-second : second ≡ e .second) (uses : 4 ≤ o) where
     -- "And" and "or".
-    pub visits-join : o < 6 → (r : ℕ) (u w : Visit) → r ≡ pair z (state t) (variable y) → u ≡ visited m ph vs (cond (eqb first x) (r ∷ []) []) v
-        → w ≡ visited m ph vs (cond (eqb second x) (r ∷ []) []) u → Done w
+    pub visits-join : o < 6 → (r : ℕ) (w : Visit) → r ≡ pair z (state t) (variable y)
+        → w ≡ visited m ph vs (cond (eqb first x) (r ∷ []) [] ++ cond (eqb second x) (r ∷ []) []) v → Done w
     unfolding leanersBy
-    visits-join h r u w is-r a b =
-        rw (sym is-o, sym is-first, sym is-second, ltb-no o 4 .1 uses, ltb-in o 6 h, sym is-r)
-        (b ∙ ap (visited m ph vs (cond (eqb second x) (r ∷ []) [])) a ∙ sym (visited-append m ph vs (cond (eqb first x) (r ∷ []) []) (cond (eqb second x) (r ∷ []) []) v))
+    visits-join h r w is-r a = rw (sym is-o, sym is-first, sym is-second, ltb-no o 4 .1 uses, ltb-in o 6 h, sym is-r) a
 
     -- Diamond and box, of x and of another variable.
     pub visits-step : 6 ≤ o → second ≡ x → (w : Visit) → w ≡ visited m ph vs (pairsAt z y (sourcesTo ms first t n)) v → Done w

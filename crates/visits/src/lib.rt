@@ -1,9 +1,12 @@
 // When a pair has turned, the pairs that lean on it inside its block are visited, and wait if they must turn too.
-use pairs::Formula;
+use chains::By;
+use rules::Action;
 use rules::Sizes;
+use rules::State;
+use rules::Variable;
 ghost use mathlib.Core.Path.{_≡_};
 ghost use mathlib.Core.Bool.{cond};
-ghost use mathlib.Core.List.{[], _∷_, map};
+ghost use mathlib.Core.List.{[], _∷_, _++_};
 ghost use Prim.Native.Nat.{ℕ, _+_, _*_, _-_, _/_, _%_, _≤_, _<_};
 ghost use lib.ListN.{getD, length};
 ghost use lib.Dec.{eqb};
@@ -13,10 +16,11 @@ ghost use Rattle.rules.specs.Moves.{source, action, target};
 ghost use Rattle.rules.specs.Rooms.{pairsOf};
 ghost use Rattle.rules.specs.Values.{pair, state, variable};
 ghost use Rattle.rules.specs.Session.{unword};
-ghost use Rattle.laws.specs.ModelLeaners.{leanersOn, leanersOf};
+ghost use Rattle.laws.specs.ModelLeaners.{leanersOf};
 ghost use Rattle.pairs.specs.Drawn.{Drawn, tableOf};
-ghost use Rattle.chains.specs.Chains.{lastTo};
+ghost use Rattle.chains.specs.Chains.{keyOf, headsAt, linksAt};
 ghost use Rattle.chains.specs.ChainLaws.{Chained};
+ghost use Rattle.chains.specs.declared.By.the-variants as By;
 ghost use Rattle.visits.specs.Visits.{visited, sourcesTo, pairsAt};
 ghost use Rattle.visits.specs.LeanerWords.{leanersBy};
 
@@ -138,6 +142,58 @@ fn visit_if(
     at
 }
 
+// The pair r is visited for its first operand and for its second, each if its test says yes.
+fn visit_twice(
+    sizes: Sizes,
+    labels: &[u32],
+    equations: &[u32],
+    moves: &[u32],
+    n: usize,
+    values: &[u8],
+    marks: &mut [u8],
+    stack: &mut [u16],
+    at: Spread,
+    settling: bool,
+    r: usize,
+    first: bool,
+    second: bool,
+) -> Spread
+    requires { ⌜ Drawn sizes (now labels) (now equations) (now moves) n ⌝ }
+    requires { ⌜ (r < pairsOf sizes) × ((at .top < 10000000) × (at .visits < 10000000)) ⌝ }
+    ensures { λ s. ⌜ (record { pile = record { marks = now (marks .exit); stack = now (stack .exit); top = s .top }; visits = s .visits })
+        ≡ visited (tableOf sizes (now (labels .entry)) (now (equations .entry)) (now (moves .entry)) n) settling (now (values .entry)) (cond first (r ∷ []) [] ++ cond second (r ∷ []) [])
+        (record { pile = record { marks = now (marks .entry); stack = now (stack .entry); top = at .top }; visits = at .visits }) ⌝ }
+{
+    let s = visit_if(
+        sizes,
+        labels,
+        equations,
+        moves,
+        n,
+        values,
+        marks,
+        stack,
+        at,
+        settling,
+        r,
+        first,
+    );
+    visit_if(
+        sizes,
+        labels,
+        equations,
+        moves,
+        n,
+        values,
+        marks,
+        stack,
+        s,
+        settling,
+        r,
+        second,
+    )
+}
+
 // The pair of y at the source of the move at j is visited, if the move has the action.
 fn visit_move(
     sizes: Sizes,
@@ -150,20 +206,20 @@ fn visit_move(
     stack: &mut [u16],
     at: Spread,
     settling: bool,
-    y: u8,
-    a: u8,
+    y: Variable,
+    a: Action,
     j: usize,
 ) -> Spread
     requires { ⌜ Drawn sizes (now labels) (now equations) (now moves) n ⌝ }
-    requires { ⌜ (y < sizes .variables) × ((j < n) × ((at .top < 100000000) × (at .visits < 100000000))) ⌝ }
+    requires { ⌜ (y .0 < sizes .variables) × ((j < n) × ((at .top < 100000000) × (at .visits < 100000000))) ⌝ }
     ensures { λ s. ⌜ (record { pile = record { marks = now (marks .exit); stack = now (stack .exit); top = s .top }; visits = s .visits })
-        ≡ visited (tableOf sizes (now (labels .entry)) (now (equations .entry)) (now (moves .entry)) n) settling (now (values .entry)) (pairsAt sizes y (cond (eqb (action (getD (now (moves .entry)) j 0)) a) (source (getD (now (moves .entry)) j 0) ∷ []) []))
+        ≡ visited (tableOf sizes (now (labels .entry)) (now (equations .entry)) (now (moves .entry)) n) settling (now (values .entry)) (pairsAt sizes (y .0) (cond (eqb (action (getD (now (moves .entry)) j 0)) (a .0)) (source (getD (now (moves .entry)) j 0) ∷ []) []))
         (record { pile = record { marks = now (marks .entry); stack = now (stack .entry); top = at .top }; visits = at .visits }) ⌝ }
 {
     let q = rooms::word_at(moves, j);
-    let s = (q / 65536) as usize;
-    let r = pairs::pair_at(sizes, s, y);
-    let yes = q % 65536 / 1024 == a as u32;
+    let here = (q / 65536) as u16;
+    let r = limits::pair_of(sizes, State(here), y);
+    let yes = q % 65536 / 1024 == a.0 as u32;
     visit_if(
         sizes,
         labels,
@@ -187,26 +243,26 @@ fn visit_into(
     equations: &[u32],
     moves: &[u32],
     n: usize,
-    last: &[u16],
-    next: &[u16],
+    index: &[u16],
     values: &[u8],
     marks: &mut [u8],
     stack: &mut [u16],
     at: Spread,
     settling: bool,
-    y: u8,
-    a: u8,
-    t: usize,
+    y: Variable,
+    a: Action,
+    t: State,
 ) -> Spread
     requires { ⌜ Drawn sizes (now labels) (now equations) (now moves) n ⌝ }
-    requires { ⌜ Chained (now moves) n (now last) (now next) ⌝ }
-    requires { ⌜ (y < sizes .variables) × ((t < length (now last)) × ((at .top < 10000000) × (at .visits < 10000000))) ⌝ }
+    requires { ⌜ Chained (keyOf By.Target) (headsAt By.Target) (linksAt By.Target) (now moves) n (now index) ⌝ }
+    requires { ⌜ (y .0 < sizes .variables) × ((t .0 < sizes .states) × ((at .top < 10000000) × (at .visits < 10000000))) ⌝ }
     ensures { λ s. ⌜ (record { pile = record { marks = now (marks .exit); stack = now (stack .exit); top = s .top }; visits = s .visits })
-        ≡ visited (tableOf sizes (now (labels .entry)) (now (equations .entry)) (now (moves .entry)) n) settling (now (values .entry)) (pairsAt sizes y (sourcesTo (now (moves .entry)) a t n))
+        ≡ visited (tableOf sizes (now (labels .entry)) (now (equations .entry)) (now (moves .entry)) n) settling (now (values .entry)) (pairsAt sizes (y .0) (sourcesTo (now (moves .entry)) (a .0) (t .0) n))
         (record { pile = record { marks = now (marks .entry); stack = now (stack .entry); top = at .top }; visits = at .visits }) ⌝ }
 {
+    let to = t.0 as usize;
     let mut s = at;
-    let mut k = rooms::half_at(last, t) as usize;
+    let mut k = chains::head(index, By::Target, to);
     while 0 < k {
         let j = k - 1;
         s = visit_move(
@@ -224,7 +280,7 @@ fn visit_into(
             a,
             j,
         );
-        k = rooms::half_at(next, j) as usize;
+        k = chains::before(index, By::Target, j);
     }
     s
 }
@@ -236,34 +292,33 @@ fn visit_variable(
     equations: &[u32],
     moves: &[u32],
     n: usize,
-    last: &[u16],
-    next: &[u16],
+    index: &[u16],
     values: &[u8],
     marks: &mut [u8],
     stack: &mut [u16],
     at: Spread,
     settling: bool,
-    y: u8,
-    x: u8,
-    t: usize,
+    y: Variable,
+    x: Variable,
+    t: State,
 ) -> Spread
     requires { ⌜ Drawn sizes (now labels) (now equations) (now moves) n ⌝ }
-    requires { ⌜ Chained (now moves) n (now last) (now next) ⌝ }
-    requires { ⌜ (y < sizes .variables) × ((t < sizes .states) × ((sizes .states ≤ length (now last)) × ((at .top < 1000000) × (at .visits < 1000000)))) ⌝ }
+    requires { ⌜ Chained (keyOf By.Target) (headsAt By.Target) (linksAt By.Target) (now moves) n (now index) ⌝ }
+    requires { ⌜ (y .0 < sizes .variables) × ((t .0 < sizes .states) × ((at .top < 1000000) × (at .visits < 1000000))) ⌝ }
     ensures { λ s. ⌜ (record { pile = record { marks = now (marks .exit); stack = now (stack .exit); top = s .top }; visits = s .visits })
-        ≡ visited (tableOf sizes (now (labels .entry)) (now (equations .entry)) (now (moves .entry)) n) settling (now (values .entry)) ((leanersBy sizes (now (moves .entry)) n x t y (unword (getD (now (equations .entry)) y 0))))
+        ≡ visited (tableOf sizes (now (labels .entry)) (now (equations .entry)) (now (moves .entry)) n) settling (now (values .entry)) (leanersBy sizes (now (moves .entry)) n (x .0) (t .0) (y .0) (unword (getD (now (equations .entry)) (y .0) 0)))
         (record { pile = record { marks = now (marks .entry); stack = now (stack .entry); top = at .top }; visits = at .visits }) ⌝ }
 {
-    let e = pairs::formula_at(equations, y as usize);
+    let e = pairs::formula_at(equations, y.0 as usize);
     let o = e.operator;
     if o < 4 {
         return at;
     }
     if o < 6 {
-        let r = pairs::pair_at(sizes, t, y);
-        let first = e.first == x;
-        let second = e.second == x;
-        let s = visit_if(
+        let r = limits::pair_of(sizes, t, y);
+        let first = e.first == x.0;
+        let second = e.second == x.0;
+        return visit_twice(
             sizes,
             labels,
             equations,
@@ -276,87 +331,24 @@ fn visit_variable(
             settling,
             r,
             first,
-        );
-        return visit_if(
-            sizes,
-            labels,
-            equations,
-            moves,
-            n,
-            values,
-            marks,
-            stack,
-            s,
-            settling,
-            r,
             second,
         );
     }
-    if e.second == x {
+    if e.second == x.0 {
         return visit_into(
             sizes,
             labels,
             equations,
             moves,
             n,
-            last,
-            next,
+            index,
             values,
             marks,
             stack,
             at,
             settling,
             y,
-            e.first,
-            t,
-        );
-    }
-    at
-}
-
-// The same, where y lies in the block of x.
-fn visit_in_block(
-    sizes: Sizes,
-    labels: &[u32],
-    equations: &[u32],
-    moves: &[u32],
-    n: usize,
-    last: &[u16],
-    next: &[u16],
-    values: &[u8],
-    marks: &mut [u8],
-    stack: &mut [u16],
-    at: Spread,
-    settling: bool,
-    y: u8,
-    x: u8,
-    t: usize,
-) -> Spread
-    requires { ⌜ Drawn sizes (now labels) (now equations) (now moves) n ⌝ }
-    requires { ⌜ Chained (now moves) n (now last) (now next) ⌝ }
-    requires { ⌜ ((y < sizes .variables) × (x < sizes .variables)) × ((t < sizes .states) × ((sizes .states ≤ length (now last)) × ((at .top < 1000000) × (at .visits < 1000000)))) ⌝ }
-    ensures { λ s. ⌜ (record { pile = record { marks = now (marks .exit); stack = now (stack .exit); top = s .top }; visits = s .visits })
-        ≡ visited (tableOf sizes (now (labels .entry)) (now (equations .entry)) (now (moves .entry)) n) settling (now (values .entry)) ((leanersOn (tableOf sizes (now (labels .entry)) (now (equations .entry)) (now (moves .entry)) n) (variable x) (state t) (variable y)))
-        (record { pile = record { marks = now (marks .entry); stack = now (stack .entry); top = at .top }; visits = at .visits }) ⌝ }
-{
-    let mine = pairs::formula_at(equations, y as usize).block;
-    let its = pairs::formula_at(equations, x as usize).block;
-    if mine == its {
-        return visit_variable(
-            sizes,
-            labels,
-            equations,
-            moves,
-            n,
-            last,
-            next,
-            values,
-            marks,
-            stack,
-            at,
-            settling,
-            y,
-            x,
+            Action(e.first),
             t,
         );
     }
@@ -370,8 +362,7 @@ pub fn visit_leaners(
     equations: &[u32],
     moves: &[u32],
     n: usize,
-    last: &[u16],
-    next: &[u16],
+    index: &[u16],
     values: &[u8],
     marks: &mut [u8],
     stack: &mut [u16],
@@ -380,36 +371,38 @@ pub fn visit_leaners(
     q: usize,
 ) -> Spread
     requires { ⌜ Drawn sizes (now labels) (now equations) (now moves) n ⌝ }
-    requires { ⌜ Chained (now moves) n (now last) (now next) ⌝ }
-    requires { ⌜ (q < pairsOf sizes) × ((sizes .states ≤ length (now last)) × ((at .top < 100000) × (at .visits < 100000))) ⌝ }
+    requires { ⌜ Chained (keyOf By.Target) (headsAt By.Target) (linksAt By.Target) (now moves) n (now index) ⌝ }
+    requires { ⌜ Chained (keyOf By.Block) (headsAt By.Block) (linksAt By.Block) (now equations) (sizes .variables) (now index) ⌝ }
+    requires { ⌜ (q < pairsOf sizes) × ((at .top < 100000) × (at .visits < 100000)) ⌝ }
     ensures { λ s. ⌜ (record { pile = record { marks = now (marks .exit); stack = now (stack .exit); top = s .top }; visits = s .visits })
         ≡ visited (tableOf sizes (now (labels .entry)) (now (equations .entry)) (now (moves .entry)) n) settling (now (values .entry)) (leanersOf (tableOf sizes (now (labels .entry)) (now (equations .entry)) (now (moves .entry)) n) q)
         (record { pile = record { marks = now (marks .entry); stack = now (stack .entry); top = at .top }; visits = at .visits }) ⌝ }
 {
     let states = sizes.states as usize;
     let x = (q / states) as u8;
-    let t = q % states;
+    let t = (q % states) as u16;
+    let block = pairs::block_of(sizes, equations, q);
     let mut s = at;
-    let mut y: u8 = 0;
-    while y < sizes.variables {
-        s = visit_in_block(
+    let mut k = chains::head(index, By::Block, block);
+    while 0 < k {
+        let y = (k - 1) as u8;
+        s = visit_variable(
             sizes,
             labels,
             equations,
             moves,
             n,
-            last,
-            next,
+            index,
             values,
             marks,
             stack,
             s,
             settling,
-            y,
-            x,
-            t,
+            Variable(y),
+            Variable(x),
+            State(t),
         );
-        y = y + 1;
+        k = chains::before(index, By::Block, y as usize);
     }
     s
 }

@@ -1,4 +1,5 @@
--- `limits::pairs` meets its contract. Assumes nothing.
+-- A byte times a number of two bytes fits. Assumes nothing.
+use mathlib.Core.Path.{refl}
 use Prim.Native.Nat.{_*_, _≤_}
 use native.Mathlib.Nat.{mul-le-mul}
 use native.Mathlib.Omega.{arith}
@@ -16,7 +17,7 @@ mul-result : tie.Need-mul-result
 mul-result c = let a = c .before .before .args .z in let h : a .variables * a .states ≤ 255 * 65535 = mul-le-mul {n₁ = a .variables} {m₁ = a .states} {n₂ = 255} {m₂ = 65535} (omega arith) (omega arith) in record { fits = omega arith }
 
 returns : tie.Need-returns
-returns c = search needs
+returns c = let a = c .before .before .args .z in let h : a .variables * a .states ≤ 255 * 65535 = mul-le-mul {n₁ = a .variables} {m₁ = a .states} {n₂ = 255} {m₂ = 65535} (omega arith) (omega arith) in (refl, omega arith)
 
 pub pairs-of-spec : {M : Type 1} → statement M
 pairs-of-spec = tie.close (tie.spec cast-result cast-result-2 mul-result returns)

@@ -17,11 +17,11 @@ returns c = let a = c .before .before .before .before .args in rw (eqb-in (a .w 
 owns-requires : tie.Need-owns-requires
 owns-requires c κs = search needs
 
-cast-pair-at : tie.Need-cast-pair-at
-cast-pair-at c = search needs
+cast-t : tie.Need-cast-t
+cast-t c = search needs
 
-pair-at-requires : tie.Need-pair-at-requires
-pair-at-requires c κs = search needs
+pair-of-requires : tie.Need-pair-of-requires
+pair-of-requires c κs = search needs
 
 old-value-requires : tie.Need-old-value-requires
 old-value-requires c κs = search needs
@@ -36,7 +36,7 @@ returns-2 c =
     let a = s .args in
     let t = sym (c .before .before .before .before .owns .ensures) ∙ c .before .before .before .if2 .taken in
     rw (eqb-no (a .w % 2) 1 .1 (c .before .before .before .before .before .if1 .left), t)
-    (c .other .ensures ∙ ap (is (not (a .b))) (c .before .old-value .ensures ∙ ap (pastIn (a .sizes) (a .equations .now) (a .values .now) (a .marks .now)) (c .before .before .pair-at .ensures)))
+    (c .other .ensures ∙ ap (is (not (a .b))) (c .before .old-value .ensures ∙ ap (pastIn (a .sizes) (a .equations .now) (a .values .now) (a .marks .now)) (c .before .before .pair-of .ensures)))
 
 returns-3 : tie.Need-returns-3
 unfolding dropsOwn
@@ -52,8 +52,8 @@ drops-own-spec =
     (tie.spec
     returns
     owns-requires
-    cast-pair-at
-    pair-at-requires
+    cast-t
+    pair-of-requires
     old-value-requires
     other-requires
     returns-2

@@ -8,8 +8,8 @@ use Rattle.looks.proofs.join_seeds.Tie as tie
 cast-block : tie.Need-cast-block
 cast-block c = search needs
 
-pair-at-requires : tie.Need-pair-at-requires
-pair-at-requires c κs = search needs
+pair-of-requires : tie.Need-pair-of-requires
+pair-of-requires c κs = search needs
 
 went-requires : tie.Need-went-requires
 went-requires c κs = search needs
@@ -19,10 +19,10 @@ returns c =
     let s = c .before .before .before .before .before .before .before in
     let a = s .args in
     let f = wentIn (a .sizes) (a .equations .now) (a .values .now) (a .marks .now) (a .b) (a .e .block) in
-    let t = sym (c .before .went .ensures ∙ ap f (c .before .before .pair-at .ensures)) ∙ c .if1 .taken in rw t refl
+    let t = sym (c .before .went .ensures ∙ ap f (c .before .before .pair-of .ensures)) ∙ c .if1 .taken in rw t refl
 
-pair-at-requires-2 : tie.Need-pair-at-requires-2
-pair-at-requires-2 c κs = search needs
+pair-of-requires-2 : tie.Need-pair-of-requires-2
+pair-of-requires-2 c κs = search needs
 
 went-requires-2 : tie.Need-went-requires-2
 went-requires-2 c κs = search needs
@@ -32,16 +32,16 @@ returns-2 c =
     let s = c .before .before .before .before .before .before .before .before .before in
     let a = s .args in
     let f = wentIn (a .sizes) (a .equations .now) (a .values .now) (a .marks .now) (a .b) (a .e .block) in
-    let t = sym (c .before .before .before .went .ensures ∙ ap f (c .before .before .before .before .pair-at .ensures)) ∙ c .before .before .if1 .left in rw t (c .went2 .ensures ∙ ap f (c .before .pair-at2 .ensures))
+    let t = sym (c .before .before .before .went .ensures ∙ ap f (c .before .before .before .before .pair-of .ensures)) ∙ c .before .before .if1 .left in rw t (c .went2 .ensures ∙ ap f (c .before .pair-of2 .ensures))
 
 pub join-seeds-spec : {M : Type 1} → statement M
 join-seeds-spec =
     tie.close
     (tie.spec
     cast-block
-    pair-at-requires
+    pair-of-requires
     went-requires
     returns
-    pair-at-requires-2
+    pair-of-requires-2
     went-requires-2
     returns-2)

@@ -10,7 +10,10 @@ use Rattle.pairs.proofs.holds_at.Statement.{statement}
 use Rattle.pairs.proofs.holds_at.Tie as tie
 
 returns : tie.Need-returns
-returns c = let h = c .before .shared-slice-known .given (c .before .before .args .s) in sym (no-bit (getD (c .before .before .args .labels .now) (c .before .before .args .s) 0) (c .before .before .args .q) (omega arith) (omega arith))
+returns c = let h = c .before .shared-slice-known .given (c .before .before .args .s .0) in sym (no-bit (getD (c .before .before .args .labels .now) (c .before .before .args .s .0) 0) (c .before .before .args .q) (omega arith) (omega arith))
+
+cast-word-at : tie.Need-cast-word-at
+cast-word-at c = search needs
 
 word-at-requires : tie.Need-word-at-requires
 word-at-requires c κs = search needs
@@ -19,7 +22,7 @@ shr-result : tie.Need-shr-result
 shr-result c = search needs
 
 returns-2 : tie.Need-returns-2
-returns-2 c = ap (λ (w : ℕ). eqb (w / 2 ^ c .before .before .before .args .q % 2) 1) (c .word-at .ensures)
+returns-2 c = ap (λ (w : ℕ). eqb (w / 2 ^ c .before .before .before .before .args .q % 2) 1) (c .word-at .ensures)
 
 pub holds-at-spec : {M : Type 1} → statement M
-holds-at-spec = tie.close (tie.spec returns word-at-requires shr-result returns-2)
+holds-at-spec = tie.close (tie.spec returns cast-word-at word-at-requires shr-result returns-2)

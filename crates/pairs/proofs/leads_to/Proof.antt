@@ -8,11 +8,11 @@ use Rattle.pairs.specs.Words.{leadsTo}
 use Rattle.pairs.proofs.leads_to.Statement.{statement}
 use Rattle.pairs.proofs.leads_to.Tie as tie
 
-cast-pair-at : tie.Need-cast-pair-at
-cast-pair-at c = search needs
+cast-t : tie.Need-cast-t
+cast-t c = search needs
 
-pair-at-requires : tie.Need-pair-at-requires
-pair-at-requires c κs = search needs
+pair-of-requires : tie.Need-pair-of-requires
+pair-of-requires c κs = search needs
 
 value-at-requires : tie.Need-value-at-requires
 value-at-requires c κs = search needs
@@ -22,8 +22,8 @@ other-requires c κs = search needs
 
 returns : tie.Need-returns
 unfolding leadsTo
-returns c = let a = c .before .before .before .before .args in c .other .ensures ∙ ap (is (not (a .b))) (c .before .value-at .ensures ∙ ap (valueAt (a .values .now)) (c .before .before .pair-at .ensures))
+returns c = let a = c .before .before .before .before .args in c .other .ensures ∙ ap (is (not (a .b))) (c .before .value-at .ensures ∙ ap (valueAt (a .values .now)) (c .before .before .pair-of .ensures))
 
 pub leads-to-spec : {M : Type 1} → statement M
 leads-to-spec =
-    tie.close (tie.spec cast-pair-at pair-at-requires value-at-requires other-requires returns)
+    tie.close (tie.spec cast-t pair-of-requires value-at-requires other-requires returns)

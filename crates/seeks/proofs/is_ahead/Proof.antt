@@ -5,12 +5,12 @@ use Rattle.seeks.proofs.is_ahead.Statement.{statement}
 use Rattle.seeks.proofs.is_ahead.Tie as tie
 use Rattle.seeks.proofs.is_ahead.Reads as reads
 use Rattle.seeks.proofs.is_ahead.Lts as lts
-use Rattle.seeks.proofs.pair_count.Reads as pair-count-reads
+use Rattle.limits.proofs.pairs_of.Reads as pairs-of-reads
 use Rattle.pairs.proofs.block_of.Reads as block-of-reads
 
 -- src/lib.rt:61:12
-pair-count-requires : tie.Need-pair-count-requires
-pair-count-requires c κs = search needs
+pairs-of-requires : tie.Need-pairs-of-requires
+pairs-of-requires c κs = search needs
 
 -- src/lib.rt:62:16
 block-of-requires : tie.Need-block-of-requires
@@ -29,4 +29,4 @@ returns-2 c =
     ahead-out (a .sizes) (a .equations .now) (a .block) (a .p) (omega arith)
 
 pub is-ahead-spec : {M : Type 1} → statement M
-is-ahead-spec = tie.close (tie.spec pair-count-requires block-of-requires returns returns-2)
+is-ahead-spec = tie.close (tie.spec pairs-of-requires block-of-requires returns returns-2)

@@ -8,22 +8,22 @@ use Rattle.seeks.proofs.seek_phase.Tie as tie
 use Rattle.seeks.proofs.seek_phase.Reads as reads
 use Rattle.seeks.proofs.seek_phase.Lts as lts
 use Rattle.seeks.proofs.next_pair.Reads as next-pair-reads
-use Rattle.seeks.proofs.pair_count.Reads as pair-count-reads
+use Rattle.limits.proofs.pairs_of.Reads as pairs-of-reads
 
 -- src/lib.rt:120:9
 next-pair-requires : tie.Need-next-pair-requires
 next-pair-requires c κs = search needs
 
 -- src/lib.rt:121:12
-pair-count-requires : tie.Need-pair-count-requires
-pair-count-requires c κs = search needs
+pairs-of-requires : tie.Need-pairs-of-requires
+pairs-of-requires c κs = search needs
 
 -- src/lib.rt:122:9
 returns : tie.Need-returns
 returns c =
     let a = c .before .before .before .before .before .before .args in
     let e = c .before .before .next-pair .ensures in
-    let q = c .before .pair-count .ensures .0 in
+    let q = c .before .pairs-of .ensures .0 in
     seek-found (frame (tableOf (a .sizes) (a .labels .now) (a .equations .now) (a .moves .now) (a .n))) (a .at .block) (a .at .settling) (a .at .place) (a .at .left) (c .before .before .next-pair .result) (c .before .before .before .before .before .before .pre .1 .1 .0) e (omega arith)
 
 -- src/lib.rt:129:16
@@ -39,7 +39,7 @@ returns-2 : tie.Need-returns-2
 returns-2 c =
     let a = c .before .before .before .before .before .before .before .before .before .args in
     let e = c .before .before .before .before .before .next-pair .ensures in
-    let q = c .before .before .before .before .pair-count .ensures .0 in
+    let q = c .before .before .before .before .pairs-of .ensures .0 in
     seek-block (frame (tableOf (a .sizes) (a .labels .now) (a .equations .now) (a .moves .now) (a .n))) (a .at .block) (a .at .settling) (a .at .place) (a .at .left) (c .before .before .before .before .before .next-pair .result) (c .before .before .before .before .before .before .before .before .before .pre .1 .1 .0) e (omega arith) (c .before .if2 .taken)
 
 -- src/lib.rt:115:1
@@ -47,10 +47,10 @@ returns-3 : tie.Need-returns-3
 returns-3 c =
     let a = c .before .before .before .before .before .before .before .before .args in
     let e = c .before .before .before .before .next-pair .ensures in
-    let q = c .before .before .before .pair-count .ensures .0 in
+    let q = c .before .before .before .pairs-of .ensures .0 in
     seek-settle (frame (tableOf (a .sizes) (a .labels .now) (a .equations .now) (a .moves .now) (a .n))) (a .at .block) (a .at .settling) (a .at .place) (a .at .left) (c .before .before .before .before .next-pair .result) (c .before .before .before .before .before .before .before .before .pre .1 .1 .0) e (omega arith) (c .if2 .left)
 
 pub seek-phase-spec : {M : Type 1} → statement M
 seek-phase-spec =
     tie.close
-    (tie.spec next-pair-requires pair-count-requires returns sub-left add-t11 returns-2 returns-3)
+    (tie.spec next-pair-requires pairs-of-requires returns sub-left add-t11 returns-2 returns-3)

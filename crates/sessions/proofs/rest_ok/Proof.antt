@@ -24,7 +24,7 @@ stamp-of-requires c κs = search needs
 
 returns : tie.Need-returns
 unfolding restOk
-returns c = rw (c .before .before .before .before .before .model-ok .ensures, c .before .before .before .before .bytes-ok .ensures, c .before .before .before .bytes-ok2 .ensures, c .before .before .before .before .before .before .pairs-of .ensures, c .before .stamp-of .ensures)
+returns c = rw (c .before .before .before .before .before .model-ok .ensures, c .before .before .before .before .bytes-ok .ensures, c .before .before .before .bytes-ok2 .ensures, c .before .before .before .before .before .before .pairs-of .ensures .0, c .before .stamp-of .ensures)
 
 pub rest-ok-spec : {M : Type 1} → statement M
 rest-ok-spec =

@@ -13,7 +13,7 @@ cast-n : tie.Need-cast-n
 cast-n c = search needs
 
 judge-batch-requires : tie.Need-judge-batch-requires
-judge-batch-requires c κs = let s = c .before .before .before .before .before .before .before .before in (s .pre .1 .0, (s .pre .0 .moves .stamp, s .pre .0 .moves .ascend))
+judge-batch-requires c κs = let s = c .before .before .before .before .before .before .before .before in (s .pre .1 .0 .0, (s .pre .0 .moves .stamp, s .pre .0 .moves .ascend))
 
 enum-known-verdict : tie.Need-enum-known-verdict
 enum-known-verdict c = search needs
@@ -22,7 +22,7 @@ enum-told : tie.Need-enum-told
 enum-told c = search needs
 
 move-on-requires : tie.Need-move-on-requires
-move-on-requires c κs = let s = c .before .before .before .before .before .before .before .before .before .before .before .before .before .before in let a = s .args in let l = roomsOf (a .labels .now) (a .equations .now) (a .values .now) (a .marks .now) (a .moves .now) in let b : Batch = record { stamp = a .stamp; changes = changesOf (take (a .count) (a .changes .now)) } in able (a .session) l b b (s .pre .0) (s .pre .1 .1) (judged-good (a .session) l b _ (c .before .before .before .before .before .judge-batch .ensures) (c .before .before .before .enum-told .given .1))
+move-on-requires c κs = let s = c .before .before .before .before .before .before .before .before .before .before .before .before .before .before in let a = s .args in let l = roomsOf (a .labels .now) (a .equations .now) (a .values .now) (a .marks .now) (a .moves .now) in let b : Batch = record { stamp = a .stamp; changes = changesOf (take (a .count) (a .changes .now)) } in (able (a .session) l b b (s .pre .0) (s .pre .1 .1) (judged-good (a .session) l b _ (c .before .before .before .before .before .judge-batch .ensures) (c .before .before .before .enum-told .given .1)), s .pre .1 .0)
 
 same-length : tie.Need-same-length
 same-length c = search needs

@@ -3,6 +3,8 @@ use Rattle.updates.specs.Reports.{bytes-good, bytes-bad}
 use Rattle.laws.specs.RecordLaws.{are-bytes}
 use Rattle.updates.specs.Reads.{good-read, bad-read}
 use Rattle.updates.specs.Moving.{sane-sizes}
+use Prim.Native.Nat.{ℕ}
+use lib.ListN.{length-replicate}
 use native.Mathlib.Omega.{arith}
 use mathlib.Core.Path.{_∙_}
 use Rattle.sessions.specs.Tested.{roomsOf}
@@ -26,7 +28,7 @@ slice-aggregate-judge-on : tie.Need-slice-aggregate-judge-on
 slice-aggregate-judge-on c = search needs
 
 judge-on-requires : tie.Need-judge-on-requires
-judge-on-requires c κs = let s = c .before .before .before .before .before .before .before .before .before .before .before .before .before .before .before .before in let a = s .args in let l = roomsOf (a .labels .now) (a .equations .now) (a .values .now) (a .marks .now) (a .moves .now) in let w = good-read (a .session .sizes) (a .bytes .now) (sane-sizes (a .session) l (s .pre)) (are-bytes (a .bytes .now) (λ i. omega (arith, c .before .before .before .before .before .before .before .before .before .before .before .before .before .before .before .shared-slice-known .given i))) _ _ _ _ (c .before .before .before .before .before .before .before .before .read-batch .ensures) (c .before .before .before .before .before .read2 .given .1) in (s .pre, (w .few, w .in-range))
+judge-on-requires c κs = let s = c .before .before .before .before .before .before .before .before .before .before .before .before .before .before .before .before in let a = s .args in let l = roomsOf (a .labels .now) (a .equations .now) (a .values .now) (a .marks .now) (a .moves .now) in let w = good-read (a .session .sizes) (a .bytes .now) (sane-sizes (a .session) l (s .pre)) (are-bytes (a .bytes .now) (λ i. omega (arith, c .before .before .before .before .before .before .before .before .before .before .before .before .before .before .before .shared-slice-known .given i))) _ _ _ _ (c .before .before .before .before .before .before .before .before .read-batch .ensures) (c .before .before .before .before .before .read2 .given .1) in let k = c .before .before .before .before .before .before .before .before .read-batch .kept in let e = length-replicate {A = ℕ} 64 0 in (s .pre, ((w .few, omega (arith, k, e, w .few)), w .in-range))
 
 returns : tie.Need-returns
 returns c = let s = c .before .before .before .before .before .before .before .before .before .before .before .before in let a = s .args in let l = roomsOf (a .labels .now) (a .equations .now) (a .values .now) (a .marks .now) (a .moves .now) in bytes-bad (a .session) l (a .bytes .now) _ _ (bad-read (a .session .sizes) (a .bytes .now) _ _ _ _ _ (c .before .before .before .before .read-batch .ensures) (c .before .read .given .1))
