@@ -142,7 +142,7 @@ fn visit_if(
     at
 }
 
-// The pair r is visited for its first operand and for its second, each if its test says yes.
+// The pair r is visited, and visited again, each if its test says yes.
 fn visit_twice(
     sizes: Sizes,
     labels: &[u32],
@@ -156,12 +156,12 @@ fn visit_twice(
     settling: bool,
     r: usize,
     first: bool,
-    second: bool,
+    again: bool,
 ) -> Spread
     requires { ⌜ Drawn sizes (now labels) (now equations) (now moves) n ⌝ }
     requires { ⌜ (r < pairsOf sizes) × ((at .top < 10000000) × (at .visits < 10000000)) ⌝ }
     ensures { λ s. ⌜ (record { pile = record { marks = now (marks .exit); stack = now (stack .exit); top = s .top }; visits = s .visits })
-        ≡ visited (tableOf sizes (now (labels .entry)) (now (equations .entry)) (now (moves .entry)) n) settling (now (values .entry)) (cond first (r ∷ []) [] ++ cond second (r ∷ []) [])
+        ≡ visited (tableOf sizes (now (labels .entry)) (now (equations .entry)) (now (moves .entry)) n) settling (now (values .entry)) (cond first (r ∷ []) [] ++ cond again (r ∷ []) [])
         (record { pile = record { marks = now (marks .entry); stack = now (stack .entry); top = at .top }; visits = at .visits }) ⌝ }
 {
     let s = visit_if(
@@ -190,7 +190,7 @@ fn visit_twice(
         s,
         settling,
         r,
-        second,
+        again,
     )
 }
 

@@ -45,7 +45,7 @@ returns c =
     let a = s .args in
     let m = tableOf (a .sizes) (a .labels .now) (a .equations .now) (a .moves .now) (a .n) in
     let v = visitOf (a .marks .now) (a .stack .now) (a .at .top) (a .at .visits) in
-    let l : List ℕ = cond (a .second) (a .r ∷ []) [] in
+    let l : List ℕ = cond (a .again) (a .r ∷ []) [] in
     c .before .before .before .before .visit-if2 .ensures ∙ ap (visited m (a .settling) (a .values .now) l) (c .before .before .before .before .before .before .before .before .before .before .before .visit-if .ensures)
     ∙ sym (visited-append m (a .settling) (a .values .now) (cond (a .first) (a .r ∷ []) []) l v)
 
