@@ -16,6 +16,12 @@ pub enum Read {
     Broken,
 }
 
+// The lent bytes and the place in them from which the next record is read.
+pub struct Reader<'a> {
+    bytes: &'a [u8],
+    at: usize,
+}
+
 // A byte as a number of two bytes.
 fn wide(x: u8) -> u16
     ensures { λ r. ⌜ (r ≡ x) × (r < 256) ⌝ }
@@ -101,8 +107,8 @@ fn body_at(s: &[u8], kind: u8, at: usize) -> Record
     }
 }
 
-// The record at a place of the bytes.
-pub fn read_record(bytes: &[u8], at: usize) -> Read
+// The record at a place of the bytes: the work, on a part and a place.
+fn record_at(bytes: &[u8], at: usize) -> Read
     ensures { λ r. ⌜ r ≡ recordAt (now (bytes .entry)) at ⌝ }
 {
     if bytes.len() <= at {
@@ -118,4 +124,25 @@ pub fn read_record(bytes: &[u8], at: usize) -> Read
         return Read::Broken;
     }
     Read::Got(body_at(bytes, kind, b), b + n)
+}
+
+// A reader of the lent bytes that stands at a place.
+fn reader_at<'a>(bytes: &'a [u8], at: usize) -> Reader<'a>
+    ensures { λ r. ⌜ (r .bytes ≡ bytes .entry) × (r .at ≡ at) ⌝ }
+{
+    Reader { bytes, at }
+}
+
+// The record at the reader's place.
+fn next<'a>(r: Reader<'a>) -> Read
+    ensures { λ x. ⌜ x ≡ recordAt (now (r .entry .bytes)) (r .entry .at) ⌝ }
+{
+    record_at(r.bytes, r.at)
+}
+
+// The record at a place of the bytes, through a reader that stands there. Every caller of this crate reads by it.
+pub fn read_record(bytes: &[u8], at: usize) -> Read
+    ensures { λ r. ⌜ r ≡ recordAt (now (bytes .entry)) at ⌝ }
+{
+    next(reader_at(bytes, at))
 }
