@@ -62,14 +62,16 @@ use Rattle.wire.proofs.read_record.Code as code
 abbrev B : Lfts 1 → RattleType
 B κs = T.the-row (namedLft 1 0 tt κs)
 
+-- what each parameter is at exit: it owns what it did, and no last value is told
 abbrev stayed : Stays (read-record.ended .signature .params) (read-record.ended .kept)
 stayed = (stay-none-slice (0 ∷ []) tt (plain (λ _. u8)) yes, (stay-none (λ _. usize) yes, tt))
 
 module _ {M : Type 1} (𝓤 : URA M) (H : Heap 𝓤) (A : Atoms 𝓤) (mem : Memory → SProp 𝓤) (run : Routine → Fun 𝓤) where
-  -- the contracts that the proof cites
+  -- the contract of `reader_at`
   abbrev Make : Contract 𝓤
   Make = tripleOf 𝓤 H A reader-at.signature (reader-at.spec 𝓤 H A mem run)
 
+  -- the contract of `next`
   abbrev Next : Contract 𝓤
   Next = tripleOf 𝓤 H A next.signature (next.spec 𝓤 H A mem run)
 
@@ -78,6 +80,7 @@ module _ {M : Type 1} (𝓤 : URA M) (H : Heap 𝓤) (A : Atoms 𝓤) (W : Given
   abbrev v : Val
   v = sliceVal (s .ptr) (length (s .now))
 
+  -- the record at the place passed
   abbrev found : Read
   found = recordAt (now s) n
 
@@ -89,22 +92,26 @@ module _ {M : Type 1} (𝓤 : URA M) (H : Heap 𝓤) (A : Atoms 𝓤) (W : Given
   abbrev αᵉ : NamedLft
   αᵉ = record { mir = erased; lft = κ }
 
+  -- what is to hold at exit, of the machine value returned
   abbrev Post : Val → SProp 𝓤
   Post = walkOf 𝓤 H A read-record.ended stayed (read-record.clauses 𝓤 H A mem run) .post (((κ, tt), (q, tt), tt, (s, (n, tt)), at), tt)
 
+  -- what s owns
   abbrev Own : Fml
   Own = ShrSlice (named 0) κ u8 .own s (v ∷ [])
 
-  -- the call of `reader_at`: what it is passed, what it asks, and what is known of its result
+  -- the call of `reader_at`, at what is passed
   abbrev to-make : Make 𝓤 H A mem run .Ghost
   to-make = (((κ, tt), (q, tt), tt, (s, (n, tt)), at), tt)
 
+  -- what is owned on entry gives what `reader_at` asks, and what s owns is kept
   goes-make : ent 𝓤 (onEntry 𝓤 H A read-record.signature (κ, tt) (q, tt) (s, (n, tt)) at) (sep 𝓤 (Make 𝓤 H A mem run .pre to-make) (sem 𝓤 H A Own))
   goes-make =
       qed W ((‵ (flft κ q) ⊛ ‵ ftrue) ∷ ‵ (owns (ShrSlice (named 0) κ u8 ∷ usize ∷ []) (s, (n, tt)) at) ∷ []) ∵
       move ! (1 ∷ []) $ fsplit ! $ use1 W (‵ Own ⊛ ‵ Own) (shr-slice-copy 𝓤 H A W (named 0) κ u8 .twice s (v ∷ [])) $ split ! $
       move ! (0 ∷ 2 ∷ []) $ fjoin ! $ move ! (2 ∷ 0 ∷ []) $ use2 W (raw (Make 𝓤 H A mem run .pre to-make)) (qed W ((‵ (flft κ q) ⊛ ‵ ftrue) ∷ ‵ (owns (ShrSlice (named 0) κ u8 ∷ usize ∷ []) (s, (n, tt)) at) ∷ []) ∵ join ! $ frame ! $ done !) $ frame ! $ done !
 
+  -- what is known of the reader made
   made-said : (r : Reader) → ent 𝓤 (ensured 𝓤 H A reader-at.ended (reader-at.clauses 𝓤 H A mem run) (κ, tt) (s, (n, tt)) tt r) (fact 𝓤 ((r .bytes ≡ s) × (r .at ≡ n)))
   made-said r = exE 𝓤 _ (λ ws. snd∗ 𝓤 (sem 𝓤 H A (lasts reader-at.ended (κ, tt) (s, (n, tt)) ws)) (fact 𝓤 ((r .bytes ≡ s) × (r .at ≡ n))))
 
@@ -112,12 +119,15 @@ module _ {M : Type 1} (𝓤 : URA M) (H : Heap 𝓤) (A : Atoms 𝓤) (W : Given
   abbrev to-next : Reader → Val → Next 𝓤 H A mem run .Ghost
   to-next r u = (((κ, tt), (q, tt), tt, (r, tt), (u ∷ [], tt)), tt)
 
+  -- what the reader owns, with the lifetime's token, is what `next` asks
   goes-next : (r : Reader) (u : Val) → ent 𝓤 (⋆ 𝓤 H A (‵ (B (κ, tt) .own r (u ∷ [])) ∷ (‵ (flft κ q) ⊛ ‵ ftrue) ∷ [])) (Next 𝓤 H A mem run .pre (to-next r u))
   goes-next r u = qed W (‵ (B (κ, tt) .own r (u ∷ [])) ∷ (‵ (flft κ q) ⊛ ‵ ftrue) ∷ []) ∵ nothing ! $ move ! (1 ∷ 0 ∷ []) $ fjoin ! $ move ! (1 ∷ 0 ∷ []) $ join ! $ frame ! $ done !
 
+  -- what is known of the record read
   next-said : (r : Reader) (t : Read) → ent 𝓤 (ensured 𝓤 H A next.ended (next.clauses 𝓤 H A mem run) (κ, tt) (r, tt) tt t) (fact 𝓤 (t ≡ recordAt (now (r .bytes)) (r .at)))
   next-said r t = exE 𝓤 _ (λ ws. snd∗ 𝓤 (sem 𝓤 H A (lasts next.ended (κ, tt) (r, tt) ws)) (fact 𝓤 (t ≡ recordAt (now (r .bytes)) (r .at))))
 
+  -- a result equal to the record found, and s kept, give what is to hold at exit
   exits : (t : Read) (u : Val) → t ≡ found → ent 𝓤 (⋆ 𝓤 H A (‵ (S.the-row .own t (u ∷ [])) ∷ (‵ (flft κ q) ⊛ ‵ ftrue) ∷ ‵ Own ∷ [])) (Post u)
   exits t u e =
       qed W (‵ (S.the-row .own t (u ∷ [])) ∷ (‵ (flft κ q) ⊛ ‵ ftrue) ∷ ‵ Own ∷ []) ∵
@@ -125,6 +135,7 @@ module _ {M : Type 1} (𝓤 : URA M) (H : Heap 𝓤) (A : Atoms 𝓤) (W : Given
       move ! (1 ∷ []) $ frame ! $ nothing ! $ owned ! usize (Is usize) (uint-makes 𝓤 H A W w64) n _ (refl, ok) $ fjoin ! $ move ! (2 ∷ 0 ∷ []) $ fjoin ! $ frame ! $ done !
 
   module _ (C : Calls 𝓤 H) (Λ : Loops 𝓤 H) (fm : FmC 𝓤 H (W .laws) C) (known-make : Triple 𝓤 (C #wire·reader-at) (Make 𝓤 H A mem run)) (known-next : Triple 𝓤 (C #wire·next) (Next 𝓤 H A mem run)) where
+    -- the code, statement by statement
     walk : Is (ShrSlice (named 0) κ u8) s (v ∷ []) → ent 𝓤 (onEntry 𝓤 H A read-record.signature (κ, tt) (q, tt) (s, (n, tt)) at) (WpFn 𝓤 H C Λ code.function (v ∷ vint w64 n ∷ []) Post)
     walk p =
         qed W (raw (onEntry 𝓤 H A read-record.signature (κ, tt) (q, tt) (s, (n, tt)) at) ∷ []) ∵ enter ! C Λ code.function (v ∷ vint w64 n ∷ []) _ $
@@ -147,17 +158,20 @@ module _ {M : Type 1} (𝓤 : URA M) (H : Heap 𝓤) (A : Atoms 𝓤) (W : Given
         by ! (exits t u′ (e′ ∙ (ap (λ (x : RefT (List ℕ)). recordAt (now x) (r .at)) (e .0) ∙ ap (recordAt (now s)) (e .1))))))))))))))))
 
 module _ {M : Type 1} (𝓤 : URA M) (H : Heap 𝓤) (A : Atoms 𝓤) (W : Given 𝓤 H A) (mem : Memory → SProp 𝓤) (run : Routine → Fun 𝓤) where
+  -- the walk, for any arguments at any lifetime
   read-record-walks : (C : Calls 𝓤 H) (Λ : Loops 𝓤 H) → FmC 𝓤 H (W .laws) C → Triple 𝓤 (C #wire·reader-at) (Make 𝓤 H A mem run) → Triple 𝓤 (C #wire·next) (Next 𝓤 H A mem run)
       → Walks 𝓤 H A read-record.ended stayed (WpFn 𝓤 H C Λ code.function) (read-record.clauses 𝓤 H A mem run)
   read-record-walks C Λ fm known-make known-next = walked 𝓤 H A read-record.ended stayed (read-record.clauses 𝓤 H A mem run) (WpFn 𝓤 H C Λ code.function) (λ κs. (slice-vals, (uint-vals w64, tt))) (λ κs. (shr-slice-tells (named 0) (κs .0) u8, (uint-tells w64, tt)))
       (λ κs qs bounds a g are. via 𝓤 _ (fst∗ 𝓤 _ (emp 𝓤)) (walk 𝓤 H A W mem run (κs .0) (qs .0) (a .0) (a .1 .0) (are .1 .0 .1) C Λ fm known-make known-next (are .0)))
 
+-- the code meets the contract, wherever the functions called meet theirs
 read-record-meets : {M : Type 1} (𝓤 : URA M) (H : Heap 𝓤) (A : Atoms 𝓤) (W : Given 𝓤 H A) (mem : Memory → SProp 𝓤) (run : Routine → Fun 𝓤) (𝓣 : Tables 𝓤 H)
     → Triple 𝓤 (𝓣 .C #wire·reader-at) (Make 𝓤 H A mem run) → Triple 𝓤 (𝓣 .C #wire·next) (Next 𝓤 H A mem run)
     → Meets 𝓤 H A read-record.signature (WpFn 𝓤 H (𝓣 .C) (𝓣 .Λ) code.function) (read-record.spec 𝓤 H A mem run)
 read-record-meets 𝓤 H A W mem run 𝓣 known-make known-next = walk-meets 𝓤 H A read-record.ended stayed W (goes-none-slice 𝓤 H A W 1 (0 ∷ []) tt (plain (λ _. u8)) yes, (goes-none 𝓤 H A W 1 (λ _. usize) yes (λ κs x f. refl), tt)) (read-record.clauses 𝓤 H A mem run) (WpFn 𝓤 H (𝓣 .C) (𝓣 .Λ) code.function) (WpFn-mono 𝓤 H (W .laws) 𝓣 code.function)
     (read-record-walks 𝓤 H A W mem run (𝓣 .C) (𝓣 .Λ) (fmOf 𝓤 H (W .laws) 𝓣) known-make known-next)
 
+-- the function as it is called meets its contract
 pub read-record-spec : {M : Type 1} → stated.statement M
 unfolding code.routine tablesOf
 read-record-spec 𝓤 H 𝓜 𝓖 𝓡 =

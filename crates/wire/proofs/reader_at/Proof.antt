@@ -42,10 +42,12 @@ use Rattle.wire.proofs.reader_at as reader-at
 use Rattle.wire.proofs.reader_at.Statement as stated
 use Rattle.wire.proofs.reader_at.Code as code
 
+-- what each parameter is at exit: it owns what it did, and no last value is told
 abbrev stayed : Stays (reader-at.ended .signature .params) (reader-at.ended .kept)
 stayed = (stay-none-slice (0 ∷ []) tt (plain (λ _. u8)) yes, (stay-none (λ _. usize) yes, tt))
 
 module _ {M : Type 1} (𝓤 : URA M) (H : Heap 𝓤) (A : Atoms 𝓤) (W : Given 𝓤 H A) (mem : Memory → SProp 𝓤) (run : Routine → Fun 𝓤) (κ : Lft) (q : Share) (s : RefT (List ℕ)) (n : ℕ) (ok : n < 2 ^ 64) where
+  -- 'a
   abbrev α : NamedLft
   α = namedLft 1 0 tt (κ, tt)
 
@@ -53,6 +55,7 @@ module _ {M : Type 1} (𝓤 : URA M) (H : Heap 𝓤) (A : Atoms 𝓤) (W : Given
   abbrev v : Val
   v = sliceVal (s .ptr) (length (s .now))
 
+  -- the reader that is made
   abbrev made : Reader
   made = record { bytes = s; at = n }
 
@@ -60,12 +63,15 @@ module _ {M : Type 1} (𝓤 : URA M) (H : Heap 𝓤) (A : Atoms 𝓤) (W : Given
   abbrev at : Vals reader-at.signature (κ, tt)
   at = (v ∷ [], (vint w64 n ∷ [], tt))
 
+  -- what is to hold at exit, of the machine value returned
   abbrev Post : Val → SProp 𝓤
   Post = walkOf 𝓤 H A reader-at.ended stayed (reader-at.clauses 𝓤 H A mem run) .post (((κ, tt), (q, tt), tt, (s, (n, tt)), at), tt)
 
+  -- what s owns
   abbrev Own : Fml
   Own = ShrSlice (named 0) κ u8 .own s (v ∷ [])
 
+  -- what is owned on entry, s twice, gives what is to hold at exit
   exits : ent 𝓤 (onEntry 𝓤 H A reader-at.signature (κ, tt) (q, tt) (s, (n, tt)) at) (Post (T′.lowered made))
   exits =
       qed W ((‵ (flft κ q) ⊛ ‵ ftrue) ∷ ‵ (owns (ShrSlice (named 0) κ u8 ∷ usize ∷ []) (s, (n, tt)) at) ∷ []) ∵
@@ -75,6 +81,7 @@ module _ {M : Type 1} (𝓤 : URA M) (H : Heap 𝓤) (A : Atoms 𝓤) (W : Given
       nothing ! $ owned ! usize (Is usize) (uint-makes 𝓤 H A W w64) n _ (refl, ok) $ fjoin ! $ move ! (1 ∷ 0 ∷ []) $ fjoin ! $ by ! (own-shut 𝓤 H A W (T.the-type α) (T′.the-laws α) (s, (n, tt)))
 
   module _ (C : Calls 𝓤 H) (Λ : Loops 𝓤 H) where
+    -- the code, statement by statement
     walk : Is (ShrSlice (named 0) κ u8) s (v ∷ []) → ent 𝓤 (onEntry 𝓤 H A reader-at.signature (κ, tt) (q, tt) (s, (n, tt)) at) (WpFn 𝓤 H C Λ code.function (v ∷ vint w64 n ∷ []) Post)
     walk p =
         qed W (raw (onEntry 𝓤 H A reader-at.signature (κ, tt) (q, tt) (s, (n, tt)) at) ∷ []) ∵ enter ! C Λ code.function (v ∷ vint w64 n ∷ []) _ $
@@ -83,14 +90,17 @@ module _ {M : Type 1} (𝓤 : URA M) (H : Heap 𝓤) (A : Atoms 𝓤) (W : Given
         returns ! (look ! 4 refl) $ forget ! 0 refl $ forget ! 2 refl $ forget ! 4 refl $ move ! (4 ∷ 5 ∷ []) $ free1 ! $ move ! (2 ∷ 3 ∷ []) $ free1 ! $ free1 ! $ free0 ! $ by ! exits)))
 
 module _ {M : Type 1} (𝓤 : URA M) (H : Heap 𝓤) (A : Atoms 𝓤) (W : Given 𝓤 H A) (mem : Memory → SProp 𝓤) (run : Routine → Fun 𝓤) where
+  -- the walk, for any arguments at any lifetime
   reader-at-walks : (C : Calls 𝓤 H) (Λ : Loops 𝓤 H) → Walks 𝓤 H A reader-at.ended stayed (WpFn 𝓤 H C Λ code.function) (reader-at.clauses 𝓤 H A mem run)
   reader-at-walks C Λ = walked 𝓤 H A reader-at.ended stayed (reader-at.clauses 𝓤 H A mem run) (WpFn 𝓤 H C Λ code.function) (λ κs. (slice-vals, (uint-vals w64, tt))) (λ κs. (shr-slice-tells (named 0) (κs .0) u8, (uint-tells w64, tt)))
       (λ κs qs bounds a g are. via 𝓤 _ (fst∗ 𝓤 _ (emp 𝓤)) (walk 𝓤 H A W mem run (κs .0) (qs .0) (a .0) (a .1 .0) (are .1 .0 .1) C Λ (are .0)))
 
+-- the code meets the contract
 reader-at-meets : {M : Type 1} (𝓤 : URA M) (H : Heap 𝓤) (A : Atoms 𝓤) → Given 𝓤 H A → (mem : Memory → SProp 𝓤) (run : Routine → Fun 𝓤) (𝓣 : Tables 𝓤 H)
     → Meets 𝓤 H A reader-at.signature (WpFn 𝓤 H (𝓣 .C) (𝓣 .Λ) code.function) (reader-at.spec 𝓤 H A mem run)
 reader-at-meets 𝓤 H A W mem run 𝓣 = walk-meets 𝓤 H A reader-at.ended stayed W (goes-none-slice 𝓤 H A W 1 (0 ∷ []) tt (plain (λ _. u8)) yes, (goes-none 𝓤 H A W 1 (λ _. usize) yes (λ κs x f. refl), tt)) (reader-at.clauses 𝓤 H A mem run) (WpFn 𝓤 H (𝓣 .C) (𝓣 .Λ) code.function) (WpFn-mono 𝓤 H (W .laws) 𝓣 code.function) (reader-at-walks 𝓤 H A W mem run (𝓣 .C) (𝓣 .Λ))
 
+-- the function as it is called meets its contract
 pub reader-at-spec : {M : Type 1} → stated.statement M
 unfolding code.routine tablesOf
 reader-at-spec 𝓤 H 𝓜 𝓖 𝓡 =
