@@ -1,0 +1,4 @@
+pub mod Boundary
+pub mod Kept
+pub mod Widen
+pub mod Ways
