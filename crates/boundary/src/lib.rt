@@ -4,11 +4,11 @@ ghost use mathlib.Core.Path.{_≡_};
 ghost use Prim.Native.Nat.{_≤_, min};
 ghost use lib.IntN.{pos};
 ghost use lib.ListN.{length, getD, set};
-ghost use Rattle.lists.specs.Lists.{fill};
+ghost use Rattle.lists.specs.Lists.{bit, fill};
 ghost use Rattle.rules.specs.Records.{accepted};
-ghost use Rattle.rules.specs.Answers.{numberOf};
+ghost use Rattle.rules.specs.Answers.{numberOf, loadedSays, updatedSays, writtenSays, askedSays};
 ghost use Rattle.sessions.specs.Tested.{roomsOf};
-ghost use Rattle.boundary.specs.Boundary.{sessionIn, sessionNumbers, reportAfter, packed, loadedTo, batchedTo, wroteTo, loadCall, batchCall, writeCall, askCall};
+ghost use Rattle.boundary.specs.Boundary.{sessionIn, sessionNumbers, sessionAfter, movedTo, reportAfter, packed, told, loadedTo, batchedTo, wroteTo, loadCall, batchCall, writeCall, askCall};
 ghost use Rattle.boundary.specs.Kept.{sizesPut};
 use rules::Asked;
 use rules::Loaded;
@@ -20,6 +20,9 @@ use rules::State;
 use rules::Updated;
 use rules::Variable;
 use rules::Written;
+
+// The answer of a call whose room for the session or the report is too short: 13 at place 0.
+const SHORT: u64 = 13;
 
 // How many numbers a session is.
 const SESSION: usize = 7;
@@ -145,6 +148,57 @@ fn keep_report(room: &mut [i64], report: Report)
     set_net(room, 2, report.net);
 }
 
+// What a load answered, as a number; its session is kept where there is one.
+fn keep_loaded(found: Loaded, session: &mut [u32]) -> u64
+    requires { ⌜ 7 ≤ length (now session) ⌝ }
+    ensures { λ r. ⌜ (r ≡ told (λ _. 0) (loadedSays found)) × (now (session .exit) ≡ sessionAfter (now (session .entry)) (loadedSays found)) ⌝ }
+{
+    match found {
+        Loaded::Refused(why, at) => pack(number_of(why), at),
+        Loaded::Accepted(after) => {
+            keep_session(session, after);
+            0
+        }
+    }
+}
+
+// What a batch answered, as a number; its session and its report are kept where there are any.
+fn keep_updated(found: Updated, session: &mut [u32], report: &mut [i64]) -> u64
+    requires { ⌜ 7 ≤ length (now session) ⌝ }
+    requires { ⌜ 3 ≤ length (now report) ⌝ }
+    ensures { λ r. ⌜ (r ≡ told (λ _. 0) (updatedSays found)) × (now (session .exit) ≡ sessionAfter (now (session .entry)) (movedTo (updatedSays found)))
+        × (now (report .exit) ≡ reportAfter (now (report .entry)) (updatedSays found)) ⌝ }
+{
+    match found {
+        Updated::Refused(why, at) => pack(number_of(why), at),
+        Updated::Accepted(after) => {
+            keep_session(session, after.session);
+            keep_report(report, after);
+            0
+        }
+    }
+}
+
+// What a writing answered, as a number.
+fn tell_written(found: Written) -> u64
+    ensures { λ r. ⌜ r ≡ told (λ n. n) (writtenSays found) ⌝ }
+{
+    match found {
+        Written::Refused(why, at) => pack(number_of(why), at),
+        Written::Accepted(n) => pack(0, n),
+    }
+}
+
+// What a question answered, as a number.
+fn tell_asked(found: Asked) -> u64
+    ensures { λ r. ⌜ r ≡ told bit (askedSays found) ⌝ }
+{
+    match found {
+        Asked::Refused(why, at) => pack(number_of(why), at),
+        Asked::Accepted(v) => pack(0, v as usize),
+    }
+}
+
 // A model loaded into the rooms lent, and its session into the session's.
 #[no_mangle]
 pub extern "C" fn huepaxochi_load(
@@ -160,16 +214,10 @@ pub extern "C" fn huepaxochi_load(
         ≡ loadCall (now (session .entry)) (roomsOf (now (labels .entry)) (now (equations .entry)) (now (values .entry)) (now (marks .entry)) (now (moves .entry))) (now (bytes .entry)) ⌝ }
 {
     if session.len() < SESSION {
-        return pack(number_of(Refusal::ShortRoom), 0);
+        return SHORT;
     }
     let found = loads::load(bytes, labels, equations, values, marks, moves);
-    match found {
-        Loaded::Refused(why, at) => pack(number_of(why), at),
-        Loaded::Accepted(after) => {
-            keep_session(session, after);
-            pack(0, 0)
-        }
-    }
+    keep_loaded(found, session)
 }
 
 // A batch of changes applied to the session lent; what it came to goes into the room of the report.
@@ -188,18 +236,11 @@ pub extern "C" fn huepaxochi_batch(
         ≡ batchCall (now (session .entry)) (roomsOf (now (labels .entry)) (now (equations .entry)) (now (values .entry)) (now (marks .entry)) (now (moves .entry))) (now (report .entry)) (now (bytes .entry)) ⌝ }
 {
     if (session.len() < SESSION) | (report.len() < REPORT) {
-        return pack(number_of(Refusal::ShortRoom), 0);
+        return SHORT;
     }
     let before = session_of(session);
     let found = updates::batch(before, bytes, labels, equations, values, marks, moves);
-    match found {
-        Updated::Refused(why, at) => pack(number_of(why), at),
-        Updated::Accepted(after) => {
-            keep_session(session, after.session);
-            keep_report(report, after);
-            pack(0, 0)
-        }
-    }
+    keep_updated(found, session, report)
 }
 
 // The model that the session holds, written into the front of the output.
@@ -217,14 +258,11 @@ pub extern "C" fn huepaxochi_write(
         ≡ writeCall (now (session .entry)) (roomsOf (now (labels .entry)) (now (equations .entry)) (now (values .entry)) (now (marks .entry)) (now (moves .entry))) (now (out .entry)) ⌝ }
 {
     if session.len() < SESSION {
-        return pack(number_of(Refusal::ShortRoom), 0);
+        return SHORT;
     }
     let held = session_of(session);
     let found = writes::write(held, labels, equations, values, marks, moves, out);
-    match found {
-        Written::Refused(why, at) => pack(number_of(why), at),
-        Written::Accepted(n) => pack(0, n),
-    }
+    tell_written(found)
 }
 
 // The value of one pair.
@@ -233,7 +271,7 @@ pub extern "C" fn huepaxochi_ask(session: &[u32], values: &[u8], state: u16, var
     ensures { λ r. ⌜ r ≡ askCall (now (session .entry)) (now (values .entry)) state variable ⌝ }
 {
     if session.len() < SESSION {
-        return pack(number_of(Refusal::ShortRoom), 0);
+        return SHORT;
     }
     let asked = calls::ask(
         session_of(session),
@@ -241,8 +279,5 @@ pub extern "C" fn huepaxochi_ask(session: &[u32], values: &[u8], state: u16, var
         State(state),
         Variable(variable),
     );
-    match asked {
-        Asked::Refused(why, at) => pack(number_of(why), at),
-        Asked::Accepted(v) => pack(0, v as usize),
-    }
+    tell_asked(asked)
 }
