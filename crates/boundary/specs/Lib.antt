@@ -1,4 +1,2 @@
 pub mod Boundary
-pub mod Kept
-pub mod Widen
 pub mod Ways

@@ -20,7 +20,8 @@ use Rattle.rules.specs.declared.Asked.{Asked}
 use Rattle.loads.specs.LoadLaws.{loaded}
 use Rattle.calls.specs.BatchLaws.{updated}
 use Rattle.calls.specs.WriteLaws.{wrote}
-use Rattle.boundary.specs.Boundary.{sessionIn, sessionAfter, movedTo, reportAfter, told, loadedTo, loadLeft, loadCall, batchedTo, batchLeft, batchCall, wroteTo, writeLeft, writeCall, askCall}
+use Rattle.numbers.specs.Numbers.{sessionIn, sessionAfter, movedTo, reportAfter, told}
+use Rattle.boundary.specs.Boundary.{loadedTo, loadLeft, loadCall, batchedTo, batchLeft, batchCall, wroteTo, writeLeft, writeCall, askCall}
 
 -- A question about one pair.
 module _ (session values : List ℕ) (here x : ℕ) where

@@ -1,7 +1,7 @@
 -- Each field is the number at its place. Assumes nothing.
 use borrow.Author.Needs.{needs}
-use Rattle.boundary.proofs.session_of.Statement.{statement}
-use Rattle.boundary.proofs.session_of.Tie as tie
+use Rattle.numbers.proofs.session_of.Statement.{statement}
+use Rattle.numbers.proofs.session_of.Tie as tie
 
 half-in-requires : tie.Need-half-in-requires
 half-in-requires c κs = search needs

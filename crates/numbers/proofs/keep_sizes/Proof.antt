@@ -1,7 +1,7 @@
 -- The five numbers are put one after the other. Assumes nothing.
 use borrow.Author.Needs.{needs}
-use Rattle.boundary.proofs.keep_sizes.Statement.{statement}
-use Rattle.boundary.proofs.keep_sizes.Tie as tie
+use Rattle.numbers.proofs.keep_sizes.Statement.{statement}
+use Rattle.numbers.proofs.keep_sizes.Tie as tie
 
 cast-set-word : tie.Need-cast-set-word
 cast-set-word c = search needs

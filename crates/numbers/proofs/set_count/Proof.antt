@@ -6,8 +6,8 @@ use lib.IntN.{pos}
 use native.Mathlib.Omega.{arith}
 use mathlib.Core.Path.{sym}
 use borrow.Author.Needs.{needs}
-use Rattle.boundary.proofs.set_count.Statement.{statement}
-use Rattle.boundary.proofs.set_count.Tie as tie
+use Rattle.numbers.proofs.set_count.Statement.{statement}
+use Rattle.numbers.proofs.set_count.Tie as tie
 
 cast-room : tie.Need-cast-room
 cast-room c = search needs

@@ -1,12 +1,12 @@
 -- A net change fits the wider word, and a place past the end takes nothing, as the list does. Assumes nothing.
-use Rattle.boundary.specs.Widen.{widens, widened}
+use Rattle.numbers.specs.Widen.{widens, widened}
 use mir.Syntax.{w32}
 use lib.Seq.{set-out}
 use native.Mathlib.Omega.{arith}
 use mathlib.Core.Path.{sym}
 use borrow.Author.Needs.{needs}
-use Rattle.boundary.proofs.set_net.Statement.{statement}
-use Rattle.boundary.proofs.set_net.Tie as tie
+use Rattle.numbers.proofs.set_net.Statement.{statement}
+use Rattle.numbers.proofs.set_net.Tie as tie
 
 cast-room : tie.Need-cast-room
 cast-room c = widens {w = w32} {z = c .before .args .net} tt (c .before .fits .net)

@@ -1,10 +1,10 @@
 -- The three numbers are put one after the other. Assumes nothing.
 use mir.ValLaws.{toZ-ofZ}
 use mir.Syntax.{w32}
-use Rattle.boundary.specs.Kept.{report-kept}
+use Rattle.numbers.specs.Kept.{report-kept}
 use borrow.Author.Needs.{needs}
-use Rattle.boundary.proofs.keep_report.Statement.{statement}
-use Rattle.boundary.proofs.keep_report.Tie as tie
+use Rattle.numbers.proofs.keep_report.Statement.{statement}
+use Rattle.numbers.proofs.keep_report.Tie as tie
 
 set-count-requires : tie.Need-set-count-requires
 set-count-requires c κs = search needs

@@ -1,8 +1,8 @@
 -- What is told of each case of the answer. Assumes nothing.
 use mathlib.Core.Path.{refl}
 use borrow.Author.Needs.{needs}
-use Rattle.boundary.proofs.tell_written.Statement.{statement}
-use Rattle.boundary.proofs.tell_written.Tie as tie
+use Rattle.numbers.proofs.tell_written.Statement.{statement}
+use Rattle.numbers.proofs.tell_written.Tie as tie
 
 enum-known-found : tie.Need-enum-known-found
 enum-known-found c = search needs

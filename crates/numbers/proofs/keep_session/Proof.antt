@@ -1,8 +1,8 @@
 -- The sizes, the moves and the stamp are put one after the other. Assumes nothing.
-use Rattle.boundary.specs.Kept.{session-kept}
+use Rattle.numbers.specs.Kept.{session-kept}
 use borrow.Author.Needs.{needs}
-use Rattle.boundary.proofs.keep_session.Statement.{statement}
-use Rattle.boundary.proofs.keep_session.Tie as tie
+use Rattle.numbers.proofs.keep_session.Statement.{statement}
+use Rattle.numbers.proofs.keep_session.Tie as tie
 
 keep-sizes-requires : tie.Need-keep-sizes-requires
 keep-sizes-requires c κs = search needs

@@ -10,7 +10,7 @@ use Rattle.rules.specs.Records.{accepted}
 use Rattle.rules.specs.declared.Sizes.{Sizes}
 use Rattle.rules.specs.declared.Session.{Session}
 use Rattle.rules.specs.declared.Report.{Report}
-use Rattle.boundary.specs.Boundary.{sessionNumbers, reportAfter}
+use Rattle.numbers.specs.Numbers.{sessionNumbers, reportAfter}
 
 -- The room with the five sizes put at its first places.
 abbrev pub sizesPut : List ℕ → Sizes → List ℕ
