@@ -1,6 +1,6 @@
 /* Huepaxochi for C: a proved checker of modal mu-calculus equations over a table of moves, kept current while moves are
-   inserted and deleted. Link target/native/libhuepaxochi.a, which tools/native builds; it needs memset of the C library and
-   nothing else, allocates nothing and keeps nothing between calls.
+   inserted and deleted. Link target/native/libhuepaxochi.a, which tools/native builds. It allocates nothing, keeps nothing
+   between calls, and calls nothing but memset and the like of the C library. It takes about 20 kB of stack.
 
    Every room is passed as a pointer and its length in ELEMENTS, not in bytes. A caller owes this, and nothing else:
    - a pointer is not null and is aligned for its elements, also where the length is 0 (any aligned address will do then);

@@ -5,5 +5,8 @@ fn main() {
     let native = Path::new(env!("CARGO_MANIFEST_DIR")).join("../../target/native");
     println!("cargo:rustc-link-search=native={}", native.display());
     println!("cargo:rustc-link-lib=static=huepaxochi");
-    println!("cargo:rerun-if-changed={}", native.join("libhuepaxochi.a").display());
+    println!(
+        "cargo:rerun-if-changed={}",
+        native.join("libhuepaxochi.a").display()
+    );
 }

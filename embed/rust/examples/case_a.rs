@@ -11,18 +11,34 @@ fn run() -> Result<bool, Refusal> {
     checker.load(&MODEL)?;
     let value = |checker: &Checker, state| checker.ask(State(state), Variable(0));
     let before = (value(&checker, 0)?, value(&checker, 1)?, checker.stamp());
-    println!("loaded: values {} {}, stamp {}", before.0, before.1, before.2);
+    println!(
+        "loaded: values {} {}, stamp {}",
+        before.0, before.1, before.2
+    );
     let report = checker.batch(&INSERT)?;
-    println!("batch: {report:?}, marks {:?}, stamp {}", checker.marks(), checker.stamp());
+    println!(
+        "batch: {report:?}, marks {:?}, stamp {}",
+        checker.marks(),
+        checker.stamp()
+    );
     let after = (value(&checker, 0)?, value(&checker, 1)?, checker.stamp());
     println!("now: values {} {}", after.0, after.1);
     let again = checker.batch(&INSERT);
     println!("the same again: {again:?}");
     Ok(before == (false, false, 0)
-        && report == Report { shift_visits: 1, settle_visits: 0, net: 1 }
+        && report
+            == Report {
+                shift_visits: 1,
+                settle_visits: 0,
+                net: 1,
+            }
         && after == (true, false, 1)
         && checker.marks() == [1, 0]
-        && again == Err(Refusal { number: 11, place: 0 })
+        && again
+            == Err(Refusal {
+                number: 11,
+                place: 0,
+            })
         && checker.write()?.len() == 21)
 }
 

@@ -58,7 +58,13 @@ pub struct Lengths {
 
 impl Lengths {
     /// The most that any model within the limits needs.
-    pub const MOST: Lengths = Lengths { labels: 256, equations: 32, values: 8192, marks: 8192, moves: 1024 };
+    pub const MOST: Lengths = Lengths {
+        labels: 256,
+        equations: 32,
+        values: 8192,
+        marks: 8192,
+        moves: 1024,
+    };
 }
 
 /// How many numbers a session and a report are.
@@ -85,7 +91,10 @@ fn told(answer: u64) -> Result<u32, Refusal> {
     if number == 0 {
         Ok(told)
     } else {
-        Err(Refusal { number, place: told })
+        Err(Refusal {
+            number,
+            place: told,
+        })
     }
 }
 
@@ -110,7 +119,12 @@ impl Checker {
     /// Reads a model and finds the value of every pair.
     pub fn load(&mut self, bytes: &[u8]) -> Result<(), Refusal> {
         told(ffi::load(
-            bytes, &mut self.session, &mut self.labels, &mut self.equations, &mut self.values, &mut self.marks,
+            bytes,
+            &mut self.session,
+            &mut self.labels,
+            &mut self.equations,
+            &mut self.values,
+            &mut self.marks,
             &mut self.moves,
         ))
         .map(|_| ())
@@ -120,11 +134,21 @@ impl Checker {
     pub fn batch(&mut self, bytes: &[u8]) -> Result<Report, Refusal> {
         let mut report = [0; REPORT];
         told(ffi::batch(
-            &mut self.session, bytes, &self.labels, &self.equations, &mut self.values, &mut self.marks, &mut self.moves,
+            &mut self.session,
+            bytes,
+            &self.labels,
+            &self.equations,
+            &mut self.values,
+            &mut self.marks,
+            &mut self.moves,
             &mut report,
         ))?;
         let [shift_visits, settle_visits, net] = report;
-        Ok(Report { shift_visits, settle_visits, net })
+        Ok(Report {
+            shift_visits,
+            settle_visits,
+            net,
+        })
     }
 
     /// The bytes of the model that the session holds, as `load` reads them.
@@ -137,8 +161,16 @@ impl Checker {
 
     /// The same into a room of the caller's; the answer is how many bytes were written.
     pub fn write_into(&self, out: &mut [u8]) -> Result<usize, Refusal> {
-        told(ffi::write(&self.session, &self.labels, &self.equations, &self.values, &self.marks, &self.moves, out))
-            .map(|n| n as usize)
+        told(ffi::write(
+            &self.session,
+            &self.labels,
+            &self.equations,
+            &self.values,
+            &self.marks,
+            &self.moves,
+            out,
+        ))
+        .map(|n| n as usize)
     }
 
     /// The value of one pair.

@@ -25,7 +25,11 @@ fn loaded() -> Checker {
 }
 
 fn report(shift_visits: i64, settle_visits: i64, net: i64) -> Result<Report, Refusal> {
-    Ok(Report { shift_visits, settle_visits, net })
+    Ok(Report {
+        shift_visits,
+        settle_visits,
+        net,
+    })
 }
 
 /// Rooms longer than G needs, each place filled with a number that no call writes.
@@ -47,7 +51,10 @@ fn a_b_c() {
     assert_eq!((checker.marks(), checker.stamp()), (&[1, 0][..], 1));
     assert_eq!(checker.batch(&changes(1, &[(8, 1, 0, 0)])), report(0, 0, 1));
     assert_eq!((checker.marks(), checker.stamp()), (&[0, 1][..], 65_539));
-    assert_eq!(checker.batch(&changes(65_539, &[(9, 0, 0, 0)])), report(0, 1, -2));
+    assert_eq!(
+        checker.batch(&changes(65_539, &[(9, 0, 0, 0)])),
+        report(0, 1, -2)
+    );
     assert_eq!((checker.marks(), checker.stamp()), (&[3, 3][..], 65_538));
     assert_eq!(checker.ask(State(0), Variable(0)), Ok(false));
     assert_eq!(checker.ask(State(1), Variable(0)), Ok(false));
@@ -64,7 +71,9 @@ fn d() {
 fn what_was_written_loads() {
     let mut checker = loaded();
     assert_eq!(checker.write().unwrap(), G);
-    checker.batch(&changes(0, &[(8, 0, 0, 0), (8, 1, 0, 0)])).unwrap();
+    checker
+        .batch(&changes(0, &[(8, 0, 0, 0), (8, 1, 0, 0)]))
+        .unwrap();
     let bytes = checker.write().unwrap();
     let mut again = Checker::new();
     again.load(&bytes).unwrap();
@@ -79,14 +88,38 @@ fn a_refused_load_changes_nothing() {
     let before = checker.clone();
     let mut cut = G.to_vec();
     cut.pop();
-    assert_eq!(checker.load(&cut), Err(Refusal { number: 1, place: 14 }));
-    assert_eq!(checker.load(&[]), Err(Refusal { number: 1, place: 0 }));
+    assert_eq!(
+        checker.load(&cut),
+        Err(Refusal {
+            number: 1,
+            place: 14
+        })
+    );
+    assert_eq!(
+        checker.load(&[]),
+        Err(Refusal {
+            number: 1,
+            place: 0
+        })
+    );
     let mut more = G.to_vec();
     more.push(0);
-    assert_eq!(checker.load(&more), Err(Refusal { number: 2, place: 15 }));
+    assert_eq!(
+        checker.load(&more),
+        Err(Refusal {
+            number: 2,
+            place: 15
+        })
+    );
     let mut late = G;
     late[13] = 1;
-    assert_eq!(checker.load(&late), Err(Refusal { number: 4, place: 10 }));
+    assert_eq!(
+        checker.load(&late),
+        Err(Refusal {
+            number: 4,
+            place: 10
+        })
+    );
     assert_eq!(checker, before);
 }
 
@@ -121,7 +154,11 @@ fn a_refused_batch_changes_nothing() {
         (changes(1, &[(8, 1, 0, 0), (9, 1, 0, 0)]), 9, 11),
         (changes(1, &[(8, 2, 0, 0)]), 4, 5),
         (vec![7, 1], 1, 0),
-        (changes(1, &[(8, 0, 0, 1), (8, 1, 0, 0), (8, 1, 0, 1)]), 0, 0),
+        (
+            changes(1, &[(8, 0, 0, 1), (8, 1, 0, 0), (8, 1, 0, 1)]),
+            0,
+            0,
+        ),
     ] {
         let mut tried = checker.clone();
         if number == 0 {
@@ -129,8 +166,14 @@ fn a_refused_batch_changes_nothing() {
         }
         let rooms = tried.clone();
         let answer = ffi::batch(
-            &mut tried.session, &bytes, &tried.labels, &tried.equations, &mut tried.values, &mut tried.marks,
-            &mut tried.moves, &mut out,
+            &mut tried.session,
+            &bytes,
+            &tried.labels,
+            &tried.equations,
+            &mut tried.values,
+            &mut tried.marks,
+            &mut tried.moves,
+            &mut out,
         );
         let number = if number == 0 { 10 } else { number };
         assert_eq!(told(answer), Err(Refusal { number, place }));
@@ -148,15 +191,24 @@ fn an_accepted_batch_leaves_the_places_past_it() {
     let mut out = [-7i64; 5];
     let bytes = changes(0, &[(8, 0, 0, 0), (8, 1, 0, 0)]);
     let answer = ffi::batch(
-        &mut checker.session, &bytes, &checker.labels, &checker.equations, &mut checker.values, &mut checker.marks,
-        &mut checker.moves, &mut out,
+        &mut checker.session,
+        &bytes,
+        &checker.labels,
+        &checker.equations,
+        &mut checker.values,
+        &mut checker.marks,
+        &mut checker.moves,
+        &mut out,
     );
     assert_eq!(answer, 0);
     assert_eq!(out[..3], [2, 0, 2]);
     assert_eq!(out[3..], [-7, -7]);
     assert_eq!(checker.session[..7], [2, 1, 0, 1, 1, 2, 65_539]);
     assert_eq!(checker.session[7..], before.session[7..]);
-    assert_eq!((&checker.labels, &checker.equations), (&before.labels, &before.equations));
+    assert_eq!(
+        (&checker.labels, &checker.equations),
+        (&before.labels, &before.equations)
+    );
     assert_eq!(checker.values[..2], [1, 1]);
     assert_eq!(checker.values[2..], before.values[2..]);
     assert_eq!(checker.marks[..2], [1, 1]);
@@ -178,20 +230,39 @@ fn a_short_room_is_13_before_all_else() {
         let mut rooms = filled();
         assert_eq!(
             ffi::load(
-                &[], &mut session, &mut rooms.labels, &mut rooms.equations, &mut rooms.values, &mut rooms.marks,
+                &[],
+                &mut session,
+                &mut rooms.labels,
+                &mut rooms.equations,
+                &mut rooms.values,
+                &mut rooms.marks,
                 &mut rooms.moves
             ),
             short
         );
         assert_eq!(
             ffi::batch(
-                &mut session, &[], &rooms.labels, &rooms.equations, &mut rooms.values, &mut rooms.marks, &mut rooms.moves,
+                &mut session,
+                &[],
+                &rooms.labels,
+                &rooms.equations,
+                &mut rooms.values,
+                &mut rooms.marks,
+                &mut rooms.moves,
                 &mut out
             ),
             short
         );
         assert_eq!(
-            ffi::write(&session, &rooms.labels, &rooms.equations, &rooms.values, &rooms.marks, &rooms.moves, &mut []),
+            ffi::write(
+                &session,
+                &rooms.labels,
+                &rooms.equations,
+                &rooms.values,
+                &rooms.marks,
+                &rooms.moves,
+                &mut []
+            ),
             short
         );
         assert_eq!(ffi::ask(&session, &[], 9, 9), short);
@@ -203,22 +274,46 @@ fn a_short_room_is_13_before_all_else() {
     let bytes = changes(0, &[(8, 0, 0, 0)]);
     for n in 0..REPORT {
         let answer = ffi::batch(
-            &mut checker.session, &bytes, &checker.labels, &checker.equations, &mut checker.values, &mut checker.marks,
-            &mut checker.moves, &mut out[..n],
+            &mut checker.session,
+            &bytes,
+            &checker.labels,
+            &checker.equations,
+            &mut checker.values,
+            &mut checker.marks,
+            &mut checker.moves,
+            &mut out[..n],
         );
         assert_eq!(answer, short);
     }
     assert_eq!(checker, before);
     assert_eq!(out, [-7; 3]);
-    let mut narrow = Checker::with_rooms(Lengths { values: 1, ..Lengths::MOST });
-    assert_eq!(narrow.load(&G), Err(Refusal { number: 13, place: 0 }));
-    assert_eq!(before.write_into(&mut [0; 14]), Err(Refusal { number: 13, place: 0 }));
+    let mut narrow = Checker::with_rooms(Lengths {
+        values: 1,
+        ..Lengths::MOST
+    });
+    assert_eq!(
+        narrow.load(&G),
+        Err(Refusal {
+            number: 13,
+            place: 0
+        })
+    );
+    assert_eq!(
+        before.write_into(&mut [0; 14]),
+        Err(Refusal {
+            number: 13,
+            place: 0
+        })
+    );
 }
 
 #[test]
 fn a_number_too_large_for_its_kind_is_12() {
     let checker = loaded();
-    let not_a_model = Err(Refusal { number: 12, place: 0 });
+    let not_a_model = Err(Refusal {
+        number: 12,
+        place: 0,
+    });
     for at in 0..5 {
         for add in [1 << 8, 1 << 16, 1 << 24, u32::MAX - 255] {
             let mut tried = checker.clone();
@@ -227,8 +322,20 @@ fn a_number_too_large_for_its_kind_is_12() {
                 tried.session[at] = 257;
             }
             assert_eq!(tried.ask(State(0), Variable(0)), not_a_model);
-            assert_eq!(tried.write(), Err(Refusal { number: 12, place: 0 }));
-            assert_eq!(tried.batch(&changes(0, &[])), Err(Refusal { number: 12, place: 0 }));
+            assert_eq!(
+                tried.write(),
+                Err(Refusal {
+                    number: 12,
+                    place: 0
+                })
+            );
+            assert_eq!(
+                tried.batch(&changes(0, &[])),
+                Err(Refusal {
+                    number: 12,
+                    place: 0
+                })
+            );
         }
     }
 }
@@ -236,9 +343,27 @@ fn a_number_too_large_for_its_kind_is_12() {
 #[test]
 fn a_question_is_refused_by_its_numbers_and_its_byte() {
     let mut checker = loaded();
-    assert_eq!(checker.ask(State(2), Variable(0)), Err(Refusal { number: 4, place: 0 }));
-    assert_eq!(checker.ask(State(0), Variable(1)), Err(Refusal { number: 4, place: 0 }));
+    assert_eq!(
+        checker.ask(State(2), Variable(0)),
+        Err(Refusal {
+            number: 4,
+            place: 0
+        })
+    );
+    assert_eq!(
+        checker.ask(State(0), Variable(1)),
+        Err(Refusal {
+            number: 4,
+            place: 0
+        })
+    );
     checker.values[1] = 2;
-    assert_eq!(checker.ask(State(1), Variable(0)), Err(Refusal { number: 12, place: 0 }));
+    assert_eq!(
+        checker.ask(State(1), Variable(0)),
+        Err(Refusal {
+            number: 12,
+            place: 0
+        })
+    );
     assert_eq!(checker.ask(State(0), Variable(0)), Ok(false));
 }
