@@ -20,14 +20,15 @@ pub record LoadLeft : Type 0 where
   pub session : List ℕ
   pub rooms : Rooms
 
+-- The call left this answer, this session and these rooms.
 abbrev pub loadedTo : ℕ → List ℕ → Rooms → LoadLeft
 loadedTo answer session l = record { answer = answer; session = session; rooms = l }
 
--- A load: 13 where the room of the session is too short for its numbers, else the rules' load. Nothing is told of an
--- acceptance.
+-- What the rules' load leaves, as numbers: nothing is told of an acceptance but its session.
 abbrev pub loadLeft : List ℕ → Left Session Rooms → LoadLeft
 loadLeft session l = loadedTo (told (λ _. 0) (l .answer)) (sessionAfter session (l .answer)) (l .rooms)
 
+-- A load: 13 where the room of the session is too short for its numbers, else the rules' load.
 unfoldable pub loadCall : List ℕ → Rooms → List ℕ → LoadLeft
 loadCall session l bytes =
     cond (ltb (length session) 7) (loadedTo (packed 13 0) session l) (loadLeft session (load l bytes))
@@ -39,15 +40,16 @@ pub record BatchLeft : Type 0 where
   pub rooms : Rooms
   pub report : List ℤ
 
+-- The call left this answer, this session, these rooms and this report.
 abbrev pub batchedTo : ℕ → List ℕ → Rooms → List ℤ → BatchLeft
 batchedTo answer session l report = record { answer = answer; session = session; rooms = l; report = report }
 
--- A batch: 13 where the room of the session or of the report is too short for its numbers, else the rules' batch. Nothing
--- but the report is told of an acceptance.
+-- What the rules' batch leaves, as numbers: nothing is told of an acceptance but its session and its report.
 abbrev pub batchLeft : List ℕ → List ℤ → Left Report Rooms → BatchLeft
 batchLeft session report l =
     batchedTo (told (λ _. 0) (l .answer)) (sessionAfter session (movedTo (l .answer))) (l .rooms) (reportAfter report (l .answer))
 
+-- A batch: 13 where the room of the session or of the report is too short for its numbers, else the rules' batch.
 unfoldable pub batchCall : List ℕ → Rooms → List ℤ → List ℕ → BatchLeft
 batchCall session l report bytes =
     cond (ltb (length session) 7 || ltb (length report) 3) (batchedTo (packed 13 0) session l report)
@@ -58,13 +60,15 @@ pub record WriteLeft : Type 0 where
   pub answer : ℕ
   pub out : List ℕ
 
+-- The call left this answer and this output.
 abbrev pub wroteTo : ℕ → List ℕ → WriteLeft
 wroteTo answer out = record { answer = answer; out = out }
 
--- A writing: 13 where the room of the session is too short for its numbers, else the rules' writing.
+-- What the rules' writing leaves, as numbers: the number of bytes is told of an acceptance.
 abbrev pub writeLeft : Left ℕ (List ℕ) → WriteLeft
 writeLeft l = wroteTo (told (λ n. n) (l .answer)) (l .rooms)
 
+-- A writing: 13 where the room of the session is too short for its numbers, else the rules' writing.
 unfoldable pub writeCall : List ℕ → Rooms → List ℕ → WriteLeft
 writeCall session l out =
     cond (ltb (length session) 7) (wroteTo (packed 13 0) out) (writeLeft (write (sessionIn session) l out))
