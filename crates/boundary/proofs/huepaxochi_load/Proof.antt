@@ -1,0 +1,51 @@
+-- Each way out leaves what the call is said to leave there. Assumes nothing.
+use Rattle.sessions.specs.Tested.{roomsOf}
+use Rattle.boundary.specs.Ways.{load-short, load-comes}
+use borrow.Author.Needs.{needs}
+use Rattle.boundary.proofs.huepaxochi_load.Statement.{statement}
+use Rattle.boundary.proofs.huepaxochi_load.Tie as tie
+
+returns : tie.Need-returns
+returns c = let a = c .before .before .before .before .before .before .before .before .args in let l = roomsOf (a .labels .now) (a .equations .now) (a .values .now) (a .marks .now) (a .moves .now) in load-short (a .session .now) l (a .bytes .now) (c .if1 .taken)
+
+load-requires : tie.Need-load-requires
+load-requires c κs = search needs
+
+keep-loaded-requires : tie.Need-keep-loaded-requires
+keep-loaded-requires c κs = search needs
+
+same-length : tie.Need-same-length
+same-length c = search needs
+
+same-length-2 : tie.Need-same-length-2
+same-length-2 c = search needs
+
+same-length-3 : tie.Need-same-length-3
+same-length-3 c = search needs
+
+same-length-4 : tie.Need-same-length-4
+same-length-4 c = search needs
+
+same-length-5 : tie.Need-same-length-5
+same-length-5 c = search needs
+
+same-length-6 : tie.Need-same-length-6
+same-length-6 c = search needs
+
+returns-2 : tie.Need-returns-2
+returns-2 c = let a = c .before .before .before .before .before .before .before .before .before .before .before .before .before .before .before .before .before .before .before .before .before .before .before .before .before .before .before .before .args in let l = roomsOf (a .labels .now) (a .equations .now) (a .values .now) (a .marks .now) (a .moves .now) in load-comes (a .session .now) l (a .bytes .now) (c .before .before .before .before .before .before .before .before .before .before .before .before .before .before .load .result) _ _ _ (c .before .before .before .before .before .before .before .before .before .before .before .before .before .before .before .before .before .before .before .before .if1 .left) (c .before .before .before .before .before .before .before .before .before .before .before .before .before .before .load .ensures) (c .before .before .keep-loaded .ensures .0) (c .before .before .keep-loaded .ensures .1)
+
+pub huepaxochi-load-spec : {M : Type 1} → statement M
+huepaxochi-load-spec =
+    tie.close
+    (tie.spec
+    returns
+    load-requires
+    keep-loaded-requires
+    same-length
+    same-length-2
+    same-length-3
+    same-length-4
+    same-length-5
+    same-length-6
+    returns-2)

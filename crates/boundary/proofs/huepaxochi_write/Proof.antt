@@ -1,0 +1,35 @@
+-- Each way out leaves what the call is said to leave there. Assumes nothing.
+use Rattle.sessions.specs.Tested.{roomsOf}
+use Rattle.boundary.specs.Ways.{write-short, write-comes}
+use borrow.Author.Needs.{needs}
+use Rattle.boundary.proofs.huepaxochi_write.Statement.{statement}
+use Rattle.boundary.proofs.huepaxochi_write.Tie as tie
+
+returns : tie.Need-returns
+returns c = let a = c .before .before .before .before .before .before .before .before .args in let l = roomsOf (a .labels .now) (a .equations .now) (a .values .now) (a .marks .now) (a .moves .now) in write-short (a .session .now) l (a .out .now) (c .if1 .taken)
+
+session-of-requires : tie.Need-session-of-requires
+session-of-requires c κs = search needs
+
+write-requires : tie.Need-write-requires
+write-requires c κs = search needs
+
+tell-written-requires : tie.Need-tell-written-requires
+tell-written-requires c κs = search needs
+
+same-length : tie.Need-same-length
+same-length c = search needs
+
+returns-2 : tie.Need-returns-2
+returns-2 c = let a = c .before .before .before .before .before .before .before .before .before .before .before .before .before .before .args in let l = roomsOf (a .labels .now) (a .equations .now) (a .values .now) (a .marks .now) (a .moves .now) in write-comes (a .session .now) l (a .out .now) _ (c .before .before .before .write .result) _ _ (c .before .before .before .before .before .before .if1 .left) (c .before .before .before .before .before .session-of .ensures) (c .before .before .before .write .ensures) (c .tell-written .ensures)
+
+pub huepaxochi-write-spec : {M : Type 1} → statement M
+huepaxochi-write-spec =
+    tie.close
+    (tie.spec
+    returns
+    session-of-requires
+    write-requires
+    tell-written-requires
+    same-length
+    returns-2)

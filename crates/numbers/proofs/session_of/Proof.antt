@@ -1,0 +1,41 @@
+-- Each field is the number at its place. Assumes nothing.
+use borrow.Author.Needs.{needs}
+use Rattle.numbers.proofs.session_of.Statement.{statement}
+use Rattle.numbers.proofs.session_of.Tie as tie
+
+half-in-requires : tie.Need-half-in-requires
+half-in-requires c κs = search needs
+
+byte-in-requires : tie.Need-byte-in-requires
+byte-in-requires c κs = search needs
+
+byte-in-requires-2 : tie.Need-byte-in-requires-2
+byte-in-requires-2 c κs = search needs
+
+byte-in-requires-3 : tie.Need-byte-in-requires-3
+byte-in-requires-3 c κs = search needs
+
+byte-in-requires-4 : tie.Need-byte-in-requires-4
+byte-in-requires-4 c κs = search needs
+
+word-at-requires : tie.Need-word-at-requires
+word-at-requires c κs = search needs
+
+word-at-requires-2 : tie.Need-word-at-requires-2
+word-at-requires-2 c κs = search needs
+
+returns : tie.Need-returns
+returns c = cc
+
+pub session-of-spec : {M : Type 1} → statement M
+session-of-spec =
+    tie.close
+    (tie.spec
+    half-in-requires
+    byte-in-requires
+    byte-in-requires-2
+    byte-in-requires-3
+    byte-in-requires-4
+    word-at-requires
+    word-at-requires-2
+    returns)

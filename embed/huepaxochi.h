@@ -1,0 +1,93 @@
+/* Huepaxochi for C: a proved checker of modal mu-calculus equations over a table of moves, kept current while moves are
+   inserted and deleted. Link target/native/libhuepaxochi.a, which tools/native builds. It allocates nothing, keeps nothing
+   between calls, and calls nothing but memset and the like of the C library. It takes about 20 kB of stack.
+
+   Every room is passed as a pointer and its length in ELEMENTS, not in bytes. A caller owes this, and nothing else:
+   - a pointer is not null and is aligned for its elements, also where the length is 0 (any aligned address will do then);
+   - that many elements are there and were written once, and a room that is not const may be written;
+   - a room that is not const overlaps no other room of the same call, and no other thread touches it meanwhile; nothing
+     changes a const room meanwhile.
+   For any such rooms, whatever they hold, each call ends and answers, and what it answers and leaves is proved.
+
+   The answer is one number. Its low 32 bits are the refusal's number, 1 to 13, or 0 for accepted. Its high 32 bits are, of a
+   refusal, its place in the bytes (modulo 2^32), and of an acceptance what each call says below. A refusal changes nothing
+   in any room, the session's and the report's included.
+
+   refusal  meaning
+   1        an unknown kind of record, or the bytes end inside a record or before the end record
+   2        a known kind where it is not due; any byte after the end record
+   3        a size outside its limits, a block with a wrong number of variables, a 65th change
+   4        a number not below its count, an unknown operator, an unused byte not 0, an empty or too high set
+   5        an equation names a variable of a later block
+   6        a label or a move not strictly after the one before
+   7, 8     insert of a move that is present, delete of one that is absent
+   9        a batch names one move twice
+   10       more moves than 1,024 or than the move room holds
+   11       the batch's stamp is not the table's
+   12       the session is no model that load accepts, or holds a value over 1, a mark over 3 or a wrong stamp
+   13       a room is shorter than the sizes need; the session's room has fewer than 7 places or the report's fewer than 3
+            (asked before all else)
+
+   The rooms, and how long each must be. Places past these are never changed.
+   session    7: states, actions, propositions, variables, blocks, moves, stamp. They are load's and batch's to write; a
+              number too large for its kind is refused with 12, never cut.
+   labels     one per state: the set of its propositions, bit p for proposition p.
+   equations  one per variable: operator + 256 x first + 65536 x second + 16777216 x (2 x block + kind).
+   values     one per pair, 0 or 1; the pair of state s and variable x lies at x x states + s.
+   marks      one per pair: 0 never turned, 1 shifted and stayed, 2 shifted and came back, 3 turned by settling only.
+   moves      one per move, ascending: 65536 x source + 1024 x action + target. Its length is the room for moves, at
+              most 1,024 of which are used; places that a batch frees at the end become 0. */
+#ifndef HUEPAXOCHI_H
+#define HUEPAXOCHI_H
+
+#include <stddef.h>
+#include <stdint.h>
+
+#ifdef __cplusplus
+extern "C" {
+#endif
+
+/* The most that any model within the limits needs of each room. */
+enum {
+    HUEPAXOCHI_SESSION = 7,
+    HUEPAXOCHI_LABELS = 256,
+    HUEPAXOCHI_EQUATIONS = 32,
+    HUEPAXOCHI_PAIRS = 8192,
+    HUEPAXOCHI_MOVES = 1024,
+    HUEPAXOCHI_REPORT = 3
+};
+
+/* The two halves of an answer. */
+static inline uint32_t huepaxochi_number(uint64_t answer) { return (uint32_t)answer; }
+static inline uint32_t huepaxochi_told(uint64_t answer) { return (uint32_t)(answer >> 32); }
+
+/* Reads a model, finds the value of every pair, clears the marks and writes the session. What the rooms held before does not
+   matter. Accepted, the high 32 bits are 0. */
+uint64_t huepaxochi_load(const uint8_t *bytes, size_t bytes_len, uint32_t *session, size_t session_len, uint32_t *labels,
+                         size_t labels_len, uint32_t *equations, size_t equations_len, uint8_t *values, size_t values_len,
+                         uint8_t *marks, size_t marks_len, uint32_t *moves, size_t moves_len);
+
+/* Applies a batch of inserts and deletes: moves, values, marks and session follow. Accepted, the high 32 bits are 0 and the
+   report is: shift visits, settle visits, net change in the number of true pairs. */
+uint64_t huepaxochi_batch(uint32_t *session, size_t session_len, const uint8_t *bytes, size_t bytes_len, const uint32_t *labels,
+                          size_t labels_len, const uint32_t *equations, size_t equations_len, uint8_t *values,
+                          size_t values_len, uint8_t *marks, size_t marks_len, uint32_t *moves, size_t moves_len,
+                          int64_t *report, size_t report_len);
+
+/* Writes the model that the session holds, as load reads it, into the front of out. Accepted, the high 32 bits are the number
+   of bytes written. */
+uint64_t huepaxochi_write(const uint32_t *session, size_t session_len, const uint32_t *labels, size_t labels_len,
+                          const uint32_t *equations, size_t equations_len, const uint8_t *values, size_t values_len,
+                          const uint8_t *marks, size_t marks_len, const uint32_t *moves, size_t moves_len, uint8_t *out,
+                          size_t out_len);
+
+/* The value of one pair. Accepted, the high 32 bits are 1 for true and 0 for false. It looks at the sizes and at one byte of
+   the values, no more. */
+uint64_t huepaxochi_ask(const uint32_t *session, size_t session_len, const uint8_t *values, size_t values_len, uint16_t state,
+                        uint8_t variable);
+
+#ifdef __cplusplus
+}
+#endif
+
+#endif

@@ -1,0 +1,199 @@
+//! The proved checker for Rust: a [`Checker`] owns the rooms that the four proved calls are lent.
+//!
+//! ```
+//! use huepaxochi::{Checker, State, Variable};
+//!
+//! let model = [1, 2, 0, 1, 0, 1, 1, 3, 1, 1, 4, 6, 0, 0, 6];
+//! let mut checker = Checker::new();
+//! checker.load(&model).unwrap();
+//! assert_eq!(checker.ask(State(0), Variable(0)), Ok(false));
+//! let report = checker.batch(&[7, 0, 0, 0, 0, 8, 0, 0, 0, 0, 0, 6]).unwrap();
+//! assert_eq!((report.shift_visits, report.settle_visits, report.net), (1, 0, 1));
+//! assert_eq!(checker.ask(State(0), Variable(0)), Ok(true));
+//! assert_eq!(checker.load(&[9]).unwrap_err().number, 1);
+//! ```
+
+mod ffi;
+
+/// A state, by its number.
+#[derive(Clone, Copy, Debug, PartialEq, Eq)]
+pub struct State(pub u16);
+
+/// A variable, by its number.
+#[derive(Clone, Copy, Debug, PartialEq, Eq)]
+pub struct Variable(pub u8);
+
+/// Why a call was refused: document 01's number, 1 to 13, and the place in the bytes.
+#[derive(Clone, Copy, Debug, PartialEq, Eq)]
+pub struct Refusal {
+    pub number: u32,
+    pub place: u32,
+}
+
+impl std::fmt::Display for Refusal {
+    fn fmt(&self, f: &mut std::fmt::Formatter<'_>) -> std::fmt::Result {
+        write!(f, "refused {} at {}", self.number, self.place)
+    }
+}
+
+impl std::error::Error for Refusal {}
+
+/// What an accepted batch came to: leanings on shifted and on settled pairs, and the change in the number of true pairs.
+#[derive(Clone, Copy, Debug, PartialEq, Eq)]
+pub struct Report {
+    pub shift_visits: i64,
+    pub settle_visits: i64,
+    pub net: i64,
+}
+
+/// How long each room is.
+#[derive(Clone, Copy, Debug, PartialEq, Eq)]
+pub struct Lengths {
+    pub labels: usize,
+    pub equations: usize,
+    pub values: usize,
+    pub marks: usize,
+    pub moves: usize,
+}
+
+impl Lengths {
+    /// The most that any model within the limits needs.
+    pub const MOST: Lengths = Lengths {
+        labels: 256,
+        equations: 32,
+        values: 8192,
+        marks: 8192,
+        moves: 1024,
+    };
+}
+
+/// How many numbers a session and a report are.
+const SESSION: usize = 7;
+const REPORT: usize = 3;
+
+/// The most bytes that a model within the limits is spelled with.
+const MOST_BYTES: usize = 8 + 7 * 256 + 3 * 8 + 4 * 32 + 6 * 1024;
+
+/// A session with its rooms. A refusal leaves all of them as they were.
+#[derive(Clone, Debug, PartialEq, Eq)]
+pub struct Checker {
+    session: Vec<u32>,
+    labels: Vec<u32>,
+    equations: Vec<u32>,
+    values: Vec<u8>,
+    marks: Vec<u8>,
+    moves: Vec<u32>,
+}
+
+/// What an answer's high half tells where its low half is 0, else the refusal.
+fn told(answer: u64) -> Result<u32, Refusal> {
+    let (number, told) = (answer as u32, (answer >> 32) as u32);
+    if number == 0 {
+        Ok(told)
+    } else {
+        Err(Refusal {
+            number,
+            place: told,
+        })
+    }
+}
+
+impl Checker {
+    /// A checker with room for any model within the limits. It holds no model yet: all but `load` is refused with 12.
+    pub fn new() -> Checker {
+        Checker::with_rooms(Lengths::MOST)
+    }
+
+    /// A checker whose rooms have these lengths.
+    pub fn with_rooms(lengths: Lengths) -> Checker {
+        Checker {
+            session: vec![0; SESSION],
+            labels: vec![0; lengths.labels],
+            equations: vec![0; lengths.equations],
+            values: vec![0; lengths.values],
+            marks: vec![0; lengths.marks],
+            moves: vec![0; lengths.moves],
+        }
+    }
+
+    /// Reads a model and finds the value of every pair.
+    pub fn load(&mut self, bytes: &[u8]) -> Result<(), Refusal> {
+        told(ffi::load(
+            bytes,
+            &mut self.session,
+            &mut self.labels,
+            &mut self.equations,
+            &mut self.values,
+            &mut self.marks,
+            &mut self.moves,
+        ))
+        .map(|_| ())
+    }
+
+    /// Applies a batch of inserts and deletes.
+    pub fn batch(&mut self, bytes: &[u8]) -> Result<Report, Refusal> {
+        let mut report = [0; REPORT];
+        told(ffi::batch(
+            &mut self.session,
+            bytes,
+            &self.labels,
+            &self.equations,
+            &mut self.values,
+            &mut self.marks,
+            &mut self.moves,
+            &mut report,
+        ))?;
+        let [shift_visits, settle_visits, net] = report;
+        Ok(Report {
+            shift_visits,
+            settle_visits,
+            net,
+        })
+    }
+
+    /// The bytes of the model that the session holds, as `load` reads them.
+    pub fn write(&self) -> Result<Vec<u8>, Refusal> {
+        let mut out = vec![0; MOST_BYTES];
+        let n = self.write_into(&mut out)?;
+        out.truncate(n);
+        Ok(out)
+    }
+
+    /// The same into a room of the caller's; the answer is how many bytes were written.
+    pub fn write_into(&self, out: &mut [u8]) -> Result<usize, Refusal> {
+        told(ffi::write(
+            &self.session,
+            &self.labels,
+            &self.equations,
+            &self.values,
+            &self.marks,
+            &self.moves,
+            out,
+        ))
+        .map(|n| n as usize)
+    }
+
+    /// The value of one pair.
+    pub fn ask(&self, state: State, variable: Variable) -> Result<bool, Refusal> {
+        told(ffi::ask(&self.session, &self.values, state.0, variable.0)).map(|v| v == 1)
+    }
+
+    /// The stamp that the next batch must begin with.
+    pub fn stamp(&self) -> u32 {
+        self.session[6]
+    }
+
+    /// The marks of all pairs; that of state s and variable x is at x × states + s.
+    pub fn marks(&self) -> &[u8] {
+        &self.marks[..self.session[0] as usize * self.session[3] as usize]
+    }
+}
+
+impl Default for Checker {
+    fn default() -> Checker {
+        Checker::new()
+    }
+}
+
+#[cfg(test)]
+mod tests;

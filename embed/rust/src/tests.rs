@@ -1,0 +1,369 @@
+//! The bench cases through the static library, and what the calls leave alone, in rooms longer than needed and filled with
+//! known bytes.
+use super::*;
+
+const G: [u8; 15] = [1, 2, 0, 1, 0, 1, 1, 3, 1, 1, 4, 6, 0, 0, 6];
+
+/// A batch of changes: 8 to insert, 9 to delete, with source, action, target.
+fn changes(stamp: u32, of: &[(u8, u16, u8, u16)]) -> Vec<u8> {
+    let mut bytes = vec![7];
+    bytes.extend(stamp.to_le_bytes());
+    for &(kind, source, action, target) in of {
+        bytes.push(kind);
+        bytes.extend(source.to_le_bytes());
+        bytes.push(action);
+        bytes.extend(target.to_le_bytes());
+    }
+    bytes.push(6);
+    bytes
+}
+
+fn loaded() -> Checker {
+    let mut checker = Checker::new();
+    checker.load(&G).unwrap();
+    checker
+}
+
+fn report(shift_visits: i64, settle_visits: i64, net: i64) -> Result<Report, Refusal> {
+    Ok(Report {
+        shift_visits,
+        settle_visits,
+        net,
+    })
+}
+
+/// Rooms longer than G needs, each place filled with a number that no call writes.
+fn filled() -> Checker {
+    Checker {
+        session: vec![0xa5a5_a5a5; SESSION + 3],
+        labels: vec![0xb6b6_b6b6; 5],
+        equations: vec![0xc7c7_c7c7; 4],
+        values: vec![0xd8; 6],
+        marks: vec![0xe9; 7],
+        moves: vec![0xfafa_fafa; 4],
+    }
+}
+
+#[test]
+fn a_b_c() {
+    let mut checker = loaded();
+    assert_eq!(checker.batch(&changes(0, &[(8, 0, 0, 0)])), report(1, 0, 1));
+    assert_eq!((checker.marks(), checker.stamp()), (&[1, 0][..], 1));
+    assert_eq!(checker.batch(&changes(1, &[(8, 1, 0, 0)])), report(0, 0, 1));
+    assert_eq!((checker.marks(), checker.stamp()), (&[0, 1][..], 65_539));
+    assert_eq!(
+        checker.batch(&changes(65_539, &[(9, 0, 0, 0)])),
+        report(0, 1, -2)
+    );
+    assert_eq!((checker.marks(), checker.stamp()), (&[3, 3][..], 65_538));
+    assert_eq!(checker.ask(State(0), Variable(0)), Ok(false));
+    assert_eq!(checker.ask(State(1), Variable(0)), Ok(false));
+}
+
+#[test]
+fn d() {
+    let mut checker = loaded();
+    assert_eq!(checker.batch(&changes(0, &[(8, 0, 0, 1)])), report(0, 0, 0));
+    assert_eq!((checker.marks(), checker.stamp()), (&[2, 0][..], 258));
+}
+
+#[test]
+fn what_was_written_loads() {
+    let mut checker = loaded();
+    assert_eq!(checker.write().unwrap(), G);
+    checker
+        .batch(&changes(0, &[(8, 0, 0, 0), (8, 1, 0, 0)]))
+        .unwrap();
+    let bytes = checker.write().unwrap();
+    let mut again = Checker::new();
+    again.load(&bytes).unwrap();
+    assert_eq!(again.write().unwrap(), bytes);
+    assert_eq!(again.stamp(), checker.stamp());
+    assert_eq!(again.ask(State(1), Variable(0)), Ok(true));
+}
+
+#[test]
+fn a_refused_load_changes_nothing() {
+    let mut checker = filled();
+    let before = checker.clone();
+    let mut cut = G.to_vec();
+    cut.pop();
+    assert_eq!(
+        checker.load(&cut),
+        Err(Refusal {
+            number: 1,
+            place: 14
+        })
+    );
+    assert_eq!(
+        checker.load(&[]),
+        Err(Refusal {
+            number: 1,
+            place: 0
+        })
+    );
+    let mut more = G.to_vec();
+    more.push(0);
+    assert_eq!(
+        checker.load(&more),
+        Err(Refusal {
+            number: 2,
+            place: 15
+        })
+    );
+    let mut late = G;
+    late[13] = 1;
+    assert_eq!(
+        checker.load(&late),
+        Err(Refusal {
+            number: 4,
+            place: 10
+        })
+    );
+    assert_eq!(checker, before);
+}
+
+#[test]
+fn an_accepted_load_leaves_the_places_past_it() {
+    let mut checker = filled();
+    let before = checker.clone();
+    checker.load(&G).unwrap();
+    assert_eq!(checker.session[..7], [2, 1, 0, 1, 1, 0, 0]);
+    assert_eq!(checker.session[7..], before.session[7..]);
+    assert_eq!(checker.labels[..2], [0, 0]);
+    assert_eq!(checker.labels[2..], before.labels[2..]);
+    assert_eq!(checker.equations[1..], before.equations[1..]);
+    assert_eq!(checker.values[..2], [0, 0]);
+    assert_eq!(checker.values[2..], before.values[2..]);
+    assert_eq!(checker.marks[..2], [0, 0]);
+    assert_eq!(checker.marks[2..], before.marks[2..]);
+    assert_eq!(checker.moves, before.moves);
+}
+
+#[test]
+fn a_refused_batch_changes_nothing() {
+    let mut checker = filled();
+    checker.load(&G).unwrap();
+    checker.batch(&changes(0, &[(8, 0, 0, 0)])).unwrap();
+    let before = checker.clone();
+    let mut out = [-7i64; 5];
+    for (bytes, number, place) in [
+        (changes(0, &[(8, 1, 0, 0)]), 11, 0),
+        (changes(1, &[(8, 0, 0, 0)]), 7, 5),
+        (changes(1, &[(9, 1, 0, 0)]), 8, 5),
+        (changes(1, &[(8, 1, 0, 0), (9, 1, 0, 0)]), 9, 11),
+        (changes(1, &[(8, 2, 0, 0)]), 4, 5),
+        (vec![7, 1], 1, 0),
+        (
+            changes(1, &[(8, 0, 0, 1), (8, 1, 0, 0), (8, 1, 0, 1)]),
+            0,
+            0,
+        ),
+    ] {
+        let mut tried = checker.clone();
+        if number == 0 {
+            tried.moves.truncate(3);
+        }
+        let rooms = tried.clone();
+        let answer = ffi::batch(
+            &mut tried.session,
+            &bytes,
+            &tried.labels,
+            &tried.equations,
+            &mut tried.values,
+            &mut tried.marks,
+            &mut tried.moves,
+            &mut out,
+        );
+        let number = if number == 0 { 10 } else { number };
+        assert_eq!(told(answer), Err(Refusal { number, place }));
+        assert_eq!(tried, rooms);
+        assert_eq!(out, [-7; 5]);
+    }
+    assert_eq!(checker, before);
+}
+
+#[test]
+fn an_accepted_batch_leaves_the_places_past_it() {
+    let mut checker = filled();
+    checker.load(&G).unwrap();
+    let before = checker.clone();
+    let mut out = [-7i64; 5];
+    let bytes = changes(0, &[(8, 0, 0, 0), (8, 1, 0, 0)]);
+    let answer = ffi::batch(
+        &mut checker.session,
+        &bytes,
+        &checker.labels,
+        &checker.equations,
+        &mut checker.values,
+        &mut checker.marks,
+        &mut checker.moves,
+        &mut out,
+    );
+    assert_eq!(answer, 0);
+    assert_eq!(out[..3], [2, 0, 2]);
+    assert_eq!(out[3..], [-7, -7]);
+    assert_eq!(checker.session[..7], [2, 1, 0, 1, 1, 2, 65_539]);
+    assert_eq!(checker.session[7..], before.session[7..]);
+    assert_eq!(
+        (&checker.labels, &checker.equations),
+        (&before.labels, &before.equations)
+    );
+    assert_eq!(checker.values[..2], [1, 1]);
+    assert_eq!(checker.values[2..], before.values[2..]);
+    assert_eq!(checker.marks[..2], [1, 1]);
+    assert_eq!(checker.marks[2..], before.marks[2..]);
+    assert_eq!(checker.moves[..2], [0, 65_536]);
+    assert_eq!(checker.moves[2..], before.moves[2..]);
+    checker.batch(&changes(65_539, &[(9, 0, 0, 0)])).unwrap();
+    assert_eq!(checker.moves[..2], [65_536, 0]);
+    assert_eq!(checker.moves[2..], before.moves[2..]);
+}
+
+#[test]
+fn a_short_room_is_13_before_all_else() {
+    let mut checker = loaded();
+    let short = 13;
+    let mut out = [-7i64; 3];
+    for n in 0..SESSION {
+        let mut session = checker.session[..n].to_vec();
+        let mut rooms = filled();
+        assert_eq!(
+            ffi::load(
+                &[],
+                &mut session,
+                &mut rooms.labels,
+                &mut rooms.equations,
+                &mut rooms.values,
+                &mut rooms.marks,
+                &mut rooms.moves
+            ),
+            short
+        );
+        assert_eq!(
+            ffi::batch(
+                &mut session,
+                &[],
+                &rooms.labels,
+                &rooms.equations,
+                &mut rooms.values,
+                &mut rooms.marks,
+                &mut rooms.moves,
+                &mut out
+            ),
+            short
+        );
+        assert_eq!(
+            ffi::write(
+                &session,
+                &rooms.labels,
+                &rooms.equations,
+                &rooms.values,
+                &rooms.marks,
+                &rooms.moves,
+                &mut []
+            ),
+            short
+        );
+        assert_eq!(ffi::ask(&session, &[], 9, 9), short);
+        assert_eq!(session, checker.session[..n]);
+        assert_eq!(rooms, filled());
+        assert_eq!(out, [-7; 3]);
+    }
+    let before = checker.clone();
+    let bytes = changes(0, &[(8, 0, 0, 0)]);
+    for n in 0..REPORT {
+        let answer = ffi::batch(
+            &mut checker.session,
+            &bytes,
+            &checker.labels,
+            &checker.equations,
+            &mut checker.values,
+            &mut checker.marks,
+            &mut checker.moves,
+            &mut out[..n],
+        );
+        assert_eq!(answer, short);
+    }
+    assert_eq!(checker, before);
+    assert_eq!(out, [-7; 3]);
+    let mut narrow = Checker::with_rooms(Lengths {
+        values: 1,
+        ..Lengths::MOST
+    });
+    assert_eq!(
+        narrow.load(&G),
+        Err(Refusal {
+            number: 13,
+            place: 0
+        })
+    );
+    assert_eq!(
+        before.write_into(&mut [0; 14]),
+        Err(Refusal {
+            number: 13,
+            place: 0
+        })
+    );
+}
+
+#[test]
+fn a_number_too_large_for_its_kind_is_12() {
+    let checker = loaded();
+    let not_a_model = Err(Refusal {
+        number: 12,
+        place: 0,
+    });
+    for at in 0..5 {
+        for add in [1 << 8, 1 << 16, 1 << 24, u32::MAX - 255] {
+            let mut tried = checker.clone();
+            tried.session[at] += add;
+            if at == 0 && add == 256 {
+                tried.session[at] = 257;
+            }
+            assert_eq!(tried.ask(State(0), Variable(0)), not_a_model);
+            assert_eq!(
+                tried.write(),
+                Err(Refusal {
+                    number: 12,
+                    place: 0
+                })
+            );
+            assert_eq!(
+                tried.batch(&changes(0, &[])),
+                Err(Refusal {
+                    number: 12,
+                    place: 0
+                })
+            );
+        }
+    }
+}
+
+#[test]
+fn a_question_is_refused_by_its_numbers_and_its_byte() {
+    let mut checker = loaded();
+    assert_eq!(
+        checker.ask(State(2), Variable(0)),
+        Err(Refusal {
+            number: 4,
+            place: 0
+        })
+    );
+    assert_eq!(
+        checker.ask(State(0), Variable(1)),
+        Err(Refusal {
+            number: 4,
+            place: 0
+        })
+    );
+    checker.values[1] = 2;
+    assert_eq!(
+        checker.ask(State(1), Variable(0)),
+        Err(Refusal {
+            number: 12,
+            place: 0
+        })
+    );
+    assert_eq!(checker.ask(State(0), Variable(0)), Ok(false));
+}
