@@ -1,0 +1,4 @@
+pub mod Lines
+pub mod DecimalLaws
+pub mod Copies
+pub mod Signs
