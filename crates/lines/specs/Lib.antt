@@ -2,3 +2,4 @@ pub mod Lines
 pub mod DecimalLaws
 pub mod Copies
 pub mod Signs
+pub mod Lengths
