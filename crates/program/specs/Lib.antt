@@ -1,2 +1,5 @@
 pub mod Program
-pub mod ProgramLaws
+pub mod ShortLines
+pub mod Steps
+pub mod Running
+pub mod Whole

@@ -38,8 +38,12 @@ abbrev pub afterLoad : Outcome Session → Rooms → List ℕ → List ℕ
 afterLoad (refused n p) l rest = []
 afterLoad (accepted s) l rest = batchesPrint (allPieces rest) s l
 
--- What the program prints for the bytes that it has read: the first part is the model, and all others are batches.
-unfoldable pub printed : List ℕ → List ℕ
-printed s =
-    let left = load freshRooms (take (cut s) s) in
+-- What is printed for the bytes by a session in these rooms: the first part is the model, and all others are batches.
+unfoldable pub printedIn : Rooms → List ℕ → List ℕ
+printedIn l s =
+    let left = load l (take (cut s) s) in
     loadPrints (left .answer) (left .rooms .values) ++ afterLoad (left .answer) (left .rooms) (drop (cut s) s)
+
+-- What the program prints for the bytes that it has read.
+unfoldable pub printed : List ℕ → List ℕ
+printed s = printedIn freshRooms s
