@@ -52,6 +52,6 @@ pub refused-few : (r p k : ℕ) → r < 10 ^ 2 → 0 < k → p < 10 ^ k → leng
 unfolding refusedLine
 refused-few r p k f g h =
     let e = both (refused-text ++ decimal r) ((at-text ++ decimal p) ++ feed-text) 10 (4 + k + 1)
-      (after-text refused-text 8 2 r (omega arith) (omega arith) f)
-      (both (at-text ++ decimal p) feed-text (4 + k) 1 (after-text at-text 4 k p (omega arith) g h) (omega arith)) in
+    (after-text refused-text 8 2 r (omega arith) (omega arith) f)
+    (both (at-text ++ decimal p) feed-text (4 + k) 1 (after-text at-text 4 k p (omega arith) g h) (omega arith)) in
     omega arith

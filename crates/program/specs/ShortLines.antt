@@ -110,6 +110,7 @@ short-batch z w ok y l = go (readBatch z w) refl (placed)
   where
     placed : Placed 5 (readBatch z w)
     placed = read-placed z w 5 (omega arith)
+
     go : (o : Outcome Batch) → readBatch z w ≡ o → Placed 5 o → Short o
     go (refused n p) e h = omega arith
     go (accepted b) e h =

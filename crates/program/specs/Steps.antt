@@ -42,7 +42,7 @@ pub record Stepped (s : Session) (l : Rooms) (w out : List ℕ) (at : ℕ) (r : 
 -- The parts of what was left: this one's line, then those of what is left after it.
 pub batches-more : (s : Session) (l : Rooms) (w : List ℕ) → 0 < length w
     → batchesFrom s l w ≡ batchPrints (batch s l (take (cut w) w) .answer) (batch s l (take (cut w) w) .rooms .values)
-      ++ batchesFrom (sessionAfter s (batch s l (take (cut w) w) .answer)) (batch s l (take (cut w) w) .rooms) (drop (cut w) w)
+    ++ batchesFrom (sessionAfter s (batch s l (take (cut w) w) .answer)) (batch s l (take (cut w) w) .rooms) (drop (cut w) w)
 unfolding batchesFrom batchesPrint
 batches-more s l w h = ap (λ (ps : List (List ℕ)). batchesPrint ps s l) (pieces-more w h)
 
