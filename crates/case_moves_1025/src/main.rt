@@ -1,4 +1,0 @@
-// The program on bench case G2: the 1,025th move gives 10 at its record.
-fn main() {
-    program::check_input();
-}

@@ -1,4 +1,0 @@
-// The program on bench case G1: 257 states give 3.
-fn main() {
-    program::check_input();
-}
