@@ -1,5 +1,5 @@
 -- Each answer's line fits into 96 bytes. Assumes nothing.
-use mathlib.Core.Path.{_≡_, refl}
+use mathlib.Core.Path.{_≡_}
 use mathlib.Core.List.{List}
 use Prim.Native.Nat.{ℕ, _+_, _*_, _^_, _≤_, _<_}
 use native.Mathlib.Nat.{mul-le-mul}
@@ -31,7 +31,9 @@ pairs-few z f g =
     let h : v * s ≤ 255 * 65535 = mul-le-mul {n₂ = 255} {m₂ = 65535} (omega arith) (omega arith) in
     omega arith
 
+-- A line that was written with the numbers that the code has.
 module _ (out after : List ℕ) (at r : ℕ) where
+  -- A refusal's line.
   pub refusal-wrote : (why : Refusal) (k place : ℕ) → k ≡ numberOf why → k ≤ 13 → place < 18446744073709551616 → Wrote out at (refusedLine k place) after r
       → Line out at (refusedLine (numberOf why) place) after r
   refusal-wrote why k place e h p w =
@@ -40,12 +42,14 @@ module _ (out after : List ℕ) (at r : ℕ) where
 
   -- How many pairs are true, as it was counted.
   module _ (t n : ℕ) (values : List ℕ) (b : t ≤ n) (e : t ≡ trues n (valueAt values)) where
+    -- An accepted load's line.
     pub session-wrote : (s : Session) → n ≡ pairsOf (s .sizes) → pairsOf (s .sizes) < 10 ^ 8 → s .stamp < 4294967296
         → Wrote out at (loadedLine t n (s .stamp)) after r → Line out at (loadPrints (accepted s) values) after r
     session-wrote s f p st w =
         let l = loaded-few t n (s .stamp) (omega arith) (omega arith) (omega arith) in
         (rw (e, f) at w, omega (arith, w .1))
 
+    -- An accepted batch's line.
     pub report-wrote : (s : Report) → n ≡ pairsOf (s .session .sizes) → pairsOf (s .session .sizes) < 10 ^ 8 → s .session .stamp < 4294967296
         → s .visits .shift < 4294967296 → s .visits .settle < 4294967296 → mag (s .net) < 2147483648
         → Wrote out at (batchLine (s .net) (s .visits .shift) (s .visits .settle) t n (s .session .stamp)) after r

@@ -1,7 +1,7 @@
 -- The cut, record by record, and what is left after it. Assumes nothing.
-use mathlib.Core.Path.{_≡_, refl, sym, ap, _∙_}
+use mathlib.Core.Path.{_≡_, refl, ap}
 use mathlib.Core.Logic.{inl, inr}
-use mathlib.Core.Bool.{true, false, cond, _&&_}
+use mathlib.Core.Bool.{true, false, _&&_}
 use mathlib.Core.List.{List, [], _∷_}
 use Prim.Native.Nat.{ℕ, zero, suc, _+_, _-_, _≤_, _<_}
 use native.Mathlib.Omega.{arith}
@@ -11,12 +11,11 @@ use lib.Dec.{eqb, ltb, leb}
 use lib.ListN.{length, take, drop, length-drop}
 use Rattle.lists.specs.Tests.{tell}
 use Rattle.rules.proofs.Record.{the-type}
-use Rattle.rules.specs.Records.{Rec, Parts, ends, broken, part, partsFrom, parts, numbersOf, known, bodyOf, widths}
+use Rattle.rules.specs.Records.{ends, part, partsFrom, parts, numbersOf, known, bodyOf, widths}
 use Rattle.rules.specs.declared.Record.{Record}
 use Rattle.rules.specs.declared.Record.the-variants as R
 use Rattle.wire.specs.PartsAt.{partsAt, PartsBy, parts-at}
 use Rattle.wire.specs.Places.{recordAt}
-use Rattle.wire.specs.declared.Read.{Read}
 use Rattle.wire.specs.declared.Read.the-variants.{Got, Broken}
 use Rattle.cuts.specs.Cut.{endAfter, cut, pieces, allPieces}
 use Rattle.cuts.specs.declared.Passed.{Passed}
@@ -52,16 +51,20 @@ passes-broken s at e =
 
 -- A record stands there, and it is the end record, or another.
 module _ (s : List ℕ) (at n : ℕ) (r : Record) (e : recordAt s at ≡ Got r n) where
+  -- What stands there, by places.
   at-record : PartsBy s at (Got r n)
   at-record = rw e at (parts-at s at)
 
+  -- The place lies within the bytes.
   pub at-inside : at < length s
   at-inside = let h = at-record in omega arith
 
+  -- The part ends after it.
   pub passes-end : eqb (numbersOf r .kind) 6 ≡ true → Passes s at (Over (at + 1))
   unfolding endFrom endAfter
   passes-end t = let k : suc at ≡ at + 1 = omega arith in rw (at-record .2, t) k
 
+  -- The part goes on after it.
   pub passes-on : eqb (numbersOf r .kind) 6 ≡ false → Passes s at (On n)
   unfolding endFrom endAfter
   passes-on t = (at-record .0, at-record .1, rw (at-record .2, t) refl)
@@ -77,6 +80,7 @@ record Inside (n p e : ℕ) (s : List ℕ) : Type 0 where
   least : p ≤ e
   more : 0 < length s → p < e
 
+-- The walk never leaves the bytes.
 end-inside : (n skip p : ℕ) (s : List ℕ) → p + length s ≡ n → Inside n p (endAfter n (partsFrom skip p s)) s
 unfolding endAfter partsFrom
 end-inside n zero p [] h = record { most = omega arith; least = omega arith; more = λ l. absurd (omega arith) }
@@ -96,10 +100,12 @@ end-inside n zero p (k ∷ s) h =
       ]
     ]
 
+-- A part has no more bytes than there are.
 pub cut-most : (s : List ℕ) → cut s ≤ length s
 unfolding cut
 cut-most s = end-inside (length s) 0 0 s (omega arith) .most
 
+-- Where there is a byte, the part has one.
 pub cut-more : (s : List ℕ) → 0 < length s → 0 < cut s
 unfolding cut
 cut-more s h = end-inside (length s) 0 0 s (omega arith) .more h

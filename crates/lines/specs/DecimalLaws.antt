@@ -2,8 +2,8 @@
 use mathlib.Core.Path.{_≡_, refl}
 use mathlib.Core.Logic.{inl, inr}
 use mathlib.Core.Bool.{true}
-use mathlib.Core.List.{List, [], _∷_, _++_}
-use Prim.Native.Nat.{ℕ, zero, suc, _+_, _-_, _*_, _/_, _%_, _^_, _≤_, _<_}
+use mathlib.Core.List.{[], _∷_}
+use Prim.Native.Nat.{ℕ, zero, suc, _+_, _-_, _/_, _%_, _^_, _≤_, _<_}
 use native.Mathlib.Nat.{pow-suc}
 use native.Mathlib.Omega.{arith}
 use lib.Dec.{ltb}
@@ -42,6 +42,7 @@ digits-are (suc most) (suc (suc j)) n h f =
     let i = digits-are most (suc j) (n / 10) (omega arith) (omega arith, small, λ l. rw z (omega arith)) in
     rw (ltb-no n 10 .1 t, glyph-is n, ← i) refl
 
+-- They are its decimal digits.
 pub decimal-is : (k n : ℕ) → Fewest 10 1 n k → digits 10 k n ≡ decimal n
 unfolding decimal
 decimal-is k n f = digits-are (suc n) k n (omega arith) f
@@ -57,6 +58,7 @@ digits-few (suc most) (suc (suc j)) n h l =
     let k = length-append (digitsBy most (n / 10)) ((48 + n % 10) ∷ []) in
     elim (tell true (ltb n 10)) [ inl t ↦ rw t (omega arith) | inr t ↦ rw (t, k) (omega arith) ]
 
+-- And so for all of its digits.
 pub decimal-few : (k n : ℕ) → 0 < k → n < 10 ^ k → length (decimal n) ≤ k
 unfolding decimal
 decimal-few k n h l = digits-few (suc n) k n h l

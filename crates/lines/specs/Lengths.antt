@@ -21,6 +21,7 @@ signed-few : (z : ℤ) → mag z < 2147483648 → length (signed z) ≤ 11
 signed-few (pos n) h = let e = decimal-few 10 n (omega arith) (omega arith) in omega arith
 signed-few (negsuc n) h = let e = decimal-few 10 (suc n) (omega arith) (omega arith) in omega arith
 
+-- The end of a line: pairs of eight digits, a stamp of ten.
 totals-few : (t n s : ℕ) → t < 10 ^ 8 → n < 10 ^ 8 → s < 10 ^ 10 → length (totals t n s) ≤ 43
 unfolding totals
 totals-few t n s f g h =
@@ -30,10 +31,12 @@ totals-few t n s f g h =
     (after-text of-text 4 8 n (omega arith) (omega arith) g)
     (both (stamp-text ++ decimal s) feed-text 17 1 (after-text stamp-text 7 10 s (omega arith) (omega arith) h) (omega arith)))
 
+-- The line of a load.
 pub loaded-few : (t n s : ℕ) → t < 10 ^ 8 → n < 10 ^ 8 → s < 10 ^ 10 → length (loadedLine t n s) ≤ 50
 unfolding loadedLine
 loaded-few t n s f g h = both loaded-text (totals t n s) 7 43 (omega arith) (totals-few t n s f g h)
 
+-- The line of a batch.
 pub batch-few : (d : ℤ) (a b t n s : ℕ) → mag d < 2147483648 → a < 10 ^ 10 → b < 10 ^ 10 → t < 10 ^ 8 → n < 10 ^ 8 → s < 10 ^ 10
     → length (batchLine d a b t n s) ≤ 94
 unfolding batchLine

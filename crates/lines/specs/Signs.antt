@@ -1,8 +1,8 @@
 -- A number that may lie below zero, widened, turned round where it does, and written without its sign. Assumes nothing.
-use mathlib.Core.Path.{_≡_, refl, sym, ap, _∙_}
+use mathlib.Core.Path.{_≡_, refl, sym, _∙_}
 use mathlib.Core.Bool.{true, false, false≢true}
-use mathlib.Core.List.{List, [], _∷_, _++_}
-use Prim.Native.Nat.{ℕ, zero, suc, _<_}
+use mathlib.Core.List.{_∷_}
+use Prim.Native.Nat.{zero, suc, _<_}
 use native.Mathlib.Nat.{zero-add}
 use native.Mathlib.Omega.{arith}
 use lib.Dec.{T, ltb}
@@ -41,6 +41,7 @@ pub record Below (z : ℤ) : Type 0 where
   pub casts : T (nonNeg (turned z)) × Fits w64 (natAbs (turned z))
   pub text : 45 ∷ decimal (natAbs (turned z)) ≡ signed z
 
+-- A number below zero is all that.
 pub below : (z : ℤ) → mag z < 2147483648 → ltZ (widened z) (pos 0) ≡ true → Below z
 below (pos n) f h = let g : ltb n 0 ≡ true = rw (widened-is (pos n) f) at h in let l = ltb-out n 0 g in absurd (omega arith)
 below (negsuc n) f h =
@@ -54,6 +55,7 @@ pub record Above (z : ℤ) : Type 0 where
   pub casts : T (nonNeg (widened z)) × Fits w64 (natAbs (widened z))
   pub text : decimal (natAbs (widened z)) ≡ signed z
 
+-- A number that is not is that.
 pub above : (z : ℤ) → mag z < 2147483648 → ltZ (widened z) (pos 0) ≡ false → Above z
 above (pos n) f h =
     let e = widened-is (pos n) f in

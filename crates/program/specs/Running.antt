@@ -1,6 +1,6 @@
 -- The loop over the batches: what it keeps, that it begins, goes on and ends. Assumes nothing.
-use mathlib.Core.Path.{_≡_, refl, sym, ap, _∙_}
-use mathlib.Core.List.{List, [], _++_}
+use mathlib.Core.Path.{_≡_, sym, ap, _∙_}
+use mathlib.Core.List.{List}
 use Prim.Native.Nat.{ℕ, _+_, _-_, _*_, _≤_, _<_}
 use native.Mathlib.Omega.{arith}
 use lib.ListN.{length, take, drop, length-drop}
@@ -29,6 +29,7 @@ module _ (input : List ℕ) (s₀ : Session) (l₀ : Rooms) (start place : ℕ) 
     pub bound : at ≤ 16 + 16 * from
     pub goes : (o : List ℕ) (k : ℕ) → Wrote out at (batchesFrom s l (drop from input)) o k → Wrote out₀ place (batchesFrom s₀ l₀ (drop start input)) o k
 
+  -- It stands so at the start.
   pub begins : start ≤ length input → place ≤ 16 + 16 * start → Running s₀ l₀ start place out₀
   begins h g = record { inside = h; bound = g; goes = λ o k w. w }
 
@@ -44,6 +45,7 @@ module _ (input : List ℕ) (s₀ : Session) (l₀ : Rooms) (start place : ℕ) 
           let t = st .taken in
           (omega arith, omega arith)
 
+      -- And it stands so after the next part.
       pub goes-on : Running (r .session) after (from + r .taken) (r .at) written
       goes-on =
           let w = drop from input in

@@ -1,17 +1,16 @@
 -- One part of the run, and the parts that are left. Assumes nothing.
-use mathlib.Core.Path.{_≡_, refl, sym, ap, _∙_}
+use mathlib.Core.Path.{_≡_, sym, ap, _∙_}
 use mathlib.Core.Logic.{inl, inr}
 use mathlib.Core.Bool.{true}
 use mathlib.Core.List.{List, [], _∷_, _++_}
 use Prim.Native.Nat.{ℕ, zero, suc, _+_, _*_, _≤_, _<_}
 use native.Mathlib.Omega.{arith}
 use lib.Dec.{ltb}
-use lib.ListN.{length, take, drop, length-drop}
-use lib.Seq.{drop-drop, length-take-le}
+use lib.ListN.{length, take, drop}
+use lib.Seq.{length-take-le}
 use Rattle.lists.specs.Tests.{tell, ltb-is, ltb-no}
 use Rattle.rules.specs.Answers.{updatedSays}
 use Rattle.rules.specs.Calls.{Left, batch}
-use Rattle.rules.specs.Records.{Outcome}
 use Rattle.rules.specs.Rooms.{Rooms}
 use Rattle.rules.specs.declared.Report.{Report}
 use Rattle.rules.specs.declared.Session.{Session}
@@ -19,7 +18,6 @@ use Rattle.rules.specs.declared.Updated.{Updated}
 use Rattle.laws.specs.RecordLaws.{AreBytes}
 use Rattle.calls.specs.BatchLaws.{updated}
 use Rattle.writer.specs.Spelled.{Wrote}
-use Rattle.writer.specs.SpelledLaws.{wrote-more, wrote-none}
 use Rattle.cuts.specs.Cut.{cut, allPieces}
 use Rattle.cuts.specs.CutLaws.{cut-most, cut-more, pieces-more, pieces-none}
 use Rattle.answers.specs.AnswerLines.{batchPrints}

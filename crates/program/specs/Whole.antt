@@ -1,9 +1,9 @@
 -- The whole run: the line of the load, and then the batches. Assumes nothing.
-use mathlib.Core.Path.{_≡_, refl, sym, ap, _∙_}
+use mathlib.Core.Path.{_≡_, sym, ap, _∙_}
 use mathlib.Core.Logic.{inl, inr}
 use mathlib.Core.Bool.{true}
-use mathlib.Core.List.{List, [], _∷_, _++_, append-nil}
-use Prim.Native.Nat.{ℕ, _+_, _*_, _≤_, _<_}
+use mathlib.Core.List.{List, append-nil}
+use Prim.Native.Nat.{ℕ, _+_, _*_, _≤_}
 use native.Mathlib.Omega.{arith}
 use lib.Dec.{ltb}
 use lib.ListN.{length, take, drop}
@@ -13,7 +13,7 @@ use Rattle.lists.specs.Lists.{fill}
 use Rattle.lists.specs.Tests.{tell, ltb-is, ltb-no}
 use Rattle.rules.specs.Answers.{numberOf, loadedSays}
 use Rattle.rules.specs.Calls.{Left, load}
-use Rattle.rules.specs.Records.{Outcome, refused, accepted}
+use Rattle.rules.specs.Records.{refused, accepted}
 use Rattle.rules.specs.Rooms.{Rooms}
 use Rattle.rules.specs.declared.Loaded.{Loaded}
 use Rattle.rules.specs.declared.Loaded.the-variants as L
@@ -23,7 +23,7 @@ use Rattle.laws.specs.RecordLaws.{AreBytes}
 use Rattle.loads.specs.LoadLaws.{loaded}
 use Rattle.writer.specs.Spelled.{Wrote}
 use Rattle.writer.specs.SpelledLaws.{wrote-more, wrote-fills}
-use Rattle.cuts.specs.Cut.{cut, allPieces}
+use Rattle.cuts.specs.Cut.{cut}
 use Rattle.cuts.specs.CutLaws.{cut-most}
 use Rattle.answers.specs.AnswerLines.{loadPrints}
 use Rattle.program.specs.Program.{freshRooms, afterLoad, printedIn, printed}
@@ -34,6 +34,7 @@ use Rattle.program.specs.Steps.{batchesFrom, bytes-take}
 module _ (l : Rooms) (w : List ℕ) (y : AreBytes w) (k : ℕ) (cuts : k ≡ cut w) (said : Loaded) (after : Rooms)
     (e : loaded (loadedSays said) after ≡ load l (take k w)) (out mid : List ℕ) (at : ℕ) (line : Wrote out 0 (loadPrints (loadedSays said) (after .values)) mid at)
     (most : at ≤ 96) where
+  -- The part handed over is the cut.
   loads : loaded (loadedSays said) after ≡ load l (take (cut w) w)
   loads = rw cuts at e
 

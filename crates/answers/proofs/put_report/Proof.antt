@@ -1,5 +1,4 @@
 -- `answers::put_report` meets its contract. Assumes nothing.
-use mathlib.Core.Path.{refl}
 use native.Mathlib.Omega.{arith}
 use Rattle.lines.specs.Signs.{handed}
 use Rattle.answers.specs.AnswerLaws.{pairs-few, report-wrote}

@@ -1,5 +1,4 @@
 -- `answers::put_session` meets its contract. Assumes nothing.
-use mathlib.Core.Path.{refl}
 use native.Mathlib.Omega.{arith}
 use Rattle.answers.specs.AnswerLaws.{pairs-few, session-wrote}
 use borrow.Author.Needs.{needs}
