@@ -59,8 +59,8 @@ pub fn session_of(room: &[u32]) -> Session
 }
 
 // The paper's number for a refusal.
-fn number_of(why: Refusal) -> u32
-    ensures { λ r. ⌜ r ≡ numberOf why ⌝ }
+pub fn number_of(why: Refusal) -> u32
+    ensures { λ r. ⌜ (r ≡ numberOf why) × (r ≤ 13) ⌝ }
 {
     match why {
         Refusal::Broken => 1,

@@ -1,0 +1,5 @@
+pub mod Program
+pub mod ShortLines
+pub mod Steps
+pub mod Running
+pub mod Whole
