@@ -17,7 +17,9 @@ same-length : tie.Need-same-length
 same-length c = search needs
 
 returns : tie.Need-returns
-returns c = let a = c .before .before .before .before .before .before .before .before .before .before .args in c .before .before .insert-all .ensures ∙ ap (λ (k : Kept). insertedAll (changesOf (take (a .count) (a .changes .now))) k) (c .before .before .before .before .before .before .delete-all .ensures)
+returns c =
+    let a = c .before .before .before .before .before .before .before .before .before .before .args in
+    c .before .before .insert-all .ensures ∙ ap (λ (k : Kept). insertedAll (changesOf (take (a .count) (a .changes .now))) k) (c .before .before .before .before .before .before .delete-all .ensures)
 
 pub apply-spec : {M : Type 1} → statement M
 apply-spec = tie.close (tie.spec delete-all-requires insert-all-requires same-length returns)

@@ -21,7 +21,9 @@ least-requires : tie.Need-least-requires Inv-loop μ-loop
 least-requires c κs = search needs
 
 loop-holds : tie.Need-loop-holds Inv-loop μ-loop
-loop-holds c = let a = c .before .before .before .args in (omega arith, refl, rw (changes-over (a .changes .now) (a .count) (c .least .result) (omega arith)))
+loop-holds c =
+    let a = c .before .before .before .args in
+    (omega arith, refl, rw (changes-over (a .changes .now) (a .count) (c .least .result) (omega arith)))
 
 sub-i : tie.Need-sub-i Inv-loop μ-loop
 sub-i c = search needs
@@ -48,7 +50,9 @@ same-length : tie.Need-same-length Inv-loop μ-loop
 same-length c = c .before .loop .inv .1
 
 returns : tie.Need-returns Inv-loop μ-loop
-returns c = let e : c .before .loop .i ≡ 0 = omega arith in rw e at (c .before .loop .inv .2)
+returns c =
+    let e : c .before .loop .i ≡ 0 = omega arith in
+    rw e at (c .before .loop .inv .2)
 
 pub delete-all-spec : {M : Type 1} → statement M
 delete-all-spec =

@@ -12,7 +12,9 @@ use Rattle.applies.proofs.insert_move.Tie as tie
 
 returns : tie.Need-returns
 unfolding insertedInto
-returns c = let a = c .before .before .args in rw (le-ltb (a .n) (length (a .moves .now)) (c .if1 .taken))
+returns c =
+    let a = c .before .before .args in
+    rw (le-ltb (a .n) (length (a .moves .now)) (c .if1 .taken))
 
 passed-requires : tie.Need-passed-requires
 passed-requires c κs = search needs

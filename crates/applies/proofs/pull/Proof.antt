@@ -41,7 +41,10 @@ same-length : tie.Need-same-length Inv-loop μ-loop
 same-length c = c .before .loop .inv .0
 
 returns : tie.Need-returns Inv-loop μ-loop
-returns c = let a = c .before .before .before .args in let s = c .before .loop in sym (pull-over (s .moves) (s .i) (a .end) (omega arith)) ∙ s .inv .1
+returns c =
+    let a = c .before .before .before .args in
+    let s = c .before .loop in
+    sym (pull-over (s .moves) (s .i) (a .end) (omega arith)) ∙ s .inv .1
 
 pub pull-spec : {M : Type 1} → statement M
 pull-spec =

@@ -38,7 +38,10 @@ same-length : tie.Need-same-length Inv-loop μ-loop
 same-length c = c .before .loop .inv .0
 
 returns : tie.Need-returns Inv-loop μ-loop
-returns c = let a = c .before .before .before .args in let s = c .before .loop in sym (push-over (s .moves) (s .i) (a .end) (s .x) (omega arith)) ∙ s .inv .1
+returns c =
+    let a = c .before .before .before .args in
+    let s = c .before .loop in
+    sym (push-over (s .moves) (s .i) (a .end) (s .x) (omega arith)) ∙ s .inv .1
 
 pub push-spec : {M : Type 1} → statement M
 push-spec =

@@ -10,21 +10,32 @@ use Rattle.batches.proofs.change_turn.Tie as tie
 
 returns : tie.Need-returns
 unfolding changeTurn
-returns c = let a = c .before .args in let n = a .n in rw (not-true (ltb n 64) (c .if1 .taken)) refl
+returns c =
+    let a = c .before .args in
+    let n = a .n in
+    rw (not-true (ltb n 64) (c .if1 .taken)) refl
 
 move-ok-requires : tie.Need-move-ok-requires
 move-ok-requires c κs = search needs
 
 returns-2 : tie.Need-returns-2
 unfolding changeTurn
-returns-2 c = let a = c .before .before .before .args in let n = a .n in let ok = moveOk (a .z) (a .m .source .0) (a .m .action .0) (a .m .target .0) in rw (not-false (ltb n 64) (c .before .before .if1 .left), not-true ok (rw (c .before .move-ok .ensures) at (c .if2 .taken))) refl
+returns-2 c =
+    let a = c .before .before .before .args in
+    let n = a .n in
+    let ok = moveOk (a .z) (a .m .source .0) (a .m .action .0) (a .m .target .0) in
+    rw (not-false (ltb n 64) (c .before .before .if1 .left), not-true ok (rw (c .before .move-ok .ensures) at (c .if2 .taken))) refl
 
 coded-requires : tie.Need-coded-requires
 coded-requires c κs = search needs
 
 returns-3 : tie.Need-returns-3
 unfolding changeTurn
-returns-3 c = let a = c .before .before .before .before .args in let n = a .n in let ok = moveOk (a .z) (a .m .source .0) (a .m .action .0) (a .m .target .0) in rw (not-false (ltb n 64) (c .before .before .before .if1 .left), not-false ok (rw (c .before .before .move-ok .ensures) at (c .before .if2 .left)), c .coded .ensures) refl
+returns-3 c =
+    let a = c .before .before .before .before .args in
+    let n = a .n in
+    let ok = moveOk (a .z) (a .m .source .0) (a .m .action .0) (a .m .target .0) in
+    rw (not-false (ltb n 64) (c .before .before .before .if1 .left), not-false ok (rw (c .before .before .move-ok .ensures) at (c .before .if2 .left)), c .coded .ensures) refl
 
 pub change-turn-spec : {M : Type 1} → statement M
 change-turn-spec = tie.close (tie.spec returns move-ok-requires returns-2 coded-requires returns-3)

@@ -15,13 +15,20 @@ enum-told : tie.Need-enum-told
 enum-told c = search needs
 
 returns : tie.Need-returns
-returns c = let a = c .before .before .before .before .before .args in first-broken (a .z) (a .bytes .now) (a .changes .now) (sym (c .before .before .read-record .ensures) ∙ c .enum-told .given .1)
+returns c =
+    let a = c .before .before .before .before .before .args in
+    first-broken (a .z) (a .bytes .now) (a .changes .now) (sym (c .before .before .read-record .ensures) ∙ c .enum-told .given .1)
 
 enum-known-rec : tie.Need-enum-known-rec
 enum-known-rec c = search needs
 
 returns-2 : tie.Need-returns-2
-returns-2 c = let a = c .before .before .before .before .before .before .before .args in let s = a .bytes .now in let g = c .before .before .read .given in let got = sym (c .before .before .before .before .read-record .ensures) ∙ g .1 in first-other (a .z) s (a .changes .now) (g .0 .1 .0) (g .0 .0) got (c .match2 .keys2)
+returns-2 c =
+    let a = c .before .before .before .before .before .before .before .args in
+    let s = a .bytes .now in
+    let g = c .before .before .read .given in
+    let got = sym (c .before .before .before .before .read-record .ensures) ∙ g .1 in
+    first-other (a .z) s (a .changes .now) (g .0 .1 .0) (g .0 .0) got (c .match2 .keys2)
 
 read-rest-requires : tie.Need-read-rest-requires
 read-rest-requires c κs = search needs
@@ -30,7 +37,12 @@ same-length : tie.Need-same-length
 same-length c = search needs
 
 returns-3 : tie.Need-returns-3
-returns-3 c = let a = c .before .before .before .before .before .before .before .before .before .before .before .before .before .args in let s = a .bytes .now in let g = c .before .before .before .before .before .before .before .before .read .given in let got = sym (c .before .before .before .before .before .before .before .before .before .before .read-record .ensures) ∙ g .1 in first-stamp (a .z) s (a .changes .now) _ (c .before .before .before .before .before .rec .given .0 .0) (g .0 .1 .0) (g .0 .0) _ got (c .before .before .before .before .before .rec .given .1) (c .before .before .read-rest .ensures .0) (c .before .before .read-rest .ensures .1)
+returns-3 c =
+    let a = c .before .before .before .before .before .before .before .before .before .before .before .before .before .args in
+    let s = a .bytes .now in
+    let g = c .before .before .before .before .before .before .before .before .read .given in
+    let got = sym (c .before .before .before .before .before .before .before .before .before .before .read-record .ensures) ∙ g .1 in
+    first-stamp (a .z) s (a .changes .now) _ (c .before .before .before .before .before .rec .given .0 .0) (g .0 .1 .0) (g .0 .0) _ got (c .before .before .before .before .before .rec .given .1) (c .before .before .read-rest .ensures .0) (c .before .before .read-rest .ensures .1)
 
 pub read-batch-spec : {M : Type 1} → statement M
 read-batch-spec =

@@ -33,7 +33,10 @@ same-length : tie.Need-same-length Inv-loop μ-loop
 same-length c = c .before .before .before .before .before .loop .inv .1
 
 returns : tie.Need-returns Inv-loop μ-loop
-returns c = let a = c .before .before .before .before .before .before .before .before .args in let s = a .bytes .now in let k = c .before .before .before .before .before .loop in let g = rw (c .before .t .given .1) at (c .before .before .before .turn .ensures) in (g .0 ∙ k .inv .2, ap (λ (l : List ℕ). sets (k .changes) (k .n) l) (sym (g .1)) ∙ k .inv .3)
+returns c =
+    let k = c .before .before .before .before .before .loop in
+    let g = rw (c .before .t .given .1) at (c .before .before .before .turn .ensures) in
+    (g .0 ∙ k .inv .2, ap (λ (l : List ℕ). sets (k .changes) (k .n) l) (sym (g .1)) ∙ k .inv .3)
 
 enum-known-t-2 : tie.Need-enum-known-t-2 Inv-loop μ-loop
 enum-known-t-2 c = search needs
@@ -45,16 +48,28 @@ add-n : tie.Need-add-n Inv-loop μ-loop
 add-n c = omega arith
 
 loop-less : tie.Need-loop-less Inv-loop μ-loop
-loop-less c = let g = rw (c .before .before .before .before .before .t2 .given .1) at (c .before .before .before .before .before .before .before .turn .ensures) in omega arith
+loop-less c =
+    let g = rw (c .before .before .before .before .before .t2 .given .1) at (c .before .before .before .before .before .before .before .turn .ensures) in
+    omega arith
 
 loop-again : tie.Need-loop-again Inv-loop μ-loop
-loop-again c = let a = c .before .before .before .before .before .before .before .before .before .before .before .before .args in let s = a .bytes .now in let k = c .before .before .before .before .before .before .before .before .before .loop in let g = rw (c .before .before .before .before .before .t2 .given .1) at (c .before .before .before .before .before .before .before .turn .ensures) in (omega arith, search needs, sym (g .same) ∙ k .inv .2, put-code (a .z) s (a .stamp) (k .n) (k .at) (c .before .before .before .before .before .t2 .given .0 .0) (c .before .before .before .before .before .t2 .given .0 .1 .0) (k .changes) _ g (c .before .before .set-word .ensures) ∙ k .inv .3)
+loop-again c =
+    let a = c .before .before .before .before .before .before .before .before .before .before .before .before .args in
+    let s = a .bytes .now in
+    let k = c .before .before .before .before .before .before .before .before .before .loop in
+    let g = rw (c .before .before .before .before .before .t2 .given .1) at (c .before .before .before .before .before .before .before .turn .ensures) in
+    (omega arith, search needs, sym (g .same) ∙ k .inv .2, put-code (a .z) s (a .stamp) (k .n) (k .at) (c .before .before .before .before .before .t2 .given .0 .0) (c .before .before .before .before .before .t2 .given .0 .1 .0) (k .changes) _ g (c .before .before .set-word .ensures) ∙ k .inv .3)
 
 same-length-2 : tie.Need-same-length-2 Inv-loop μ-loop
 same-length-2 c = c .before .loop .inv .1
 
 returns-2 : tie.Need-returns-2 Inv-loop μ-loop
-returns-2 c = let a = c .before .before .before .before .args in let s = a .bytes .now in let k = c .before .loop in let g = past-end (a .z) s (a .stamp) (k .n) (k .at) (omega arith) in (g .0 ∙ k .inv .2, ap (λ (l : List ℕ). sets (k .changes) (k .n) l) (sym (g .1)) ∙ k .inv .3)
+returns-2 c =
+    let a = c .before .before .before .before .args in
+    let s = a .bytes .now in
+    let k = c .before .loop in
+    let g = past-end (a .z) s (a .stamp) (k .n) (k .at) (omega arith) in
+    (g .0 ∙ k .inv .2, ap (λ (l : List ℕ). sets (k .changes) (k .n) l) (sym (g .1)) ∙ k .inv .3)
 
 pub read-rest-spec : {M : Type 1} → statement M
 read-rest-spec =

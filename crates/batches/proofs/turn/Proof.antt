@@ -15,7 +15,9 @@ enum-told : tie.Need-enum-told
 enum-told c = search needs
 
 returns : tie.Need-returns
-returns c = let a = c .before .before .before .before .args in turned-broken (a .z) (a .bytes .now) (a .stamp) (a .n) (a .at) (sym (c .before .before .read-record .ensures) ∙ c .enum-told .given .1)
+returns c =
+    let a = c .before .before .before .before .args in
+    turned-broken (a .z) (a .bytes .now) (a .stamp) (a .n) (a .at) (sym (c .before .before .read-record .ensures) ∙ c .enum-told .given .1)
 
 enum-known-rec : tie.Need-enum-known-rec
 enum-known-rec c = search needs
@@ -36,16 +38,40 @@ end-turn-requires : tie.Need-end-turn-requires
 end-turn-requires c κs = search needs
 
 returns-2 : tie.Need-returns-2
-returns-2 c = let a = c .before .before .before .before .before .before .before .before .before .args in let s = a .bytes .now in let g = c .before .before .before .before .before .read .given in let k = g .0 .1 .0 in let got = sym (c .before .before .before .before .before .before .before .read-record .ensures) ∙ g .1 in rw (c .change-turn .ensures) (turned-insert (a .z) s (a .stamp) (a .n) (a .at) k (g .0 .0) (c .before .before .rec .given .0 .0) got (c .before .before .rec .given .1))
+returns-2 c =
+    let a = c .before .before .before .before .before .before .before .before .before .args in
+    let s = a .bytes .now in
+    let g = c .before .before .before .before .before .read .given in
+    let k = g .0 .1 .0 in
+    let got = sym (c .before .before .before .before .before .before .before .read-record .ensures) ∙ g .1 in
+    rw (c .change-turn .ensures) (turned-insert (a .z) s (a .stamp) (a .n) (a .at) k (g .0 .0) (c .before .before .rec .given .0 .0) got (c .before .before .rec .given .1))
 
 returns-3 : tie.Need-returns-3
-returns-3 c = let a = c .before .before .before .before .before .before .before .before .before .args in let s = a .bytes .now in let g = c .before .before .before .before .before .read .given in let k = g .0 .1 .0 in let got = sym (c .before .before .before .before .before .before .before .read-record .ensures) ∙ g .1 in rw (c .change-turn2 .ensures) (turned-delete (a .z) s (a .stamp) (a .n) (a .at) k (g .0 .0) (c .before .before .rec2 .given .0 .0) got (c .before .before .rec2 .given .1))
+returns-3 c =
+    let a = c .before .before .before .before .before .before .before .before .before .args in
+    let s = a .bytes .now in
+    let g = c .before .before .before .before .before .read .given in
+    let k = g .0 .1 .0 in
+    let got = sym (c .before .before .before .before .before .before .before .read-record .ensures) ∙ g .1 in
+    rw (c .change-turn2 .ensures) (turned-delete (a .z) s (a .stamp) (a .n) (a .at) k (g .0 .0) (c .before .before .rec2 .given .0 .0) got (c .before .before .rec2 .given .1))
 
 returns-4 : tie.Need-returns-4
-returns-4 c = let a = c .before .before .before .before .before .before .before .before .args in let s = a .bytes .now in let g = c .before .before .before .before .read .given in let k = g .0 .1 .0 in let got = sym (c .before .before .before .before .before .before .read-record .ensures) ∙ g .1 in rw (c .end-turn .ensures) (turned-end (a .z) s (a .stamp) (a .n) (a .at) k (g .0 .0) got (c .before .enum-told2 .given .1))
+returns-4 c =
+    let a = c .before .before .before .before .before .before .before .before .args in
+    let s = a .bytes .now in
+    let g = c .before .before .before .before .read .given in
+    let k = g .0 .1 .0 in
+    let got = sym (c .before .before .before .before .before .before .read-record .ensures) ∙ g .1 in
+    rw (c .end-turn .ensures) (turned-end (a .z) s (a .stamp) (a .n) (a .at) k (g .0 .0) got (c .before .enum-told2 .given .1))
 
 returns-5 : tie.Need-returns-5
-returns-5 c = let a = c .before .before .before .before .before .before .args in let s = a .bytes .now in let g = c .before .before .read .given in let k = g .0 .1 .0 in let got = sym (c .before .before .before .before .read-record .ensures) ∙ g .1 in turned-other (a .z) s (a .stamp) (a .n) (a .at) k (g .0 .0) got (c .match2 .keys4)
+returns-5 c =
+    let a = c .before .before .before .before .before .before .args in
+    let s = a .bytes .now in
+    let g = c .before .before .read .given in
+    let k = g .0 .1 .0 in
+    let got = sym (c .before .before .before .before .read-record .ensures) ∙ g .1 in
+    turned-other (a .z) s (a .stamp) (a .n) (a .at) k (g .0 .0) got (c .match2 .keys4)
 
 pub turn-spec : {M : Type 1} → statement M
 turn-spec =

@@ -5,7 +5,9 @@ use Rattle.boundary.proofs.huepaxochi_ask.Statement.{statement}
 use Rattle.boundary.proofs.huepaxochi_ask.Tie as tie
 
 returns : tie.Need-returns
-returns c = let a = c .before .before .before .args in ask-short (a .session .now) (a .values .now) (a .state) (a .variable) (c .if1 .taken)
+returns c =
+    let a = c .before .before .before .args in
+    ask-short (a .session .now) (a .values .now) (a .state) (a .variable) (c .if1 .taken)
 
 session-of-requires : tie.Need-session-of-requires
 session-of-requires c κs = search needs
@@ -17,7 +19,9 @@ tell-asked-requires : tie.Need-tell-asked-requires
 tell-asked-requires c κs = search needs
 
 returns-2 : tie.Need-returns-2
-returns-2 c = let a = c .before .before .before .before .before .before .args in ask-comes (a .session .now) (a .values .now) (a .state) (a .variable) _ (c .before .ask .result) _ (c .before .before .before .if1 .left) (c .before .before .session-of .ensures) (c .before .ask .ensures) (c .tell-asked .ensures)
+returns-2 c =
+    let a = c .before .before .before .before .before .before .args in
+    ask-comes (a .session .now) (a .values .now) (a .state) (a .variable) _ (c .before .ask .result) _ (c .before .before .before .if1 .left) (c .before .before .session-of .ensures) (c .before .ask .ensures) (c .tell-asked .ensures)
 
 pub huepaxochi-ask-spec : {M : Type 1} → statement M
 huepaxochi-ask-spec =

@@ -6,7 +6,10 @@ use Rattle.boundary.proofs.huepaxochi_batch.Statement.{statement}
 use Rattle.boundary.proofs.huepaxochi_batch.Tie as tie
 
 returns : tie.Need-returns
-returns c = let a = c .before .before .before .before .before .before .before .before .args in let l = roomsOf (a .labels .now) (a .equations .now) (a .values .now) (a .marks .now) (a .moves .now) in batch-short (a .session .now) l (a .report .now) (a .bytes .now) (c .if1 .taken)
+returns c =
+    let a = c .before .before .before .before .before .before .before .before .args in
+    let l = roomsOf (a .labels .now) (a .equations .now) (a .values .now) (a .marks .now) (a .moves .now) in
+    batch-short (a .session .now) l (a .report .now) (a .bytes .now) (c .if1 .taken)
 
 session-of-requires : tie.Need-session-of-requires
 session-of-requires c κs = search needs
@@ -15,7 +18,10 @@ batch-requires : tie.Need-batch-requires
 batch-requires c κs = search needs
 
 keep-updated-requires : tie.Need-keep-updated-requires
-keep-updated-requires c κs = let a = c .before .before .before .before .before .before .before .before .before .before .before .before .before .before .before .before .before .before .before .before .before .before .args in let l = roomsOf (a .labels .now) (a .equations .now) (a .values .now) (a .marks .now) (a .moves .now) in (long-session (a .session .now) l (a .report .now) (a .bytes .now) (c .before .before .before .before .before .before .before .before .before .before .before .before .before .before .if1 .left), long-report (a .session .now) l (a .report .now) (a .bytes .now) (c .before .before .before .before .before .before .before .before .before .before .before .before .before .before .if1 .left))
+keep-updated-requires c κs =
+    let a = c .before .before .before .before .before .before .before .before .before .before .before .before .before .before .before .before .before .before .before .before .before .before .args in
+    let l = roomsOf (a .labels .now) (a .equations .now) (a .values .now) (a .marks .now) (a .moves .now) in
+    (long-session (a .session .now) l (a .report .now) (a .bytes .now) (c .before .before .before .before .before .before .before .before .before .before .before .before .before .before .if1 .left), long-report (a .session .now) l (a .report .now) (a .bytes .now) (c .before .before .before .before .before .before .before .before .before .before .before .before .before .before .if1 .left))
 
 same-length : tie.Need-same-length
 same-length c = search needs
@@ -33,7 +39,10 @@ same-length-5 : tie.Need-same-length-5
 same-length-5 c = search needs
 
 returns-2 : tie.Need-returns-2
-returns-2 c = let a = c .before .before .before .before .before .before .before .before .before .before .before .before .before .before .before .before .before .before .before .before .before .before .before .before .before .before .args in let l = roomsOf (a .labels .now) (a .equations .now) (a .values .now) (a .marks .now) (a .moves .now) in batch-comes (a .session .now) l (a .report .now) (a .bytes .now) (c .before .before .before .before .before .before .before .before .before .before .before .before .before .before .before .before .before .before .if1 .left) _ (c .before .before .before .before .before .before .before .before .before .before .before .before .batch .result) _ _ _ _ (c .before .before .before .before .before .before .before .before .before .before .before .before .before .before .before .before .session-of .ensures) (c .before .before .before .before .before .before .before .before .before .before .before .before .batch .ensures) (c .before .before .before .keep-updated .ensures .0) (c .before .before .before .keep-updated .ensures .1) (c .before .before .before .keep-updated .ensures .2)
+returns-2 c =
+    let a = c .before .before .before .before .before .before .before .before .before .before .before .before .before .before .before .before .before .before .before .before .before .before .before .before .before .before .args in
+    let l = roomsOf (a .labels .now) (a .equations .now) (a .values .now) (a .marks .now) (a .moves .now) in
+    batch-comes (a .session .now) l (a .report .now) (a .bytes .now) (c .before .before .before .before .before .before .before .before .before .before .before .before .before .before .before .before .before .before .if1 .left) _ (c .before .before .before .before .before .before .before .before .before .before .before .before .batch .result) _ _ _ _ (c .before .before .before .before .before .before .before .before .before .before .before .before .before .before .before .before .session-of .ensures) (c .before .before .before .before .before .before .before .before .before .before .before .before .batch .ensures) (c .before .before .before .keep-updated .ensures .0) (c .before .before .before .keep-updated .ensures .1) (c .before .before .before .keep-updated .ensures .2)
 
 pub huepaxochi-batch-spec : {M : Type 1} → statement M
 huepaxochi-batch-spec =

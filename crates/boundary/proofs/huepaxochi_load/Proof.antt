@@ -6,7 +6,10 @@ use Rattle.boundary.proofs.huepaxochi_load.Statement.{statement}
 use Rattle.boundary.proofs.huepaxochi_load.Tie as tie
 
 returns : tie.Need-returns
-returns c = let a = c .before .before .before .before .before .before .before .before .args in let l = roomsOf (a .labels .now) (a .equations .now) (a .values .now) (a .marks .now) (a .moves .now) in load-short (a .session .now) l (a .bytes .now) (c .if1 .taken)
+returns c =
+    let a = c .before .before .before .before .before .before .before .before .args in
+    let l = roomsOf (a .labels .now) (a .equations .now) (a .values .now) (a .marks .now) (a .moves .now) in
+    load-short (a .session .now) l (a .bytes .now) (c .if1 .taken)
 
 load-requires : tie.Need-load-requires
 load-requires c κs = search needs
@@ -33,7 +36,10 @@ same-length-6 : tie.Need-same-length-6
 same-length-6 c = search needs
 
 returns-2 : tie.Need-returns-2
-returns-2 c = let a = c .before .before .before .before .before .before .before .before .before .before .before .before .before .before .before .before .before .before .before .before .before .before .before .before .before .before .before .before .args in let l = roomsOf (a .labels .now) (a .equations .now) (a .values .now) (a .marks .now) (a .moves .now) in load-comes (a .session .now) l (a .bytes .now) (c .before .before .before .before .before .before .before .before .before .before .before .before .before .before .load .result) _ _ _ (c .before .before .before .before .before .before .before .before .before .before .before .before .before .before .before .before .before .before .before .before .if1 .left) (c .before .before .before .before .before .before .before .before .before .before .before .before .before .before .load .ensures) (c .before .before .keep-loaded .ensures .0) (c .before .before .keep-loaded .ensures .1)
+returns-2 c =
+    let a = c .before .before .before .before .before .before .before .before .before .before .before .before .before .before .before .before .before .before .before .before .before .before .before .before .before .before .before .before .args in
+    let l = roomsOf (a .labels .now) (a .equations .now) (a .values .now) (a .marks .now) (a .moves .now) in
+    load-comes (a .session .now) l (a .bytes .now) (c .before .before .before .before .before .before .before .before .before .before .before .before .before .before .load .result) _ _ _ (c .before .before .before .before .before .before .before .before .before .before .before .before .before .before .before .before .before .before .before .before .if1 .left) (c .before .before .before .before .before .before .before .before .before .before .before .before .before .before .load .ensures) (c .before .before .keep-loaded .ensures .0) (c .before .before .keep-loaded .ensures .1)
 
 pub huepaxochi-load-spec : {M : Type 1} → statement M
 huepaxochi-load-spec =

@@ -6,7 +6,10 @@ use Rattle.boundary.proofs.huepaxochi_write.Statement.{statement}
 use Rattle.boundary.proofs.huepaxochi_write.Tie as tie
 
 returns : tie.Need-returns
-returns c = let a = c .before .before .before .before .before .before .before .before .args in let l = roomsOf (a .labels .now) (a .equations .now) (a .values .now) (a .marks .now) (a .moves .now) in write-short (a .session .now) l (a .out .now) (c .if1 .taken)
+returns c =
+    let a = c .before .before .before .before .before .before .before .before .args in
+    let l = roomsOf (a .labels .now) (a .equations .now) (a .values .now) (a .marks .now) (a .moves .now) in
+    write-short (a .session .now) l (a .out .now) (c .if1 .taken)
 
 session-of-requires : tie.Need-session-of-requires
 session-of-requires c κs = search needs
@@ -21,7 +24,10 @@ same-length : tie.Need-same-length
 same-length c = search needs
 
 returns-2 : tie.Need-returns-2
-returns-2 c = let a = c .before .before .before .before .before .before .before .before .before .before .before .before .before .before .args in let l = roomsOf (a .labels .now) (a .equations .now) (a .values .now) (a .marks .now) (a .moves .now) in write-comes (a .session .now) l (a .out .now) _ (c .before .before .before .write .result) _ _ (c .before .before .before .before .before .before .if1 .left) (c .before .before .before .before .before .session-of .ensures) (c .before .before .before .write .ensures) (c .tell-written .ensures)
+returns-2 c =
+    let a = c .before .before .before .before .before .before .before .before .before .before .before .before .before .before .args in
+    let l = roomsOf (a .labels .now) (a .equations .now) (a .values .now) (a .marks .now) (a .moves .now) in
+    write-comes (a .session .now) l (a .out .now) _ (c .before .before .before .write .result) _ _ (c .before .before .before .before .before .before .if1 .left) (c .before .before .before .before .before .session-of .ensures) (c .before .before .before .write .ensures) (c .tell-written .ensures)
 
 pub huepaxochi-write-spec : {M : Type 1} → statement M
 huepaxochi-write-spec =

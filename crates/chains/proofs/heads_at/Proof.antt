@@ -1,35 +1,28 @@
+-- One number for each kind of chain. Assumes nothing.
 use Rattle.chains.specs.Chains.{headsAt}
 use native.Mathlib.Omega.{arith}
 use mathlib.Core.Path.{sym, ap}
 use borrow.Author.Needs.{needs}
 use Rattle.chains.proofs.heads_at.Statement.{statement}
 use Rattle.chains.proofs.heads_at.Tie as tie
-use Rattle.chains.proofs.heads_at.Reads as reads
-use Rattle.chains.proofs.heads_at.Lts as lts
 
--- src/lib.rt:32:23
 enum-told : tie.Need-enum-told
 enum-told c = search needs
 
--- src/lib.rt:33:23
 enum-told-2 : tie.Need-enum-told-2
 enum-told-2 c = search needs
 
--- src/lib.rt:34:22
 enum-told-3 : tie.Need-enum-told-3
 enum-told-3 c = search needs
 
--- src/lib.rt:28:1
 returns : tie.Need-returns
 unfolding headsAt
 returns c = (ap headsAt (sym (c .enum-told .given .1)), omega arith)
 
--- src/lib.rt:28:1
 returns-2 : tie.Need-returns-2
 unfolding headsAt
 returns-2 c = (ap headsAt (sym (c .enum-told2 .given .1)), omega arith)
 
--- src/lib.rt:28:1
 returns-3 : tie.Need-returns-3
 unfolding headsAt
 returns-3 c = (ap headsAt (sym (c .enum-told3 .given .1)), omega arith)

@@ -1,3 +1,4 @@
+-- One number of the word for each kind of chain. Assumes nothing.
 use Rattle.chains.specs.declared.By.{By}
 use Rattle.chains.specs.Chains.{keyOf}
 use native.Mathlib.Omega.{arith}
@@ -5,44 +6,33 @@ use mathlib.Core.Path.{sym, ap}
 use borrow.Author.Needs.{needs}
 use Rattle.chains.proofs.key_of.Statement.{statement}
 use Rattle.chains.proofs.key_of.Tie as tie
-use Rattle.chains.proofs.key_of.Reads as reads
-use Rattle.chains.proofs.key_of.Lts as lts
 
--- src/lib.rt:21:24
 enum-told : tie.Need-enum-told
 enum-told c = search needs
 
--- src/lib.rt:21:23
 cast-result : tie.Need-cast-result
 cast-result c = search needs
 
--- src/lib.rt:22:24
 enum-told-2 : tie.Need-enum-told-2
 enum-told-2 c = search needs
 
--- src/lib.rt:22:23
 cast-result-2 : tie.Need-cast-result-2
 cast-result-2 c = search needs
 
--- src/lib.rt:23:23
 enum-told-3 : tie.Need-enum-told-3
 enum-told-3 c = search needs
 
--- src/lib.rt:23:22
 cast-result-3 : tie.Need-cast-result-3
 cast-result-3 c = search needs
 
--- src/lib.rt:17:1
 returns : tie.Need-returns
 unfolding keyOf
 returns c = (ap (λ (b : By). keyOf b (c .before .before .args .w)) (sym (c .enum-told .given .1)), omega arith)
 
--- src/lib.rt:17:1
 returns-2 : tie.Need-returns-2
 unfolding keyOf
 returns-2 c = (ap (λ (b : By). keyOf b (c .before .before .args .w)) (sym (c .enum-told2 .given .1)), omega arith)
 
--- src/lib.rt:17:1
 returns-3 : tie.Need-returns-3
 unfolding keyOf
 returns-3 c = (ap (λ (b : By). keyOf b (c .before .before .args .w)) (sym (c .enum-told3 .given .1)), omega arith)

@@ -25,16 +25,22 @@ enum-known-p : tie.Need-enum-known-p Inv-loop μ-loop
 enum-known-p c = search needs
 
 returns : tie.Need-returns Inv-loop μ-loop
-returns c = let g = rw (c .before .p .given .1) at (c .before .before .before .pass .ensures) in sym g ∙ c .before .before .before .before .loop .inv .1
+returns c =
+    let g = rw (c .before .p .given .1) at (c .before .before .before .pass .ensures) in
+    sym g ∙ c .before .before .before .before .loop .inv .1
 
 enum-known-p-2 : tie.Need-enum-known-p-2 Inv-loop μ-loop
 enum-known-p-2 c = search needs
 
 loop-less : tie.Need-loop-less Inv-loop μ-loop
-loop-less c = let g = rw (c .before .p2 .given .1) at (c .before .before .before .pass .ensures) in omega arith
+loop-less c =
+    let g = rw (c .before .p2 .given .1) at (c .before .before .before .pass .ensures) in
+    omega arith
 
 loop-again : tie.Need-loop-again Inv-loop μ-loop
-loop-again c = let g = rw (c .before .p2 .given .1) at (c .before .before .before .pass .ensures) in (g .1, sym (g .2) ∙ c .before .before .before .before .loop .inv .1)
+loop-again c =
+    let g = rw (c .before .p2 .given .1) at (c .before .before .before .pass .ensures) in
+    (g .1, sym (g .2) ∙ c .before .before .before .before .loop .inv .1)
 
 pub first-part-spec : {M : Type 1} → statement M
 first-part-spec =

@@ -34,10 +34,16 @@ loop-less : tie.Need-loop-less Inv-loop μ-loop
 loop-less c = search needs
 
 loop-again : tie.Need-loop-again Inv-loop μ-loop
-loop-again c = let a = c .before .before .before .before .before .before .args in let s = c .before .before .before .loop in rw (c .carry-one .ensures, c .before .word-at .ensures) (rw (changes-more (a .changes .now) (a .count) (s .i) (omega arith)) at (s .inv))
+loop-again c =
+    let a = c .before .before .before .before .before .before .args in
+    let s = c .before .before .before .loop in
+    rw (c .carry-one .ensures, c .before .word-at .ensures) (rw (changes-more (a .changes .now) (a .count) (s .i) (omega arith)) at (s .inv))
 
 returns : tie.Need-returns Inv-loop μ-loop
-returns c = let a = c .before .before .before .before .args in let s = c .before .loop in sym (rw (changes-over (a .changes .now) (a .count) (s .i) (omega arith)) at (s .inv))
+returns c =
+    let a = c .before .before .before .before .args in
+    let s = c .before .loop in
+    sym (rw (changes-over (a .changes .now) (a .count) (s .i) (omega arith)) at (s .inv))
 
 pub carried-spec : {M : Type 1} → statement M
 carried-spec =

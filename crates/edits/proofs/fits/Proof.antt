@@ -16,7 +16,10 @@ least-requires : tie.Need-least-requires
 least-requires c κs = search needs
 
 sub-deleted : tie.Need-sub-deleted
-sub-deleted c = let a = c .before .before .before .before .args in let k = changes-count (a .changes .now) (a .count) in omega arith
+sub-deleted c =
+    let a = c .before .before .before .before .args in
+    let k = changes-count (a .changes .now) (a .count) in
+    omega arith
 
 least-requires-2 : tie.Need-least-requires-2
 least-requires-2 c κs = search needs

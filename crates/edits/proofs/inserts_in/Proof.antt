@@ -19,7 +19,9 @@ least-requires : tie.Need-least-requires Inv-loop μ-loop
 least-requires c κs = search needs
 
 loop-holds : tie.Need-loop-holds Inv-loop μ-loop
-loop-holds c = let e = changes-over (c .before .before .args .changes .now) (c .before .before .args .count) (c .least .result) (omega arith) in (omega arith, rw e, omega arith)
+loop-holds c =
+    let e = changes-over (c .before .before .args .changes .now) (c .before .before .args .count) (c .least .result) (omega arith) in
+    (omega arith, rw e, omega arith)
 
 sub-i : tie.Need-sub-i Inv-loop μ-loop
 sub-i c = search needs
@@ -37,10 +39,16 @@ loop-less : tie.Need-loop-less Inv-loop μ-loop
 loop-less c = search needs
 
 loop-again : tie.Need-loop-again Inv-loop μ-loop
-loop-again c = let a = c .before .before .before .before .before .args in let s = c .before .before .loop in let e = changes-less (a .changes .now) (a .count) (s .i) (omega arith) (omega arith) in (omega arith, rw (e, inserts-more, c .word-at .ensures, s .inv .1), omega arith)
+loop-again c =
+    let a = c .before .before .before .before .before .args in
+    let s = c .before .before .loop in
+    let e = changes-less (a .changes .now) (a .count) (s .i) (omega arith) (omega arith) in
+    (omega arith, rw (e, inserts-more, c .word-at .ensures, s .inv .1), omega arith)
 
 returns : tie.Need-returns Inv-loop μ-loop
-returns c = let e : c .before .loop .i ≡ 0 = omega arith in (rw e at (c .before .loop .inv .1), omega arith)
+returns c =
+    let e : c .before .loop .i ≡ 0 = omega arith in
+    (rw e at (c .before .loop .inv .1), omega arith)
 
 pub inserts-in-spec : {M : Type 1} → statement M
 inserts-in-spec =

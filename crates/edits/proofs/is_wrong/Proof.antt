@@ -12,7 +12,9 @@ holds-move-requires : tie.Need-holds-move-requires
 holds-move-requires c κs = search needs
 
 returns : tie.Need-returns
-returns c = let a = c .before .before .args in rw (c .holds-move .ensures) (is-both (eqb (a .w % 2) 1) (elem (a .w / 2) (take (a .n) (a .moves .now))))
+returns c =
+    let a = c .before .before .args in
+    rw (c .holds-move .ensures) (is-both (eqb (a .w % 2) 1) (elem (a .w / 2) (take (a .n) (a .moves .now))))
 
 pub is-wrong-spec : {M : Type 1} → statement M
 is-wrong-spec = tie.close (tie.spec holds-move-requires returns)

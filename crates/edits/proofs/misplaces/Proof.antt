@@ -49,7 +49,10 @@ loop-again c = let a = c .before .before .before .before .before .before .before
     (omega arith, omega arith, s .inv .2 ∙ misplaced-on (take (a .n) (a .moves .now)) (a .changes .now) (a .count) (s .i) (s .at) (omega arith) (rw (c .before .is-wrong .ensures, e) at (c .if1 .left)))
 
 returns-2 : tie.Need-returns-2 Inv-loop μ-loop
-returns-2 c = let a = c .before .before .before .before .before .args in let s = c .before .loop in sym (s .inv .2 ∙ misplaced-over (take (a .n) (a .moves .now)) (a .changes .now) (a .count) (s .i) (s .at) (omega arith))
+returns-2 c =
+    let a = c .before .before .before .before .before .args in
+    let s = c .before .loop in
+    sym (s .inv .2 ∙ misplaced-over (take (a .n) (a .moves .now)) (a .changes .now) (a .count) (s .i) (s .at) (omega arith))
 
 pub misplaces-spec : {M : Type 1} → statement M
 misplaces-spec =

@@ -31,7 +31,9 @@ loop-again : tie.Need-loop-again Inv-loop μ-loop
 loop-again c = (omega arith, rw (add-one (c .before .before .loop .j), c .word-at .ensures, c .before .before .loop .inv .1))
 
 returns : tie.Need-returns Inv-loop μ-loop
-returns c = let e : c .before .loop .j ≡ c .before .before .before .args .i = omega arith in rw e at (c .before .loop .inv .1)
+returns c =
+    let e : c .before .loop .j ≡ c .before .before .before .args .i = omega arith in
+    rw e at (c .before .loop .inv .1)
 
 pub named-before-spec : {M : Type 1} → statement M
 named-before-spec =

@@ -30,7 +30,10 @@ named-before-requires : tie.Need-named-before-requires Inv-loop μ-loop
 named-before-requires c κs = search needs
 
 returns : tie.Need-returns Inv-loop μ-loop
-returns c = let a = c .before .before .before .before .before .before .before .args in let s = c .before .before .before .before .loop in sym (s .inv .2 ∙ repeated-here (a .changes .now) (a .count) (s .i) (s .at) (omega arith) (rw (c .before .named-before .ensures, c .before .before .word-at .ensures) at (c .if1 .taken)))
+returns c =
+    let a = c .before .before .before .before .before .before .before .args in
+    let s = c .before .before .before .before .loop in
+    sym (s .inv .2 ∙ repeated-here (a .changes .now) (a .count) (s .i) (s .at) (omega arith) (rw (c .before .named-before .ensures, c .before .before .word-at .ensures) at (c .if1 .taken)))
 
 add-at : tie.Need-add-at Inv-loop μ-loop
 add-at c = search needs
@@ -46,7 +49,10 @@ loop-again c = let a = c .before .before .before .before .before .before .before
     (omega arith, omega arith, s .inv .2 ∙ repeated-on (a .changes .now) (a .count) (s .i) (s .at) (omega arith) (rw (c .before .named-before .ensures, c .before .before .word-at .ensures) at (c .if1 .left)))
 
 returns-2 : tie.Need-returns-2 Inv-loop μ-loop
-returns-2 c = let a = c .before .before .before .before .args in let s = c .before .loop in sym (s .inv .2 ∙ repeated-over (a .changes .now) (a .count) (s .i) (s .at) (omega arith))
+returns-2 c =
+    let a = c .before .before .before .before .args in
+    let s = c .before .loop in
+    sym (s .inv .2 ∙ repeated-over (a .changes .now) (a .count) (s .i) (s .at) (omega arith))
 
 pub repeats-spec : {M : Type 1} → statement M
 repeats-spec =

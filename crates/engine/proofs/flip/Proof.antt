@@ -1,40 +1,34 @@
-use mathlib.Core.Path.{_≡_, sym, _∙_}
+-- 1 becomes 0, and all else 1. Assumes nothing.
+use mathlib.Core.Path.{sym, _∙_}
 use Rattle.lists.specs.Tests.{eqb-in, eqb-no}
 use borrow.Author.Needs.{needs}
 use Rattle.engine.proofs.flip.Statement.{statement}
 use Rattle.engine.proofs.flip.Tie as tie
-use Rattle.engine.proofs.flip.Reads as reads
-use Rattle.engine.proofs.flip.Lts as lts
-use Rattle.rooms.proofs.byte_at.Reads as byte-at-reads
-use Rattle.rooms.proofs.set_byte.Reads as set-byte-reads
 
--- src/lib.rt:36:8
 byte-at-requires : tie.Need-byte-at-requires
 byte-at-requires c κs = search needs
 
--- src/lib.rt:37:9
 set-byte-requires : tie.Need-set-byte-requires
 set-byte-requires c κs = search needs
 
--- src/lib.rt:39:9
 set-byte-requires-2 : tie.Need-set-byte-requires-2
 set-byte-requires-2 c κs = search needs
 
--- src/lib.rt:33:1
 same-length : tie.Need-same-length
 same-length c = search needs
 
--- src/lib.rt:33:1
 returns : tie.Need-returns
-returns c = let e = sym (c .before .before .before .before .before .byte-at .ensures) ∙ c .before .before .before .before .if1 .taken in rw (eqb-in _ 1 e) (c .before .before .set-byte .ensures)
+returns c =
+    let e = sym (c .before .before .before .before .before .byte-at .ensures) ∙ c .before .before .before .before .if1 .taken in
+    rw (eqb-in _ 1 e) (c .before .before .set-byte .ensures)
 
--- src/lib.rt:33:1
 same-length-2 : tie.Need-same-length-2
 same-length-2 c = search needs
 
--- src/lib.rt:33:1
 returns-2 : tie.Need-returns-2
-returns-2 c = let f = c .before .before .before .before .if1 .left in rw (eqb-no _ 1 .1 (λ e. f (c .before .before .before .before .before .byte-at .ensures ∙ e))) (c .before .before .set-byte2 .ensures)
+returns-2 c =
+    let f = c .before .before .before .before .if1 .left in
+    rw (eqb-no _ 1 .1 (λ e. f (c .before .before .before .before .before .byte-at .ensures ∙ e))) (c .before .before .set-byte2 .ensures)
 
 pub flip-spec : {M : Type 1} → statement M
 flip-spec =

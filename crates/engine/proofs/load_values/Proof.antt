@@ -1,4 +1,5 @@
-use mathlib.Core.Path.{_≡_, refl, sym, ap, _∙_}
+-- From each block's own value the machine finds the fixpoints. Assumes nothing.
+use mathlib.Core.Path.{refl, ap, _∙_}
 use Prim.Native.Nat.{ℕ}
 use native.Mathlib.Omega.{arith}
 use lib.Dec.{eqb}
@@ -12,40 +13,61 @@ use Rattle.engine.specs.Updates.{load-starts, load-leaves, load-clears}
 use borrow.Author.Needs.{needs}
 use Rattle.engine.proofs.load_values.Statement.{statement}
 use Rattle.engine.proofs.load_values.Tie as tie
-use Rattle.engine.proofs.load_values.Reads as reads
-use Rattle.engine.proofs.load_values.Lts as lts
-use Rattle.engine.proofs.move_values.Reads as move-values-reads
-use Rattle.limits.proofs.pairs_of.Reads as pairs-of-reads
-use Rattle.starts.proofs.clear.Reads as clear-reads
-use Rattle.starts.proofs.own_values.Reads as own-values-reads
 
--- src/lib.rt:454:9
 pairs-of-requires : tie.Need-pairs-of-requires
 pairs-of-requires c κs = search needs
 
--- src/lib.rt:455:5
 own-values-requires : tie.Need-own-values-requires
-own-values-requires c κs = let s = c .before .before .before .before .before .before .before in let a = s .args in let m = tableOf (a .sizes) (a .labels .now) (a .equations .now) (a .moves .now) (a .n) in let d = s .pre .0 in let k = s .pre .1 in let ok = drawn-sound (a .sizes) (a .labels .now) (a .equations .now) (a .moves .now) (a .n) d in let e = c .before .pairs-of .ensures .0 in (ok .some, omega arith)
+own-values-requires c κs =
+    let s = c .before .before .before .before .before .before .before in
+    let a = s .args in
+    let m = tableOf (a .sizes) (a .labels .now) (a .equations .now) (a .moves .now) (a .n) in
+    let d = s .pre .0 in
+    let k = s .pre .1 in
+    let ok = drawn-sound (a .sizes) (a .labels .now) (a .equations .now) (a .moves .now) (a .n) d in
+    let e = c .before .pairs-of .ensures .0 in
+    (ok .some, omega arith)
 
--- src/lib.rt:456:5
 move-values-requires : tie.Need-move-values-requires
-move-values-requires c κs = let s = c .before .before .before .before .before .before .before .before .before .before .before .before in let a = s .args in let m = tableOf (a .sizes) (a .labels .now) (a .equations .now) (a .moves .now) (a .n) in let d = s .pre .0 in let k = s .pre .1 in let ok = drawn-sound (a .sizes) (a .labels .now) (a .equations .now) (a .moves .now) (a .n) d in let is-own = c .before .before .before .before .own-values .ensures ∙ ap (λ (q : ℕ). fill (bits q (λ p. eqb (kindIn (a .sizes) (a .equations .now) p) 1)) (a .values .now)) (c .before .before .before .before .before .before .pairs-of .ensures .0) ∙ own-filled (a .sizes) (a .labels .now) (a .equations .now) (a .moves .now) (a .n) d (a .values .now) in let l = c .before .before .before .before .own-values .kept in (d, (refl, (load-starts m ok (a .values .now) _ (k .0) is-own, ((omega arith, k .1), (omega arith, omega arith)))))
+move-values-requires c κs =
+    let s = c .before .before .before .before .before .before .before .before .before .before .before .before in
+    let a = s .args in
+    let m = tableOf (a .sizes) (a .labels .now) (a .equations .now) (a .moves .now) (a .n) in
+    let d = s .pre .0 in
+    let k = s .pre .1 in
+    let ok = drawn-sound (a .sizes) (a .labels .now) (a .equations .now) (a .moves .now) (a .n) d in
+    let is-own = c .before .before .before .before .own-values .ensures ∙ ap (λ (q : ℕ). fill (bits q (λ p. eqb (kindIn (a .sizes) (a .equations .now) p) 1)) (a .values .now)) (c .before .before .before .before .before .before .pairs-of .ensures .0) ∙ own-filled (a .sizes) (a .labels .now) (a .equations .now) (a .moves .now) (a .n) d (a .values .now) in
+    let l = c .before .before .before .before .own-values .kept in
+    (d, (refl, (load-starts m ok (a .values .now) _ (k .0) is-own, ((omega arith, k .1), (omega arith, omega arith)))))
 
--- src/lib.rt:457:5
 clear-requires : tie.Need-clear-requires
-clear-requires c κs = let s = c .before .before .before .before .before .before .before .before .before .before .before .before .before .before .before .before .before .before in let a = s .args in let m = tableOf (a .sizes) (a .labels .now) (a .equations .now) (a .moves .now) (a .n) in let d = s .pre .0 in let k = s .pre .1 in let ok = drawn-sound (a .sizes) (a .labels .now) (a .equations .now) (a .moves .now) (a .n) d in let e = c .before .before .before .before .before .before .before .before .before .before .before .before .pairs-of .ensures .0 in let l = c .before .before .before .before .before .move-values .kept in omega arith
+clear-requires c κs =
+    let s = c .before .before .before .before .before .before .before .before .before .before .before .before .before .before .before .before .before .before in
+    let a = s .args in
+    let m = tableOf (a .sizes) (a .labels .now) (a .equations .now) (a .moves .now) (a .n) in
+    let d = s .pre .0 in
+    let k = s .pre .1 in
+    let ok = drawn-sound (a .sizes) (a .labels .now) (a .equations .now) (a .moves .now) (a .n) d in
+    let e = c .before .before .before .before .before .before .before .before .before .before .before .before .pairs-of .ensures .0 in
+    let l = c .before .before .before .before .before .move-values .kept in
+    omega arith
 
--- src/lib.rt:440:1
 same-length : tie.Need-same-length
 same-length c = search needs
 
--- src/lib.rt:440:1
 same-length-2 : tie.Need-same-length-2
 same-length-2 c = search needs
 
--- src/lib.rt:440:1
 returns : tie.Need-returns
-returns c = let s = c .before .before .before .before .before .before .before .before .before .before .before .before .before .before .before .before .before .before .before .before .before in let a = s .args in let m = tableOf (a .sizes) (a .labels .now) (a .equations .now) (a .moves .now) (a .n) in let d = s .pre .0 in let k = s .pre .1 in let ok = drawn-sound (a .sizes) (a .labels .now) (a .equations .now) (a .moves .now) (a .n) d in let is-own = c .before .before .before .before .before .before .before .before .before .before .before .before .before .own-values .ensures ∙ ap (λ (q : ℕ). fill (bits q (λ p. eqb (kindIn (a .sizes) (a .equations .now) p) 1)) (a .values .now)) (c .before .before .before .before .before .before .before .before .before .before .before .before .before .before .before .pairs-of .ensures .0) ∙ own-filled (a .sizes) (a .labels .now) (a .equations .now) (a .moves .now) (a .n) d (a .values .now) in (load-leaves m ok (a .values .now) _ (k .0) is-own (a .marks .now) _ _ _ _ (c .before .before .before .before .before .before .before .before .move-values .ensures), load-clears m ok (a .values .now) _ (k .0) is-own (a .marks .now) _ _ _ _ _ (c .before .before .before .before .before .before .before .before .before .before .before .before .before .before .before .pairs-of .result) (c .before .before .before .before .before .before .before .before .move-values .ensures) (c .before .before .before .before .before .before .before .before .before .before .before .before .before .before .before .pairs-of .ensures .0) (c .before .before .clear .ensures))
+returns c =
+    let s = c .before .before .before .before .before .before .before .before .before .before .before .before .before .before .before .before .before .before .before .before .before in
+    let a = s .args in
+    let m = tableOf (a .sizes) (a .labels .now) (a .equations .now) (a .moves .now) (a .n) in
+    let d = s .pre .0 in
+    let k = s .pre .1 in
+    let ok = drawn-sound (a .sizes) (a .labels .now) (a .equations .now) (a .moves .now) (a .n) d in
+    let is-own = c .before .before .before .before .before .before .before .before .before .before .before .before .before .own-values .ensures ∙ ap (λ (q : ℕ). fill (bits q (λ p. eqb (kindIn (a .sizes) (a .equations .now) p) 1)) (a .values .now)) (c .before .before .before .before .before .before .before .before .before .before .before .before .before .before .before .pairs-of .ensures .0) ∙ own-filled (a .sizes) (a .labels .now) (a .equations .now) (a .moves .now) (a .n) d (a .values .now) in
+    (load-leaves m ok (a .values .now) _ (k .0) is-own (a .marks .now) _ _ _ _ (c .before .before .before .before .before .before .before .before .move-values .ensures), load-clears m ok (a .values .now) _ (k .0) is-own (a .marks .now) _ _ _ _ _ (c .before .before .before .before .before .before .before .before .before .before .before .before .before .before .before .pairs-of .result) (c .before .before .before .before .before .before .before .before .move-values .ensures) (c .before .before .before .before .before .before .before .before .before .before .before .before .before .before .before .pairs-of .ensures .0) (c .before .before .clear .ensures))
 
 pub load-values-spec : {M : Type 1} → statement M
 load-values-spec =

@@ -1,3 +1,4 @@
+-- The pair waits where it is free and must turn. Assumes nothing.
 use native.Mathlib.Omega.{arith}
 use lib.ListN.{getD, take}
 use Rattle.systems.specs.ListMachine.{Pile}
@@ -9,56 +10,64 @@ use Rattle.visits.specs.Pushes.{push-shut, push-not, push-waits}
 use borrow.Author.Needs.{needs}
 use Rattle.engine.proofs.look_at.Statement.{statement}
 use Rattle.engine.proofs.look_at.Tie as tie
-use Rattle.engine.proofs.look_at.Reads as reads
-use Rattle.engine.proofs.look_at.Lts as lts
-use Rattle.looks.proofs.look.Reads as look-reads
-use Rattle.rooms.proofs.byte_at.Reads as byte-at-reads
-use Rattle.visits.proofs.is_free.Reads as is-free-reads
-use Rattle.visits.proofs.wait.Reads as wait-reads
 
--- src/lib.rt:134:9
 byte-at-requires : tie.Need-byte-at-requires
 byte-at-requires c κs = search needs
 
--- src/lib.rt:135:8
 is-free-requires : tie.Need-is-free-requires
 is-free-requires c κs = search needs
 
--- src/lib.rt:136:12
 look-requires : tie.Need-look-requires
-look-requires c κs = let s = c .before .before .before .before .before .before .before .before .before .before .before .before .before in let k = s .pre .1 .0 in (s .pre .0, ((k .0, k .1 .1), (s .pre .1 .1 .0, s .pre .1 .1 .1)))
+look-requires c κs =
+    let s = c .before .before .before .before .before .before .before .before .before .before .before .before .before in
+    let k = s .pre .1 .0 in
+    (s .pre .0, ((k .0, k .1 .1), (s .pre .1 .1 .0, s .pre .1 .1 .1)))
 
--- src/lib.rt:149:13
 wait-requires : tie.Need-wait-requires
-wait-requires c κs = let s = c .before .before .before .before .before .before .before .before .before .before .before .before .before .before .before .before .before in let a = s .args in let m = tableOf (a .sizes) (a .labels .now) (a .equations .now) (a .moves .now) (a .n) in let h : Pile = record { marks = a .marks .now; stack = a .stack .now; top = a .top } in let k = s .pre .1 .0 in let f = pairs-few (a .sizes) (a .labels .now) (a .equations .now) (a .moves .now) (a .n) (s .pre .0) in (omega arith, omega arith)
+wait-requires c κs =
+    let s = c .before .before .before .before .before .before .before .before .before .before .before .before .before .before .before .before .before in
+    let a = s .args in
+    let m = tableOf (a .sizes) (a .labels .now) (a .equations .now) (a .moves .now) (a .n) in
+    let h : Pile = record { marks = a .marks .now; stack = a .stack .now; top = a .top } in
+    let k = s .pre .1 .0 in
+    let f = pairs-few (a .sizes) (a .labels .now) (a .equations .now) (a .moves .now) (a .n) (s .pre .0) in
+    (omega arith, omega arith)
 
--- src/lib.rt:149:13
 same-length : tie.Need-same-length
 same-length c = search needs
 
--- src/lib.rt:149:13
 same-length-2 : tie.Need-same-length-2
 same-length-2 c = search needs
 
--- src/lib.rt:149:13
 returns : tie.Need-returns
-returns c = let s = c .before .before .before .before .before .before .before .before .before .before .before .before .before .before .before .before .before .before .before .before .before .before in let a = s .args in let m = tableOf (a .sizes) (a .labels .now) (a .equations .now) (a .moves .now) (a .n) in let h : Pile = record { marks = a .marks .now; stack = a .stack .now; top = a .top } in push-waits (a .settling) (lookTest m (changesOf (take (a .count) (a .changes .now))) (a .settling) (valueAt (a .values .now)) (λ q. getD (a .marks .now) q 0)) (a .p) h (c .before .before .before .before .before .before .before .before .before .before .before .before .byte-at .result) (c .before .before .before .before .before .before .before .before .before .before .before .is-free .result) (c .before .before .before .before .before .before .before .before .before .before .before .before .byte-at .ensures) (c .before .before .before .before .before .before .before .before .before .before .before .is-free .ensures) (c .before .before .before .before .before .before .before .before .before .before .if1 .taken) (c .before .before .before .before .before .before .before .before .look .result) (c .before .before .before .before .before .before .before .before .look .ensures) (c .before .before .before .before .before .before .before .if2 .taken) _ (c .before .before .before .before .wait .ensures)
+returns c =
+    let s = c .before .before .before .before .before .before .before .before .before .before .before .before .before .before .before .before .before .before .before .before .before .before in
+    let a = s .args in
+    let m = tableOf (a .sizes) (a .labels .now) (a .equations .now) (a .moves .now) (a .n) in
+    let h : Pile = record { marks = a .marks .now; stack = a .stack .now; top = a .top } in
+    push-waits (a .settling) (lookTest m (changesOf (take (a .count) (a .changes .now))) (a .settling) (valueAt (a .values .now)) (λ q. getD (a .marks .now) q 0)) (a .p) h (c .before .before .before .before .before .before .before .before .before .before .before .before .byte-at .result) (c .before .before .before .before .before .before .before .before .before .before .before .is-free .result) (c .before .before .before .before .before .before .before .before .before .before .before .before .byte-at .ensures) (c .before .before .before .before .before .before .before .before .before .before .before .is-free .ensures) (c .before .before .before .before .before .before .before .before .before .before .if1 .taken) (c .before .before .before .before .before .before .before .before .look .result) (c .before .before .before .before .before .before .before .before .look .ensures) (c .before .before .before .before .before .before .before .if2 .taken) _ (c .before .before .before .before .wait .ensures)
 
--- src/lib.rt:111:1
 same-length-3 : tie.Need-same-length-3
 same-length-3 c = search needs
 
--- src/lib.rt:111:1
 returns-2 : tie.Need-returns-2
-returns-2 c = let s = c .before .before .before .before .before .before .before .before .before .before .before .before .before .before .before in let a = s .args in let m = tableOf (a .sizes) (a .labels .now) (a .equations .now) (a .moves .now) (a .n) in let h : Pile = record { marks = a .marks .now; stack = a .stack .now; top = a .top } in push-not (a .settling) (lookTest m (changesOf (take (a .count) (a .changes .now))) (a .settling) (valueAt (a .values .now)) (λ q. getD (a .marks .now) q 0)) (a .p) h (c .before .before .before .before .before .byte-at .result) (c .before .before .before .before .is-free .result) (c .before .before .before .before .before .byte-at .ensures) (c .before .before .before .before .is-free .ensures) (c .before .before .before .if1 .taken) (c .before .look .result) (c .before .look .ensures) (c .if2 .left)
+returns-2 c =
+    let s = c .before .before .before .before .before .before .before .before .before .before .before .before .before .before .before in
+    let a = s .args in
+    let m = tableOf (a .sizes) (a .labels .now) (a .equations .now) (a .moves .now) (a .n) in
+    let h : Pile = record { marks = a .marks .now; stack = a .stack .now; top = a .top } in
+    push-not (a .settling) (lookTest m (changesOf (take (a .count) (a .changes .now))) (a .settling) (valueAt (a .values .now)) (λ q. getD (a .marks .now) q 0)) (a .p) h (c .before .before .before .before .before .byte-at .result) (c .before .before .before .before .is-free .result) (c .before .before .before .before .before .byte-at .ensures) (c .before .before .before .before .is-free .ensures) (c .before .before .before .if1 .taken) (c .before .look .result) (c .before .look .ensures) (c .if2 .left)
 
--- src/lib.rt:111:1
 same-length-4 : tie.Need-same-length-4
 same-length-4 c = search needs
 
--- src/lib.rt:111:1
 returns-3 : tie.Need-returns-3
-returns-3 c = let s = c .before .before .before .before .before .before .before .before .before .before .before .before in let a = s .args in let m = tableOf (a .sizes) (a .labels .now) (a .equations .now) (a .moves .now) (a .n) in let h : Pile = record { marks = a .marks .now; stack = a .stack .now; top = a .top } in push-shut (a .settling) (lookTest m (changesOf (take (a .count) (a .changes .now))) (a .settling) (valueAt (a .values .now)) (λ q. getD (a .marks .now) q 0)) (a .p) h (c .before .before .byte-at .result) (c .before .is-free .result) (c .before .before .byte-at .ensures) (c .before .is-free .ensures) (c .if1 .left)
+returns-3 c =
+    let s = c .before .before .before .before .before .before .before .before .before .before .before .before in
+    let a = s .args in
+    let m = tableOf (a .sizes) (a .labels .now) (a .equations .now) (a .moves .now) (a .n) in
+    let h : Pile = record { marks = a .marks .now; stack = a .stack .now; top = a .top } in
+    push-shut (a .settling) (lookTest m (changesOf (take (a .count) (a .changes .now))) (a .settling) (valueAt (a .values .now)) (λ q. getD (a .marks .now) q 0)) (a .p) h (c .before .before .byte-at .result) (c .before .is-free .result) (c .before .before .byte-at .ensures) (c .before .is-free .ensures) (c .if1 .left)
 
 pub look-at-spec : {M : Type 1} → statement M
 look-at-spec =

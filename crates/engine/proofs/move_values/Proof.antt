@@ -1,7 +1,8 @@
-use mathlib.Core.Path.{_≡_, sym, ap, _∙_, subst}
+-- The machine works on the front of longer rooms. Assumes nothing.
+use mathlib.Core.Path.{sym, ap, _∙_, subst}
 use Prim.Native.Nat.{ℕ}
 use native.Mathlib.Omega.{arith}
-use lib.ListN.{length, take, replicate}
+use lib.ListN.{take, replicate}
 use lib.Seq.{length-take-le}
 use Rattle.pairs.specs.Looks.{changesOf}
 use Rattle.pairs.specs.Drawn.{tableOf}
@@ -10,51 +11,65 @@ use Rattle.engine.specs.Updates.{moved-in, cleared-part}
 use borrow.Author.Needs.{needs}
 use Rattle.engine.proofs.move_values.Statement.{statement}
 use Rattle.engine.proofs.move_values.Tie as tie
-use Rattle.engine.proofs.move_values.Reads as reads
-use Rattle.engine.proofs.move_values.Lts as lts
-use Rattle.engine.proofs.drive.Reads as drive-reads
-use Rattle.limits.proofs.pairs_of.Reads as pairs-of-reads
-use Rattle.starts.proofs.clear.Reads as clear-reads
 
--- src/lib.rt:375:9
 pairs-of-requires : tie.Need-pairs-of-requires
 pairs-of-requires c κs = search needs
 
--- src/lib.rt:376:5
 clear-requires : tie.Need-clear-requires
 clear-requires c κs = search needs
 
--- src/lib.rt:385:9
 slice-relend-prefix-drive : tie.Need-slice-relend-prefix-drive
 slice-relend-prefix-drive c = search needs
 
--- src/lib.rt:385:9
 slice-aggregate-drive : tie.Need-slice-aggregate-drive
-slice-aggregate-drive c = let s = c .before .before .before .before .before .before .before .before .before .before .before .before in let a = s .args in let m = tableOf (a .sizes) (a .labels .now) (a .equations .now) (a .moves .now) (a .n) in let cs = changesOf (take (a .count) (a .changes .now)) in let d = s .pre .0 in let k = s .pre .1 .1 .1 .0 in let e = c .before .before .before .before .before .pairs-of .ensures .0 in sym (length-take-le (c .before .before .before .before .before .pairs-of .result) (a .values .now) (omega arith))
+slice-aggregate-drive c =
+    let s = c .before .before .before .before .before .before .before .before .before .before .before .before in
+    let a = s .args in
+    let m = tableOf (a .sizes) (a .labels .now) (a .equations .now) (a .moves .now) (a .n) in
+    let cs = changesOf (take (a .count) (a .changes .now)) in
+    let d = s .pre .0 in
+    let k = s .pre .1 .1 .1 .0 in
+    let e = c .before .before .before .before .before .pairs-of .ensures .0 in
+    sym (length-take-le (c .before .before .before .before .before .pairs-of .result) (a .values .now) (omega arith))
 
--- src/lib.rt:386:9
 slice-relend-prefix-drive-2 : tie.Need-slice-relend-prefix-drive-2
 slice-relend-prefix-drive-2 c = search needs
 
--- src/lib.rt:386:9
 slice-aggregate-drive-2 : tie.Need-slice-aggregate-drive-2
-slice-aggregate-drive-2 c = let s = c .before .before .before .before .before .before .before .before .before .before .before .before .before in let a = s .args in let m = tableOf (a .sizes) (a .labels .now) (a .equations .now) (a .moves .now) (a .n) in let cs = changesOf (take (a .count) (a .changes .now)) in let d = s .pre .0 in let k = s .pre .1 .1 .1 .0 in let e = c .before .before .before .before .before .before .pairs-of .ensures .0 in let l = c .before .before .before .before .clear .kept in sym (length-take-le (c .before .before .before .before .before .before .pairs-of .result) (c .before .before .before .before .clear .last .0) (omega arith))
+slice-aggregate-drive-2 c =
+    let s = c .before .before .before .before .before .before .before .before .before .before .before .before .before in
+    let a = s .args in
+    let m = tableOf (a .sizes) (a .labels .now) (a .equations .now) (a .moves .now) (a .n) in
+    let cs = changesOf (take (a .count) (a .changes .now)) in
+    let d = s .pre .0 in
+    let k = s .pre .1 .1 .1 .0 in
+    let e = c .before .before .before .before .before .before .pairs-of .ensures .0 in
+    let l = c .before .before .before .before .clear .kept in
+    sym (length-take-le (c .before .before .before .before .before .before .pairs-of .result) (c .before .before .before .before .clear .last .0) (omega arith))
 
--- src/lib.rt:377:5
 drive-requires : tie.Need-drive-requires
-drive-requires c κs = let s = c .before .before .before .before .before .before .before .before .before .before .before .before .before in let a = s .args in let m = tableOf (a .sizes) (a .labels .now) (a .equations .now) (a .moves .now) (a .n) in let cs = changesOf (take (a .count) (a .changes .now)) in let d = s .pre .0 in let k = s .pre .1 .1 .1 .0 in let e = c .before .before .before .before .before .before .pairs-of .ensures .0 in (d, (s .pre .1 .0, (subst (λ (q : ℕ). Started m cs (take q (a .values .now))) (sym e) (s .pre .1 .1 .0), (cleared-part (c .before .before .before .before .before .before .pairs-of .result) (a .marks .now) _ (c .before .before .before .before .clear .ensures) ∙ ap (λ (q : ℕ). replicate q 0) e, s .pre .1 .1 .1 .1))))
+drive-requires c κs =
+    let s = c .before .before .before .before .before .before .before .before .before .before .before .before .before in
+    let a = s .args in
+    let m = tableOf (a .sizes) (a .labels .now) (a .equations .now) (a .moves .now) (a .n) in
+    let cs = changesOf (take (a .count) (a .changes .now)) in
+    let d = s .pre .0 in
+    let e = c .before .before .before .before .before .before .pairs-of .ensures .0 in
+    (d, (s .pre .1 .0, (subst (λ (q : ℕ). Started m cs (take q (a .values .now))) (sym e) (s .pre .1 .1 .0), (cleared-part (c .before .before .before .before .before .before .pairs-of .result) (a .marks .now) _ (c .before .before .before .before .clear .ensures) ∙ ap (λ (q : ℕ). replicate q 0) e, s .pre .1 .1 .1 .1))))
 
--- src/lib.rt:357:1
 same-length : tie.Need-same-length
 same-length c = search needs
 
--- src/lib.rt:357:1
 same-length-2 : tie.Need-same-length-2
 same-length-2 c = search needs
 
--- src/lib.rt:357:1
 returns : tie.Need-returns
-returns c = let s = c .before .before .before .before .before .before .before .before .before .before .before .before .before .before .before .before .before .before in let a = s .args in let m = tableOf (a .sizes) (a .labels .now) (a .equations .now) (a .moves .now) (a .n) in let cs = changesOf (take (a .count) (a .changes .now)) in let d = s .pre .0 in let k = s .pre .1 .1 .1 .0 in moved-in m cs (a .values .now) (a .marks .now) (c .before .before .before .before .before .before .before .before .before .clear .last .0) (c .before .before .before .before .before .before .before .before .before .before .before .pairs-of .result) _ _ _ _ (c .before .before .before .before .before .before .before .before .before .before .before .pairs-of .ensures .0) (c .before .before .before .before .before .before .before .before .before .clear .ensures) (c .before .before .before .before .drive .ensures)
+returns c =
+    let s = c .before .before .before .before .before .before .before .before .before .before .before .before .before .before .before .before .before .before in
+    let a = s .args in
+    let m = tableOf (a .sizes) (a .labels .now) (a .equations .now) (a .moves .now) (a .n) in
+    let cs = changesOf (take (a .count) (a .changes .now)) in
+    moved-in m cs (a .values .now) (a .marks .now) (c .before .before .before .before .before .before .before .before .before .clear .last .0) (c .before .before .before .before .before .before .before .before .before .before .before .pairs-of .result) _ _ _ _ (c .before .before .before .before .before .before .before .before .before .before .before .pairs-of .ensures .0) (c .before .before .before .before .before .before .before .before .before .clear .ensures) (c .before .before .before .before .drive .ensures)
 
 pub move-values-spec : {M : Type 1} → statement M
 move-values-spec =

@@ -1,5 +1,6 @@
+-- Units are counted down, and each keeps what the machine keeps. Assumes nothing.
 use borrow.Author.Needs.{needs}
-use mathlib.Core.Path.{_≡_, sym, ap, _∙_, subst}
+use mathlib.Core.Path.{sym, ap, _∙_, subst}
 use mathlib.Core.Logic.{inl, inr}
 use mathlib.Core.Bool.{false}
 use mathlib.Core.List.{List}
@@ -16,11 +17,6 @@ use Rattle.engine.specs.Jobs.{jobAs}
 use Rattle.engine.specs.Runs.{Running, running-begins, running-ready, running-goes, running-ends, ran-long}
 use Rattle.engine.proofs.run.Statement.{statement}
 use Rattle.engine.proofs.run.Tie as tie
-use Rattle.engine.proofs.run.Reads as reads
-use Rattle.engine.proofs.run.Lts as lts
-use Rattle.engine.proofs.left_after.Reads as left-after-reads
-use Rattle.engine.proofs.unit.Reads as unit-reads
-use Rattle.limits.proofs.pairs_of.Reads as pairs-of-reads
 
 abbrev Inv-loop : tie.InvT-loop
 Inv-loop sizes labels equations moves n changes count index values₀ marks₀ stack₀ at₀ left₀ values marks stack at left =
@@ -30,49 +26,121 @@ Inv-loop sizes labels equations moves n changes count index values₀ marks₀ s
 abbrev μ-loop : tie.MeasureT-loop
 μ-loop sizes labels equations moves n changes count index values₀ marks₀ stack₀ at₀ left₀ values marks stack at left = left
 
--- src/lib.rt:289:24
 pairs-of-requires : tie.Need-pairs-of-requires Inv-loop μ-loop
 pairs-of-requires c κs = search needs
 
--- src/lib.rt:289:20
 mul-left : tie.Need-mul-left Inv-loop μ-loop
-mul-left c = let e = c .pairs-of .ensures .1 in record { fits = omega (arith, e) }
+mul-left c =
+    let e = c .pairs-of .ensures .1 in
+    record { fits = omega (arith, e) }
 
--- src/lib.rt:290:5
 loop-holds : tie.Need-loop-holds Inv-loop μ-loop
-loop-holds c = let s = c .before .before .before .before .before .before .before .before .before in let a = s .args in let m = tableOf (a .sizes) (a .labels .now) (a .equations .now) (a .moves .now) (a .n) in let cs = changesOf (take (a .count) (a .changes .now)) in let d = s .pre .0 in let st = s .pre .1 .1 .1 .0 in let k = s .pre .1 .1 .1 .1 in let few = pairs-few (a .sizes) (a .labels .now) (a .equations .now) (a .moves .now) (a .n) d in subst (λ (x : ℕ). Running m cs (a .values .now) (a .stack .now) (jobAs (a .values .now) (a .marks .now) (a .stack .now) 0 false 0 0 0 0) (4 * x)) (sym (c .pairs-of .ensures .0)) (running-begins m cs (a .values .now) (a .stack .now) st (k .1 .1) _ (ap (λ (x : List ℕ). jobAs (a .values .now) x (a .stack .now) 0 false 0 0 0 0) (k .1 .0)))
+loop-holds c =
+    let s = c .before .before .before .before .before .before .before .before .before in
+    let a = s .args in
+    let m = tableOf (a .sizes) (a .labels .now) (a .equations .now) (a .moves .now) (a .n) in
+    let cs = changesOf (take (a .count) (a .changes .now)) in
+    let st = s .pre .1 .1 .1 .0 in
+    let k = s .pre .1 .1 .1 .1 in
+    subst (λ (x : ℕ). Running m cs (a .values .now) (a .stack .now) (jobAs (a .values .now) (a .marks .now) (a .stack .now) 0 false 0 0 0 0) (4 * x)) (sym (c .pairs-of .ensures .0)) (running-begins m cs (a .values .now) (a .stack .now) st (k .1 .1) _ (ap (λ (x : List ℕ). jobAs (a .values .now) x (a .stack .now) 0 false 0 0 0 0) (k .1 .0)))
 
--- src/lib.rt:291:9
 unit-requires : tie.Need-unit-requires Inv-loop μ-loop
-unit-requires c κs = let s = c .before .before .before .before .before .before .before .before .before .before .before .before .before .before in let a = s .args in let m = tableOf (a .sizes) (a .labels .now) (a .equations .now) (a .moves .now) (a .n) in let cs = changesOf (take (a .count) (a .changes .now)) in let d = s .pre .0 in let st = s .pre .1 .1 .1 .0 in let k = s .pre .1 .1 .1 .1 in let few = pairs-few (a .sizes) (a .labels .now) (a .equations .now) (a .moves .now) (a .n) d in let l = c .before .before .before .before .loop in let j = jobAs (l .values) (l .marks) (l .stack) (l .at .block) (l .at .settling) (l .at .place) (l .at .top) (l .at .shifts) (l .at .settles) in let i = l .inv in let u = i .few in let p = i .shifts in let q = i .settles in (d, (s .pre .1 .0, (s .pre .1 .1 .0, (running-ready m cs (a .values .now) (a .stack .now) st (k .1 .1) j (l .left) i, (k .0, (omega arith, omega arith))))))
+unit-requires c κs =
+    let s = c .before .before .before .before .before .before .before .before .before .before .before .before .before .before in
+    let a = s .args in
+    let m = tableOf (a .sizes) (a .labels .now) (a .equations .now) (a .moves .now) (a .n) in
+    let cs = changesOf (take (a .count) (a .changes .now)) in
+    let d = s .pre .0 in
+    let st = s .pre .1 .1 .1 .0 in
+    let k = s .pre .1 .1 .1 .1 in
+    let few = pairs-few (a .sizes) (a .labels .now) (a .equations .now) (a .moves .now) (a .n) d in
+    let l = c .before .before .before .before .loop in
+    let j = jobAs (l .values) (l .marks) (l .stack) (l .at .block) (l .at .settling) (l .at .place) (l .at .top) (l .at .shifts) (l .at .settles) in
+    let i = l .inv in
+    let u = i .few in
+    let p = i .shifts in
+    let q = i .settles in
+    (d, (s .pre .1 .0, (s .pre .1 .1 .0, (running-ready m cs (a .values .now) (a .stack .now) st (k .1 .1) j (l .left) i, (k .0, (omega arith, omega arith))))))
 
--- src/lib.rt:306:9
 left-after-requires : tie.Need-left-after-requires Inv-loop μ-loop
 left-after-requires c κs = c .before .before .before .before .before .before .before .before .before .before .loop-test .taken
 
--- src/lib.rt:290:5
 loop-less : tie.Need-loop-less Inv-loop μ-loop
-loop-less c = let s = c .before .before .before .before .before .before .before .before .before .before .before .before .before .before .before .before .before .before .before .before .before .before in let a = s .args in let m = tableOf (a .sizes) (a .labels .now) (a .equations .now) (a .moves .now) (a .n) in let cs = changesOf (take (a .count) (a .changes .now)) in let d = s .pre .0 in let st = s .pre .1 .1 .1 .0 in let k = s .pre .1 .1 .1 .1 in let few = pairs-few (a .sizes) (a .labels .now) (a .equations .now) (a .moves .now) (a .n) d in let l = c .before .before .before .before .before .before .before .before .before .before .before .before .loop in let j = jobAs (l .values) (l .marks) (l .stack) (l .at .block) (l .at .settling) (l .at .place) (l .at .top) (l .at .shifts) (l .at .settles) in elim (c .left-after .ensures) [ inl e ↦ omega (arith, c .before .before .before .before .before .before .before .before .before .before .before .loop-test .taken) | inr e ↦ omega (arith, c .before .before .before .before .before .before .before .before .before .before .before .loop-test .taken, e .0) ]
+loop-less c =
+    let s = c .before .before .before .before .before .before .before .before .before .before .before .before .before .before .before .before .before .before .before .before .before .before in
+    let a = s .args in
+    let m = tableOf (a .sizes) (a .labels .now) (a .equations .now) (a .moves .now) (a .n) in
+    let cs = changesOf (take (a .count) (a .changes .now)) in
+    let d = s .pre .0 in
+    let st = s .pre .1 .1 .1 .0 in
+    let k = s .pre .1 .1 .1 .1 in
+    let few = pairs-few (a .sizes) (a .labels .now) (a .equations .now) (a .moves .now) (a .n) d in
+    let l = c .before .before .before .before .before .before .before .before .before .before .before .before .loop in
+    let j = jobAs (l .values) (l .marks) (l .stack) (l .at .block) (l .at .settling) (l .at .place) (l .at .top) (l .at .shifts) (l .at .settles) in
+    elim (c .left-after .ensures) [ inl e ↦ omega (arith, c .before .before .before .before .before .before .before .before .before .before .before .loop-test .taken) | inr e ↦ omega (arith, c .before .before .before .before .before .before .before .before .before .before .before .loop-test .taken, e .0) ]
 
--- src/lib.rt:290:5
 loop-again : tie.Need-loop-again Inv-loop μ-loop
-loop-again c = let s = c .before .before .before .before .before .before .before .before .before .before .before .before .before .before .before .before .before .before .before .before .before .before in let a = s .args in let m = tableOf (a .sizes) (a .labels .now) (a .equations .now) (a .moves .now) (a .n) in let cs = changesOf (take (a .count) (a .changes .now)) in let d = s .pre .0 in let st = s .pre .1 .1 .1 .0 in let k = s .pre .1 .1 .1 .1 in let few = pairs-few (a .sizes) (a .labels .now) (a .equations .now) (a .moves .now) (a .n) d in let l = c .before .before .before .before .before .before .before .before .before .before .before .before .loop in let j = jobAs (l .values) (l .marks) (l .stack) (l .at .block) (l .at .settling) (l .at .place) (l .at .top) (l .at .shifts) (l .at .settles) in running-goes m cs (a .values .now) (a .stack .now) st (k .1 .1) (leaners-of-few (a .sizes) (a .labels .now) (a .equations .now) (a .moves .now) (a .n) d) j _ (l .left) (c .left-after .result) (l .inv) (c .before .before .before .before .before .before .before .before .before .before .before .loop-test .taken) (c .before .before .before .before .before .before .before .unit .ensures) (c .left-after .ensures)
+loop-again c =
+    let s = c .before .before .before .before .before .before .before .before .before .before .before .before .before .before .before .before .before .before .before .before .before .before in
+    let a = s .args in
+    let m = tableOf (a .sizes) (a .labels .now) (a .equations .now) (a .moves .now) (a .n) in
+    let cs = changesOf (take (a .count) (a .changes .now)) in
+    let d = s .pre .0 in
+    let st = s .pre .1 .1 .1 .0 in
+    let k = s .pre .1 .1 .1 .1 in
+    let l = c .before .before .before .before .before .before .before .before .before .before .before .before .loop in
+    let j = jobAs (l .values) (l .marks) (l .stack) (l .at .block) (l .at .settling) (l .at .place) (l .at .top) (l .at .shifts) (l .at .settles) in
+    running-goes m cs (a .values .now) (a .stack .now) st (k .1 .1) (leaners-of-few (a .sizes) (a .labels .now) (a .equations .now) (a .moves .now) (a .n) d) j _ (l .left) (c .left-after .result) (l .inv) (c .before .before .before .before .before .before .before .before .before .before .before .loop-test .taken) (c .before .before .before .before .before .before .before .unit .ensures) (c .left-after .ensures)
 
--- src/lib.rt:259:1
 same-length : tie.Need-same-length Inv-loop μ-loop
-same-length c = let s = c .before .before .before .before .before .before .before .before .before .before .before in let a = s .args in let m = tableOf (a .sizes) (a .labels .now) (a .equations .now) (a .moves .now) (a .n) in let cs = changesOf (take (a .count) (a .changes .now)) in let d = s .pre .0 in let st = s .pre .1 .1 .1 .0 in let k = s .pre .1 .1 .1 .1 in let few = pairs-few (a .sizes) (a .labels .now) (a .equations .now) (a .moves .now) (a .n) d in let l = c .before .loop in let j = jobAs (l .values) (l .marks) (l .stack) (l .at .block) (l .at .settling) (l .at .place) (l .at .top) (l .at .shifts) (l .at .settles) in let f = running-ready m cs (a .values .now) (a .stack .now) st (k .1 .1) j (l .left) (l .inv) .formed in f .vals ∙ sym (st .long)
+same-length c =
+    let s = c .before .before .before .before .before .before .before .before .before .before .before in
+    let a = s .args in
+    let m = tableOf (a .sizes) (a .labels .now) (a .equations .now) (a .moves .now) (a .n) in
+    let cs = changesOf (take (a .count) (a .changes .now)) in
+    let st = s .pre .1 .1 .1 .0 in
+    let k = s .pre .1 .1 .1 .1 in
+    let l = c .before .loop in
+    let j = jobAs (l .values) (l .marks) (l .stack) (l .at .block) (l .at .settling) (l .at .place) (l .at .top) (l .at .shifts) (l .at .settles) in
+    let f = running-ready m cs (a .values .now) (a .stack .now) st (k .1 .1) j (l .left) (l .inv) .formed in
+    f .vals ∙ sym (st .long)
 
--- src/lib.rt:259:1
 same-length-2 : tie.Need-same-length-2 Inv-loop μ-loop
-same-length-2 c = let s = c .before .before .before .before .before .before .before .before .before .before .before in let a = s .args in let m = tableOf (a .sizes) (a .labels .now) (a .equations .now) (a .moves .now) (a .n) in let cs = changesOf (take (a .count) (a .changes .now)) in let d = s .pre .0 in let st = s .pre .1 .1 .1 .0 in let k = s .pre .1 .1 .1 .1 in let few = pairs-few (a .sizes) (a .labels .now) (a .equations .now) (a .moves .now) (a .n) d in let l = c .before .loop in let j = jobAs (l .values) (l .marks) (l .stack) (l .at .block) (l .at .settling) (l .at .place) (l .at .top) (l .at .shifts) (l .at .settles) in let f = running-ready m cs (a .values .now) (a .stack .now) st (k .1 .1) j (l .left) (l .inv) .formed in f .marks ∙ sym (ap length (k .1 .0) ∙ length-replicate (pairsOf (a .sizes)) 0)
+same-length-2 c =
+    let s = c .before .before .before .before .before .before .before .before .before .before .before in
+    let a = s .args in
+    let m = tableOf (a .sizes) (a .labels .now) (a .equations .now) (a .moves .now) (a .n) in
+    let cs = changesOf (take (a .count) (a .changes .now)) in
+    let st = s .pre .1 .1 .1 .0 in
+    let k = s .pre .1 .1 .1 .1 in
+    let l = c .before .loop in
+    let j = jobAs (l .values) (l .marks) (l .stack) (l .at .block) (l .at .settling) (l .at .place) (l .at .top) (l .at .shifts) (l .at .settles) in
+    let f = running-ready m cs (a .values .now) (a .stack .now) st (k .1 .1) j (l .left) (l .inv) .formed in
+    f .marks ∙ sym (ap length (k .1 .0) ∙ length-replicate (pairsOf (a .sizes)) 0)
 
--- src/lib.rt:259:1
 same-length-3 : tie.Need-same-length-3 Inv-loop μ-loop
-same-length-3 c = let s = c .before .before .before .before .before .before .before .before .before .before .before in let a = s .args in let m = tableOf (a .sizes) (a .labels .now) (a .equations .now) (a .moves .now) (a .n) in let cs = changesOf (take (a .count) (a .changes .now)) in let d = s .pre .0 in let st = s .pre .1 .1 .1 .0 in let k = s .pre .1 .1 .1 .1 in let few = pairs-few (a .sizes) (a .labels .now) (a .equations .now) (a .moves .now) (a .n) d in let l = c .before .loop in let j = jobAs (l .values) (l .marks) (l .stack) (l .at .block) (l .at .settling) (l .at .place) (l .at .top) (l .at .shifts) (l .at .settles) in let f = running-ready m cs (a .values .now) (a .stack .now) st (k .1 .1) j (l .left) (l .inv) .formed in ap (λ (x : Job). length (x .pile .stack)) (l .inv .is) ∙ ran-long m cs (a .values .now) (a .stack .now) (l .inv .units)
+same-length-3 c =
+    let s = c .before .before .before .before .before .before .before .before .before .before .before in
+    let a = s .args in
+    let m = tableOf (a .sizes) (a .labels .now) (a .equations .now) (a .moves .now) (a .n) in
+    let cs = changesOf (take (a .count) (a .changes .now)) in
+    let l = c .before .loop in
+    ap (λ (x : Job). length (x .pile .stack)) (l .inv .is) ∙ ran-long m cs (a .values .now) (a .stack .now) (l .inv .units)
 
--- src/lib.rt:259:1
 returns : tie.Need-returns Inv-loop μ-loop
-returns c = let s = c .before .before .before .before .before .before .before .before .before .before .before in let a = s .args in let m = tableOf (a .sizes) (a .labels .now) (a .equations .now) (a .moves .now) (a .n) in let cs = changesOf (take (a .count) (a .changes .now)) in let d = s .pre .0 in let st = s .pre .1 .1 .1 .0 in let k = s .pre .1 .1 .1 .1 in let few = pairs-few (a .sizes) (a .labels .now) (a .equations .now) (a .moves .now) (a .n) d in let l = c .before .loop in let j = jobAs (l .values) (l .marks) (l .stack) (l .at .block) (l .at .settling) (l .at .place) (l .at .top) (l .at .shifts) (l .at .settles) in let f = running-ready m cs (a .values .now) (a .stack .now) st (k .1 .1) j (l .left) (l .inv) .formed in running-ends m cs (a .values .now) (a .stack .now) j (l .left) (l .inv) (omega (arith, c .loop-test .left))
+returns c =
+    let s = c .before .before .before .before .before .before .before .before .before .before .before in
+    let a = s .args in
+    let m = tableOf (a .sizes) (a .labels .now) (a .equations .now) (a .moves .now) (a .n) in
+    let cs = changesOf (take (a .count) (a .changes .now)) in
+    let d = s .pre .0 in
+    let st = s .pre .1 .1 .1 .0 in
+    let k = s .pre .1 .1 .1 .1 in
+    let few = pairs-few (a .sizes) (a .labels .now) (a .equations .now) (a .moves .now) (a .n) d in
+    let l = c .before .loop in
+    let j = jobAs (l .values) (l .marks) (l .stack) (l .at .block) (l .at .settling) (l .at .place) (l .at .top) (l .at .shifts) (l .at .settles) in
+    let f = running-ready m cs (a .values .now) (a .stack .now) st (k .1 .1) j (l .left) (l .inv) .formed in
+    running-ends m cs (a .values .now) (a .stack .now) j (l .left) (l .inv) (omega (arith, c .loop-test .left))
 
 pub run-spec : {M : Type 1} → statement M
 run-spec =

@@ -1,3 +1,4 @@
+-- True pairs are counted before and after the machine has run. Assumes nothing.
 use mir.Syntax.{w32}
 use mir.ValLaws.{toZ-ofZ}
 use lib.IntN.{ℤ}
@@ -14,44 +15,51 @@ use Rattle.engine.specs.Updates.{update-leaves}
 use borrow.Author.Needs.{needs}
 use Rattle.engine.proofs.update.Statement.{statement}
 use Rattle.engine.proofs.update.Tie as tie
-use Rattle.engine.proofs.update.Reads as reads
-use Rattle.engine.proofs.update.Lts as lts
-use Rattle.engine.proofs.move_values.Reads as move-values-reads
-use Rattle.limits.proofs.pairs_of.Reads as pairs-of-reads
-use Rattle.starts.proofs.count_true.Reads as count-true-reads
-use Rattle.starts.proofs.net.Reads as net-reads
 
--- src/lib.rt:419:9
 pairs-of-requires : tie.Need-pairs-of-requires
 pairs-of-requires c κs = search needs
 
--- src/lib.rt:420:9
 count-true-requires : tie.Need-count-true-requires
 count-true-requires c κs = search needs
 
--- src/lib.rt:421:9
 move-values-requires : tie.Need-move-values-requires
 move-values-requires c κs = search needs
 
--- src/lib.rt:432:9
 count-true-requires-2 : tie.Need-count-true-requires-2
 count-true-requires-2 c κs = search needs
 
--- src/lib.rt:435:14
 net-requires : tie.Need-net-requires
-net-requires c κs = let s = c .before .before .before .before .before .before .before .before .before .before .before .before .before .before .before .before .before .before in let a = s .args in let m = tableOf (a .sizes) (a .labels .now) (a .equations .now) (a .moves .now) (a .n) in let cs = changesOf (take (a .count) (a .changes .now)) in let d = s .pre .0 in let few = pairs-few (a .sizes) (a .labels .now) (a .equations .now) (a .moves .now) (a .n) d in let e = c .before .before .before .before .before .before .before .before .before .before .before .pairs-of .ensures .0 in let x = c .before .before .before .before .before .before .before .before .before .count-true .ensures .1 in let y = c .count-true2 .ensures .1 in (omega arith, omega arith)
+net-requires c κs =
+    let s = c .before .before .before .before .before .before .before .before .before .before .before .before .before .before .before .before .before .before in
+    let a = s .args in
+    let m = tableOf (a .sizes) (a .labels .now) (a .equations .now) (a .moves .now) (a .n) in
+    let cs = changesOf (take (a .count) (a .changes .now)) in
+    let d = s .pre .0 in
+    let few = pairs-few (a .sizes) (a .labels .now) (a .equations .now) (a .moves .now) (a .n) d in
+    let e = c .before .before .before .before .before .before .before .before .before .before .before .pairs-of .ensures .0 in
+    let x = c .before .before .before .before .before .before .before .before .before .count-true .ensures .1 in
+    let y = c .count-true2 .ensures .1 in
+    (omega arith, omega arith)
 
--- src/lib.rt:400:1
 same-length : tie.Need-same-length
 same-length c = search needs
 
--- src/lib.rt:400:1
 same-length-2 : tie.Need-same-length-2
 same-length-2 c = search needs
 
--- src/lib.rt:400:1
 returns : tie.Need-returns
-returns c = let s = c .before .before .before .before .before .before .before .before .before .before .before .before .before .before .before .before .before .before .before in let a = s .args in let m = tableOf (a .sizes) (a .labels .now) (a .equations .now) (a .moves .now) (a .n) in let cs = changesOf (take (a .count) (a .changes .now)) in let d = s .pre .0 in let few = pairs-few (a .sizes) (a .labels .now) (a .equations .now) (a .moves .now) (a .n) d in let e = c .before .before .before .before .before .before .before .before .before .before .before .before .pairs-of .ensures .0 in let u = c .before .before .before .before .before .before .before .before .before .before .count-true .ensures .1 in let v = c .before .count-true2 .ensures .1 in let x = update-leaves m cs (a .values .now) (a .marks .now) _ _ _ _ (c .before .before .before .before .before .before .before .before .before .before .before .before .pairs-of .result) (c .before .before .before .before .before .before .before .before .before .before .count-true .result) (c .before .count-true2 .result) (c .net .result) (s .pre .1 .1 .0) (c .before .before .before .before .before .before .before .move-values .ensures) (c .before .before .before .before .before .before .before .before .before .before .before .before .pairs-of .ensures .0) (c .before .before .before .before .before .before .before .before .before .before .count-true .ensures .0) (c .before .count-true2 .ensures .0) (c .net .ensures) in record { values-are = x .values-are; marks-are = x .marks-are; shift-is = x .shift-is; settle-is = x .settle-is; net-is = toZ-ofZ w32 (c .net .result) (record { sfits = subst (λ (z : ℤ). mag z < 2 ^ 31) (sym (c .net .ensures)) (mag-sub (c .before .count-true2 .result) (c .before .before .before .before .before .before .before .before .before .before .count-true .result) (omega (arith, e, v)) (omega (arith, e, u))) }) ∙ x .net-is }
+returns c =
+    let s = c .before .before .before .before .before .before .before .before .before .before .before .before .before .before .before .before .before .before .before in
+    let a = s .args in
+    let m = tableOf (a .sizes) (a .labels .now) (a .equations .now) (a .moves .now) (a .n) in
+    let cs = changesOf (take (a .count) (a .changes .now)) in
+    let d = s .pre .0 in
+    let few = pairs-few (a .sizes) (a .labels .now) (a .equations .now) (a .moves .now) (a .n) d in
+    let e = c .before .before .before .before .before .before .before .before .before .before .before .before .pairs-of .ensures .0 in
+    let u = c .before .before .before .before .before .before .before .before .before .before .count-true .ensures .1 in
+    let v = c .before .count-true2 .ensures .1 in
+    let x = update-leaves m cs (a .values .now) (a .marks .now) _ _ _ _ (c .before .before .before .before .before .before .before .before .before .before .before .before .pairs-of .result) (c .before .before .before .before .before .before .before .before .before .before .count-true .result) (c .before .count-true2 .result) (c .net .result) (s .pre .1 .1 .0) (c .before .before .before .before .before .before .before .move-values .ensures) (c .before .before .before .before .before .before .before .before .before .before .before .before .pairs-of .ensures .0) (c .before .before .before .before .before .before .before .before .before .before .count-true .ensures .0) (c .before .count-true2 .ensures .0) (c .net .ensures) in
+    record { values-are = x .values-are; marks-are = x .marks-are; shift-is = x .shift-is; settle-is = x .settle-is; net-is = toZ-ofZ w32 (c .net .result) (record { sfits = subst (λ (z : ℤ). mag z < 2 ^ 31) (sym (c .net .ensures)) (mag-sub (c .before .count-true2 .result) (c .before .before .before .before .before .before .before .before .before .before .count-true .result) (omega (arith, e, v)) (omega (arith, e, u))) }) ∙ x .net-is }
 
 pub update-spec : {M : Type 1} → statement M
 update-spec =

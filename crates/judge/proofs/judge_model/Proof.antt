@@ -26,7 +26,11 @@ returns c = (rw (c .before .t .given .1) at (c .before .before .before .first-tu
 
 returns-2 : tie.Need-returns-2
 unfolding readModel readOn
-returns-2 c = let a = c .before .before .before .before .before .before .args in let l = lengthsBy (a .l) in let s = a .bytes .now in c .judge-rest .ensures ∙ sym (goes-first l s (c .before .before .t2 .given .0 .1 .0) (c .before .before .t2 .given .0 .1 .1 .0) (c .before .before .t2 .given .0 .0) (rw (c .before .before .t2 .given .1) at (c .before .before .before .before .first-turn .ensures)))
+returns-2 c =
+    let a = c .before .before .before .before .before .before .args in
+    let l = lengthsBy (a .l) in
+    let s = a .bytes .now in
+    c .judge-rest .ensures ∙ sym (goes-first l s (c .before .before .t2 .given .0 .1 .0) (c .before .before .t2 .given .0 .1 .1 .0) (c .before .before .t2 .given .0 .0) (rw (c .before .before .t2 .given .1) at (c .before .before .before .before .first-turn .ensures)))
 
 pub judge-model-spec : {M : Type 1} → statement M
 judge-model-spec =

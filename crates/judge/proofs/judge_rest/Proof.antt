@@ -35,13 +35,28 @@ enum-known-t-2 : tie.Need-enum-known-t-2 Inv-loop μ-loop
 enum-known-t-2 c = search needs
 
 loop-less : tie.Need-loop-less Inv-loop μ-loop
-loop-less c = let g = rw (c .before .t2 .given .1) at (c .before .before .before .turn .ensures) in omega arith
+loop-less c =
+    let g = rw (c .before .t2 .given .1) at (c .before .before .before .turn .ensures) in
+    omega arith
 
 loop-again : tie.Need-loop-again Inv-loop μ-loop
-loop-again c = let a = c .before .before .before .before .before .before .before .args in let l = lengthsBy (a .l) in let s = a .bytes .now in let p = c .before .before .before .before .before .loop .p in let at = c .before .before .before .before .before .loop .at in let g = rw (c .before .t2 .given .1) at (c .before .before .before .turn .ensures) in (g .kept, c .before .before .before .before .before .loop .inv .1 ∙ goes-on l s p (c .before .t2 .given .0 .1 .0) at (c .before .t2 .given .0 .1 .1 .0) (c .before .t2 .given .0 .0) g)
+loop-again c =
+    let a = c .before .before .before .before .before .before .before .args in
+    let l = lengthsBy (a .l) in
+    let s = a .bytes .now in
+    let p = c .before .before .before .before .before .loop .p in
+    let at = c .before .before .before .before .before .loop .at in
+    let g = rw (c .before .t2 .given .1) at (c .before .before .before .turn .ensures) in
+    (g .kept, c .before .before .before .before .before .loop .inv .1 ∙ goes-on l s p (c .before .t2 .given .0 .1 .0) at (c .before .t2 .given .0 .1 .1 .0) (c .before .t2 .given .0 .0) g)
 
 returns-2 : tie.Need-returns-2 Inv-loop μ-loop
-returns-2 c = let a = c .before .before .before .args in let l = lengthsBy (a .l) in let s = a .bytes .now in let p = c .before .loop .p in let at = c .before .loop .at in past-end l s (inside (sofarOf p)) at (omega arith) ∙ sym (c .before .loop .inv .1)
+returns-2 c =
+    let a = c .before .before .before .args in
+    let l = lengthsBy (a .l) in
+    let s = a .bytes .now in
+    let p = c .before .loop .p in
+    let at = c .before .loop .at in
+    past-end l s (inside (sofarOf p)) at (omega arith) ∙ sym (c .before .loop .inv .1)
 
 pub judge-rest-spec : {M : Type 1} → statement M
 judge-rest-spec =

@@ -12,16 +12,25 @@ cast-if1 : tie.Need-cast-if1
 cast-if1 c = search needs
 
 returns : tie.Need-returns
-returns c = let a = c .before .before .before .before .before .before .before .args in let x = sofarOf (a .x) in fails 0 (blockDemands x (a .k) (a .n)) (next (inside (afterBlock x (a .k) (a .n)))) (c .if1 .taken)
+returns c =
+    let a = c .before .before .before .before .before .before .before .args in
+    let x = sofarOf (a .x) in
+    fails 0 (blockDemands x (a .k) (a .n)) (next (inside (afterBlock x (a .k) (a .n)))) (c .if1 .taken)
 
 block-fits-requires : tie.Need-block-fits-requires
 block-fits-requires c κs = search needs
 
 returns-2 : tie.Need-returns-2
-returns-2 c = let a = c .before .before .before .before .before .before .before .before .before .args in let x = sofarOf (a .x) in fails 1 (blockDemands x (a .k) (a .n)) (next (inside (afterBlock x (a .k) (a .n)))) (c .before .before .if1 .left, rw (c .before .block-fits .ensures) at (c .if2 .taken))
+returns-2 c =
+    let a = c .before .before .before .before .before .before .before .before .before .args in
+    let x = sofarOf (a .x) in
+    fails 1 (blockDemands x (a .k) (a .n)) (next (inside (afterBlock x (a .k) (a .n)))) (c .before .before .if1 .left, rw (c .before .block-fits .ensures) at (c .if2 .taken))
 
 returns-3 : tie.Need-returns-3
-returns-3 c = let a = c .before .before .before .before .before .before .before .before .before .before .args in let x = sofarOf (a .x) in fails 2 (blockDemands x (a .k) (a .n)) (next (inside (afterBlock x (a .k) (a .n)))) (c .before .before .before .if1 .left, (rw (c .before .before .block-fits .ensures) at (c .before .if2 .left), c .if3 .taken))
+returns-3 c =
+    let a = c .before .before .before .before .before .before .before .before .before .before .args in
+    let x = sofarOf (a .x) in
+    fails 2 (blockDemands x (a .k) (a .n)) (next (inside (afterBlock x (a .k) (a .n)))) (c .before .before .before .if1 .left, (rw (c .before .before .block-fits .ensures) at (c .before .if2 .left), c .if3 .taken))
 
 cast-t8 : tie.Need-cast-t8
 cast-t8 c = search needs
@@ -30,7 +39,10 @@ add-t15 : tie.Need-add-t15
 add-t15 c = search needs
 
 returns-4 : tie.Need-returns-4
-returns-4 c = let a = c .before .before .before .before .before .before .before .before .before .before .before .before .args in let x = sofarOf (a .x) in rw add-one (meets (blockDemands x (a .k) (a .n)) (next (inside (afterBlock x (a .k) (a .n)))) (c .before .before .before .before .before .if1 .left, (rw (c .before .before .before .before .block-fits .ensures) at (c .before .before .before .if2 .left), (c .before .before .if3 .left, tt))))
+returns-4 c =
+    let a = c .before .before .before .before .before .before .before .before .before .before .before .before .args in
+    let x = sofarOf (a .x) in
+    rw add-one (meets (blockDemands x (a .k) (a .n)) (next (inside (afterBlock x (a .k) (a .n)))) (c .before .before .before .before .before .if1 .left, (rw (c .before .before .before .before .block-fits .ensures) at (c .before .before .before .if2 .left), (c .before .before .if3 .left, tt))))
 
 pub on-block-spec : {M : Type 1} → statement M
 on-block-spec =

@@ -12,13 +12,19 @@ use Rattle.judge.proofs.on_equation.Statement.{statement}
 use Rattle.judge.proofs.on_equation.Tie as tie
 
 returns : tie.Need-returns
-returns c = let a = c .before .before .before .before .before .args in let x = sofarOf (a .x) in fails 0 (equationDemands x (a .o) (a .a) (a .b)) (next (inside (afterEquation x))) (c .if1 .taken)
+returns c =
+    let a = c .before .before .before .before .before .args in
+    let x = sofarOf (a .x) in
+    fails 0 (equationDemands x (a .o) (a .a) (a .b)) (next (inside (afterEquation x))) (c .if1 .taken)
 
 operands-ok-requires : tie.Need-operands-ok-requires
 operands-ok-requires c κs = search needs
 
 returns-2 : tie.Need-returns-2
-returns-2 c = let a = c .before .before .before .before .before .before .before .args in let x = sofarOf (a .x) in fails 1 (equationDemands x (a .o) (a .a) (a .b)) (next (inside (afterEquation x))) (c .before .before .if1 .left, rw (c .before .operands-ok .ensures) at (c .if2 .taken))
+returns-2 c =
+    let a = c .before .before .before .before .before .before .before .args in
+    let x = sofarOf (a .x) in
+    fails 1 (equationDemands x (a .o) (a .a) (a .b)) (next (inside (afterEquation x))) (c .before .before .if1 .left, rw (c .before .operands-ok .ensures) at (c .if2 .taken))
 
 add-names-ok : tie.Need-add-names-ok
 add-names-ok c = search needs
@@ -27,16 +33,25 @@ names-ok-requires : tie.Need-names-ok-requires
 names-ok-requires c κs = search needs
 
 returns-3 : tie.Need-returns-3
-returns-3 c = let a = c .before .before .before .before .before .before .before .before .before .before .args in let x = sofarOf (a .x) in fails 2 (equationDemands x (a .o) (a .a) (a .b)) (next (inside (afterEquation x))) (c .before .before .before .before .before .if1 .left, (rw (c .before .before .before .before .operands-ok .ensures) at (c .before .before .before .if2 .left), rw (c .before .names-ok .ensures) at (c .if3 .taken)))
+returns-3 c =
+    let a = c .before .before .before .before .before .before .before .before .before .before .args in
+    let x = sofarOf (a .x) in
+    fails 2 (equationDemands x (a .o) (a .a) (a .b)) (next (inside (afterEquation x))) (c .before .before .before .before .before .if1 .left, (rw (c .before .before .before .before .operands-ok .ensures) at (c .before .before .before .if2 .left), rw (c .before .names-ok .ensures) at (c .if3 .taken)))
 
 sub-t12 : tie.Need-sub-t12
-sub-t12 c = let a = c .before .before .before .before .before .before .before .before .before .before .before .args .x .blocks .due in let h = ltb-true 0 a (not-false (ltb 0 a) (c .before .before .before .before .before .before .if1 .left)) in omega arith
+sub-t12 c =
+    let a = c .before .before .before .before .before .before .before .before .before .before .before .args .x .blocks .due in
+    let h = ltb-true 0 a (not-false (ltb 0 a) (c .before .before .before .before .before .before .if1 .left)) in
+    omega arith
 
 add-t14 : tie.Need-add-t14
 add-t14 c = search needs
 
 returns-4 : tie.Need-returns-4
-returns-4 c = let a = c .before .before .before .before .before .before .before .before .before .before .before .before .args in let x = sofarOf (a .x) in rw add-one (meets (equationDemands x (a .o) (a .a) (a .b)) (next (inside (afterEquation x))) (c .before .before .before .before .before .before .before .if1 .left, (rw (c .before .before .before .before .before .before .operands-ok .ensures) at (c .before .before .before .before .before .if2 .left), (rw (c .before .before .before .names-ok .ensures) at (c .before .before .if3 .left), tt))))
+returns-4 c =
+    let a = c .before .before .before .before .before .before .before .before .before .before .before .before .args in
+    let x = sofarOf (a .x) in
+    rw add-one (meets (equationDemands x (a .o) (a .a) (a .b)) (next (inside (afterEquation x))) (c .before .before .before .before .before .before .before .if1 .left, (rw (c .before .before .before .before .before .before .operands-ok .ensures) at (c .before .before .before .before .before .if2 .left), (rw (c .before .before .before .names-ok .ensures) at (c .before .before .if3 .left), tt))))
 
 pub on-equation-spec : {M : Type 1} → statement M
 on-equation-spec =

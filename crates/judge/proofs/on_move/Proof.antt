@@ -25,28 +25,52 @@ moves-due-requires : tie.Need-moves-due-requires
 moves-due-requires c κs = search needs
 
 returns : tie.Need-returns
-returns c = let a = c .before .before .before .before .before .before .args in let x = sofarOf (a .x) in let q = pack (a .m .source .0) (a .m .action .0) (a .m .target .0) in fails 0 (moveDemands (lengthsBy (a .l)) x (a .m .source .0) (a .m .action .0) (a .m .target .0)) (next (inside (afterMove x q))) (rw (c .before .moves-due .ensures) at (c .if1 .taken))
+returns c =
+    let a = c .before .before .before .before .before .before .args in
+    let x = sofarOf (a .x) in
+    let q = pack (a .m .source .0) (a .m .action .0) (a .m .target .0) in
+    fails 0 (moveDemands (lengthsBy (a .l)) x (a .m .source .0) (a .m .action .0) (a .m .target .0)) (next (inside (afterMove x q))) (rw (c .before .moves-due .ensures) at (c .if1 .taken))
 
 move-ok-requires : tie.Need-move-ok-requires
 move-ok-requires c κs = search needs
 
 returns-2 : tie.Need-returns-2
-returns-2 c = let a = c .before .before .before .before .before .before .before .before .args in let x = sofarOf (a .x) in let q = pack (a .m .source .0) (a .m .action .0) (a .m .target .0) in fails 1 (moveDemands (lengthsBy (a .l)) x (a .m .source .0) (a .m .action .0) (a .m .target .0)) (next (inside (afterMove x q))) (rw (c .before .before .before .moves-due .ensures) at (c .before .before .if1 .left), rw (c .before .move-ok .ensures) at (c .if2 .taken))
+returns-2 c =
+    let a = c .before .before .before .before .before .before .before .before .args in
+    let x = sofarOf (a .x) in
+    let q = pack (a .m .source .0) (a .m .action .0) (a .m .target .0) in
+    fails 1 (moveDemands (lengthsBy (a .l)) x (a .m .source .0) (a .m .action .0) (a .m .target .0)) (next (inside (afterMove x q))) (rw (c .before .before .before .moves-due .ensures) at (c .before .before .if1 .left), rw (c .before .move-ok .ensures) at (c .if2 .taken))
 
 returns-3 : tie.Need-returns-3
-returns-3 c = let a = c .before .before .before .before .before .before .before .before .before .before .args in let x = sofarOf (a .x) in let q = pack (a .m .source .0) (a .m .action .0) (a .m .target .0) in fails 2 (moveDemands (lengthsBy (a .l)) x (a .m .source .0) (a .m .action .0) (a .m .target .0)) (next (inside (afterMove x q))) (rw (c .before .before .before .before .before .moves-due .ensures) at (c .before .before .before .before .if1 .left), (rw (c .before .before .before .move-ok .ensures) at (c .before .before .if2 .left), rw (c .before .before .before .before .before .before .packed .ensures .0) at (c .if3 .taken)))
+returns-3 c =
+    let a = c .before .before .before .before .before .before .before .before .before .before .args in
+    let x = sofarOf (a .x) in
+    let q = pack (a .m .source .0) (a .m .action .0) (a .m .target .0) in
+    fails 2 (moveDemands (lengthsBy (a .l)) x (a .m .source .0) (a .m .action .0) (a .m .target .0)) (next (inside (afterMove x q))) (rw (c .before .before .before .before .before .moves-due .ensures) at (c .before .before .before .before .if1 .left), (rw (c .before .before .before .move-ok .ensures) at (c .before .before .if2 .left), rw (c .before .before .before .before .before .before .packed .ensures .0) at (c .if3 .taken)))
 
 returns-4 : tie.Need-returns-4
-returns-4 c = let a = c .before .before .before .before .before .before .before .before .before .before .before .before .args in let x = sofarOf (a .x) in let q = pack (a .m .source .0) (a .m .action .0) (a .m .target .0) in fails 3 (moveDemands (lengthsBy (a .l)) x (a .m .source .0) (a .m .action .0) (a .m .target .0)) (next (inside (afterMove x q))) (rw (c .before .before .before .before .before .before .before .moves-due .ensures) at (c .before .before .before .before .before .before .if1 .left), (rw (c .before .before .before .before .before .move-ok .ensures) at (c .before .before .before .before .if2 .left), (rw (c .before .before .before .before .before .before .before .before .packed .ensures .0) at (c .before .before .if3 .left), rw (below-both (a .x .moves .count) 1024 (a .l .moves)) at (c .if4 .taken))))
+returns-4 c =
+    let a = c .before .before .before .before .before .before .before .before .before .before .before .before .args in
+    let x = sofarOf (a .x) in
+    let q = pack (a .m .source .0) (a .m .action .0) (a .m .target .0) in
+    fails 3 (moveDemands (lengthsBy (a .l)) x (a .m .source .0) (a .m .action .0) (a .m .target .0)) (next (inside (afterMove x q))) (rw (c .before .before .before .before .before .before .before .moves-due .ensures) at (c .before .before .before .before .before .before .if1 .left), (rw (c .before .before .before .before .before .move-ok .ensures) at (c .before .before .before .before .if2 .left), (rw (c .before .before .before .before .before .before .before .before .packed .ensures .0) at (c .before .before .if3 .left), rw (below-both (a .x .moves .count) 1024 (a .l .moves)) at (c .if4 .taken))))
 
 add-t16 : tie.Need-add-t16
-add-t16 c = let n = c .before .before .before .before .before .before .before .before .before .before .before .before .before .args .x .moves .count in let k = and-is (ltb n 1024) (ltb n (c .before .before .before .before .before .before .before .before .before .before .before .before .before .args .l .moves)) .0 (not-false (ltb n 1024 && ltb n (c .before .before .before .before .before .before .before .before .before .before .before .before .before .args .l .moves)) (c .before .if4 .left)) in let h = ltb-true n 1024 (k .0) in omega arith
+add-t16 c =
+    let n = c .before .before .before .before .before .before .before .before .before .before .before .before .before .args .x .moves .count in
+    let k = and-is (ltb n 1024) (ltb n (c .before .before .before .before .before .before .before .before .before .before .before .before .before .args .l .moves)) .0 (not-false (ltb n 1024 && ltb n (c .before .before .before .before .before .before .before .before .before .before .before .before .before .args .l .moves)) (c .before .if4 .left)) in
+    let h = ltb-true n 1024 (k .0) in
+    omega arith
 
 add-t17 : tie.Need-add-t17
 add-t17 c = search needs
 
 returns-5 : tie.Need-returns-5
-returns-5 c = let a = c .before .before .before .before .before .before .before .before .before .before .before .before .before .args in let x = sofarOf (a .x) in let q = pack (a .m .source .0) (a .m .action .0) (a .m .target .0) in rw (c .before .before .before .before .before .before .before .before .before .packed .ensures .0, add-one, add-one) (meets (moveDemands (lengthsBy (a .l)) x (a .m .source .0) (a .m .action .0) (a .m .target .0)) (next (inside (afterMove x q))) (rw (c .before .before .before .before .before .before .before .before .moves-due .ensures) at (c .before .before .before .before .before .before .before .if1 .left), (rw (c .before .before .before .before .before .before .move-ok .ensures) at (c .before .before .before .before .before .if2 .left), (rw (c .before .before .before .before .before .before .before .before .before .packed .ensures .0) at (c .before .before .before .if3 .left), (rw (below-both (a .x .moves .count) 1024 (a .l .moves)) at (c .before .if4 .left), tt)))))
+returns-5 c =
+    let a = c .before .before .before .before .before .before .before .before .before .before .before .before .before .args in
+    let x = sofarOf (a .x) in
+    let q = pack (a .m .source .0) (a .m .action .0) (a .m .target .0) in
+    rw (c .before .before .before .before .before .before .before .before .before .packed .ensures .0, add-one, add-one) (meets (moveDemands (lengthsBy (a .l)) x (a .m .source .0) (a .m .action .0) (a .m .target .0)) (next (inside (afterMove x q))) (rw (c .before .before .before .before .before .before .before .before .moves-due .ensures) at (c .before .before .before .before .before .before .before .if1 .left), (rw (c .before .before .before .before .before .before .move-ok .ensures) at (c .before .before .before .before .before .if2 .left), (rw (c .before .before .before .before .before .before .before .before .before .packed .ensures .0) at (c .before .before .before .if3 .left), (rw (below-both (a .x .moves .count) 1024 (a .l .moves)) at (c .before .if4 .left), tt)))))
 
 pub on-move-spec : {M : Type 1} → statement M
 on-move-spec =

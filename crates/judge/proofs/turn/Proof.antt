@@ -36,13 +36,35 @@ at-end-requires : tie.Need-at-end-requires
 at-end-requires c κs = search needs
 
 returns-2 : tie.Need-returns-2
-returns-2 c = let a = c .before .before .before .before .before .before .before .before .before .args in let l = lengthsBy (a .l) in let s = a .bytes .now in let st = inside (sofarOf (a .x)) in let g = c .before .before .before .before .before .read .given in let got = sym (c .before .before .before .before .before .before .before .read-record .ensures) ∙ g .1 in turned-no l s st (a .at) (g .0 .1 .0) (g .0 .0) got (c .before .judged .given .0 .0) (sym (c .before .before .before .judge-record .ensures) ∙ ap judgedSays (c .before .judged .given .1))
+returns-2 c =
+    let a = c .before .before .before .before .before .before .before .before .before .args in
+    let l = lengthsBy (a .l) in
+    let s = a .bytes .now in
+    let st = inside (sofarOf (a .x)) in
+    let g = c .before .before .before .before .before .read .given in
+    let got = sym (c .before .before .before .before .before .before .before .read-record .ensures) ∙ g .1 in
+    turned-no l s st (a .at) (g .0 .1 .0) (g .0 .0) got (c .before .judged .given .0 .0) (sym (c .before .before .before .judge-record .ensures) ∙ ap judgedSays (c .before .judged .given .1))
 
 returns-3 : tie.Need-returns-3
-returns-3 c = let a = c .before .before .before .before .before .before .before .before .before .args in let l = lengthsBy (a .l) in let s = a .bytes .now in let st = inside (sofarOf (a .x)) in let g = c .before .before .before .before .before .read .given in let got = sym (c .before .before .before .before .before .before .before .read-record .ensures) ∙ g .1 in let y = c .before .judged2 .given .0 .0 in let h = sym (c .before .before .before .judge-record .ensures) ∙ ap judgedSays (c .before .judged2 .given .1) in turned-next l s st (a .at) (g .0 .1 .0) (g .0 .0) got y h (step-kept l (sofarOf (a .x)) (sofarOf y) (g .0 .0) (c .before .before .before .before .before .before .before .before .before .pre) h)
+returns-3 c =
+    let a = c .before .before .before .before .before .before .before .before .before .args in
+    let l = lengthsBy (a .l) in
+    let s = a .bytes .now in
+    let st = inside (sofarOf (a .x)) in
+    let g = c .before .before .before .before .before .read .given in
+    let got = sym (c .before .before .before .before .before .before .before .read-record .ensures) ∙ g .1 in
+    let y = c .before .judged2 .given .0 .0 in
+    let h = sym (c .before .before .before .judge-record .ensures) ∙ ap judgedSays (c .before .judged2 .given .1) in
+    turned-next l s st (a .at) (g .0 .1 .0) (g .0 .0) got y h (step-kept l (sofarOf (a .x)) (sofarOf y) (g .0 .0) (c .before .before .before .before .before .before .before .before .before .pre) h)
 
 returns-4 : tie.Need-returns-4
-returns-4 c = let a = c .before .before .before .before .before .before .before .before .before .args in let l = lengthsBy (a .l) in let s = a .bytes .now in let st = inside (sofarOf (a .x)) in let g = c .before .before .before .before .before .read .given in let got = sym (c .before .before .before .before .before .before .before .read-record .ensures) ∙ g .1 in rw (c .at-end .ensures) (turned-over l s (a .x) (a .at) (g .0 .1 .0) (g .0 .0) got (sym (c .before .before .before .judge-record .ensures) ∙ ap judgedSays (c .before .enum-told2 .given .1)))
+returns-4 c =
+    let a = c .before .before .before .before .before .before .before .before .before .args in
+    let l = lengthsBy (a .l) in
+    let s = a .bytes .now in
+    let g = c .before .before .before .before .before .read .given in
+    let got = sym (c .before .before .before .before .before .before .before .read-record .ensures) ∙ g .1 in
+    rw (c .at-end .ensures) (turned-over l s (a .x) (a .at) (g .0 .1 .0) (g .0 .0) got (sym (c .before .before .before .judge-record .ensures) ∙ ap judgedSays (c .before .enum-told2 .given .1)))
 
 pub turn-spec : {M : Type 1} → statement M
 turn-spec =

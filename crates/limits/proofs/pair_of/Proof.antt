@@ -13,13 +13,19 @@ cast-result-2 : tie.Need-cast-result-2
 cast-result-2 c = search needs
 
 mul-result : tie.Need-mul-result
-mul-result c = let a = c .before .before .args in let h : a .x .0 * a .z .states ≤ 256 * 65536 = mul-le-mul {n₂ = 256} {m₂ = 65536} (omega arith) (omega arith) in omega arith
+mul-result c =
+    let a = c .before .before .args in
+    let h : a .x .0 * a .z .states ≤ 256 * 65536 = mul-le-mul {n₂ = 256} {m₂ = 65536} (omega arith) (omega arith) in
+    omega arith
 
 cast-result-3 : tie.Need-cast-result-3
 cast-result-3 c = search needs
 
 add-result : tie.Need-add-result
-add-result c = let a = c .before .before .before .args in let h : a .x .0 * a .z .states ≤ 256 * 65536 = mul-le-mul {n₂ = 256} {m₂ = 65536} (omega arith) (omega arith) in omega arith
+add-result c =
+    let a = c .before .before .before .args in
+    let h : a .x .0 * a .z .states ≤ 256 * 65536 = mul-le-mul {n₂ = 256} {m₂ = 65536} (omega arith) (omega arith) in
+    omega arith
 
 returns : tie.Need-returns
 returns c = search needs

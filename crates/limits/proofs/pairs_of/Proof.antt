@@ -14,10 +14,16 @@ cast-result-2 : tie.Need-cast-result-2
 cast-result-2 c = search needs
 
 mul-result : tie.Need-mul-result
-mul-result c = let a = c .before .before .args .z in let h : a .variables * a .states ≤ 255 * 65535 = mul-le-mul {n₁ = a .variables} {m₁ = a .states} {n₂ = 255} {m₂ = 65535} (omega arith) (omega arith) in record { fits = omega arith }
+mul-result c =
+    let a = c .before .before .args .z in
+    let h : a .variables * a .states ≤ 255 * 65535 = mul-le-mul {n₁ = a .variables} {m₁ = a .states} {n₂ = 255} {m₂ = 65535} (omega arith) (omega arith) in
+    record { fits = omega arith }
 
 returns : tie.Need-returns
-returns c = let a = c .before .before .args .z in let h : a .variables * a .states ≤ 255 * 65535 = mul-le-mul {n₁ = a .variables} {m₁ = a .states} {n₂ = 255} {m₂ = 65535} (omega arith) (omega arith) in (refl, omega arith)
+returns c =
+    let a = c .before .before .args .z in
+    let h : a .variables * a .states ≤ 255 * 65535 = mul-le-mul {n₁ = a .variables} {m₁ = a .states} {n₂ = 255} {m₂ = 65535} (omega arith) (omega arith) in
+    (refl, omega arith)
 
 pub pairs-of-spec : {M : Type 1} → statement M
 pairs-of-spec = tie.close (tie.spec cast-result cast-result-2 mul-result returns)

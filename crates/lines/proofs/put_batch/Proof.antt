@@ -1,3 +1,4 @@
+-- The pieces of a batch's line, one after the other. Assumes nothing.
 use native.Mathlib.Omega.{arith}
 use Rattle.lines.specs.Signs.{handed}
 -- `lines::put_batch` meets its contract. Assumes nothing.

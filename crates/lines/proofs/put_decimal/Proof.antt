@@ -16,7 +16,10 @@ slice-aggregate-put-text : tie.Need-slice-aggregate-put-text
 slice-aggregate-put-text c = search needs
 
 put-text-requires : tie.Need-put-text-requires
-put-text-requires c κs = let d = c .before .before .decimal in let a = c .before .before .before .before .before .args in (omega arith, rw (d .ensures .1 .1 ∙ decimal-is (d .result) (a .n) (d .ensures .1 .0)) (decimal-few 20 (a .n) (omega arith) (omega arith)))
+put-text-requires c κs =
+    let d = c .before .before .decimal in
+    let a = c .before .before .before .before .before .args in
+    (omega arith, rw (d .ensures .1 .1 ∙ decimal-is (d .result) (a .n) (d .ensures .1 .0)) (decimal-few 20 (a .n) (omega arith) (omega arith)))
 
 same-length : tie.Need-same-length
 same-length c = search needs

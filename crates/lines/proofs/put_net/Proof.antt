@@ -1,3 +1,4 @@
+-- A net change is a sign and a size. Assumes nothing.
 use Rattle.lines.specs.Signs.{handed}
 -- `lines::put_net` meets its contract. Assumes nothing.
 use native.Mathlib.Omega.{arith}

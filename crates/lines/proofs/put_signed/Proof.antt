@@ -19,10 +19,14 @@ put-text-requires : tie.Need-put-text-requires
 put-text-requires c κs = search needs
 
 sub-put-decimal : tie.Need-sub-put-decimal
-sub-put-decimal c = let s = c .before .before .before .before .before .before .before .before in below (s .args .z) (omega (arith, s .good)) (c .before .before .before .before .before .before .if1 .taken) .turns
+sub-put-decimal c =
+    let s = c .before .before .before .before .before .before .before .before in
+    below (s .args .z) (omega (arith, s .good)) (c .before .before .before .before .before .before .if1 .taken) .turns
 
 cast-put-decimal : tie.Need-cast-put-decimal
-cast-put-decimal c = let s = c .before .before .before .before .before .before .before .before in below (s .args .z) (omega (arith, s .good)) (c .before .before .before .before .before .before .if1 .taken) .casts
+cast-put-decimal c =
+    let s = c .before .before .before .before .before .before .before .before in
+    below (s .args .z) (omega (arith, s .good)) (c .before .before .before .before .before .before .if1 .taken) .casts
 
 put-decimal-requires : tie.Need-put-decimal-requires
 put-decimal-requires c κs = search needs
@@ -40,7 +44,9 @@ returns c =
     (rw (← g) (wrote-more (45 ∷ []) (decimal (natAbs (turned z))) (s .args .out .now) _ _ (s .args .at) _ _ t (d .0)), omega (arith, t .1))
 
 cast-put-decimal-2 : tie.Need-cast-put-decimal-2
-cast-put-decimal-2 c = let s = c .before .before .before in above (s .args .z) (omega (arith, s .good)) (c .before .if1 .left) .casts
+cast-put-decimal-2 c =
+    let s = c .before .before .before in
+    above (s .args .z) (omega (arith, s .good)) (c .before .if1 .left) .casts
 
 put-decimal-requires-2 : tie.Need-put-decimal-requires-2
 put-decimal-requires-2 c κs = search needs

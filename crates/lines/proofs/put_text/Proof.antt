@@ -34,7 +34,10 @@ loop-less : tie.Need-loop-less Inv-loop μ-loop
 loop-less c = omega arith
 
 loop-again : tie.Need-loop-again Inv-loop μ-loop
-loop-again c = let l = c .before .before .before .before .before .before .loop in let a = c .before .before .before .before .before .before .before .before .before .args in (search needs, omega arith, l .inv .2, copied-more (a .text .now) (a .out .now) (l .out) _ (a .at) (l .i) _ (omega arith) (l .inv .3) (c .before .before .before .byte-at .ensures) (c .before .before .set-byte .ensures))
+loop-again c =
+    let l = c .before .before .before .before .before .before .loop in
+    let a = c .before .before .before .before .before .before .before .before .before .args in
+    (search needs, omega arith, l .inv .2, copied-more (a .text .now) (a .out .now) (l .out) _ (a .at) (l .i) _ (omega arith) (l .inv .3) (c .before .before .before .byte-at .ensures) (c .before .before .set-byte .ensures))
 
 add-result : tie.Need-add-result Inv-loop μ-loop
 add-result c = omega arith
@@ -43,7 +46,10 @@ same-length : tie.Need-same-length Inv-loop μ-loop
 same-length c = c .before .loop .inv .0
 
 returns : tie.Need-returns Inv-loop μ-loop
-returns c = let l = c .before .loop in let a = c .before .before .before .before .args in copied-all (a .text .now) (a .out .now) (l .out) (a .at) (l .i) _ (l .inv .2) (omega arith) (l .inv .3)
+returns c =
+    let l = c .before .loop in
+    let a = c .before .before .before .before .args in
+    copied-all (a .text .now) (a .out .now) (l .out) (a .at) (l .i) _ (l .inv .2) (omega arith) (l .inv .3)
 
 pub put-text-spec : {M : Type 1} → statement M
 put-text-spec =

@@ -19,7 +19,15 @@ cast-n : tie.Need-cast-n
 cast-n c = search needs
 
 load-values-requires : tie.Need-load-values-requires
-load-values-requires c κs = let a = c .before .before .before .before .before .before .before .before .before .before .before .before .before .before .before .before .before .before .before .before .before .before .before .before .args in let l = five (a .labels .now) (a .equations .now) (a .values .now) (a .marks .now) (a .moves .now) in let s = a .bytes .now in let y = are-bytes s (λ i. omega (arith, c .before .before .before .before .before .before .before .before .before .before .before .before .before .before .before .before .before .before .before .before .before .before .before .shared-slice-known .given i)) in let h = c .before .before .before .before .before .before .before .before .before .before .before .before .before .before .read-model .ensures in let g = c .before .before .before .before .before .before .found2 .given in let f = found l s y _ _ h (g .0 .0) (g .0 .1 .0) (g .1) in (f .drawn, (f .values-room, f .marks-room))
+load-values-requires c κs =
+    let a = c .before .before .before .before .before .before .before .before .before .before .before .before .before .before .before .before .before .before .before .before .before .before .before .before .args in
+    let l = five (a .labels .now) (a .equations .now) (a .values .now) (a .marks .now) (a .moves .now) in
+    let s = a .bytes .now in
+    let y = are-bytes s (λ i. omega (arith, c .before .before .before .before .before .before .before .before .before .before .before .before .before .before .before .before .before .before .before .before .before .before .before .shared-slice-known .given i)) in
+    let h = c .before .before .before .before .before .before .before .before .before .before .before .before .before .before .read-model .ensures in
+    let g = c .before .before .before .before .before .before .found2 .given in
+    let f = found l s y _ _ h (g .0 .0) (g .0 .1 .0) (g .1) in
+    (f .drawn, (f .values-room, f .marks-room))
 
 stamp-of-requires : tie.Need-stamp-of-requires
 stamp-of-requires c κs = search needs
@@ -34,7 +42,14 @@ same-length-3 : tie.Need-same-length-3
 same-length-3 c = search needs
 
 returns : tie.Need-returns
-returns c = let a = c .before .before .before .before .before .before .before .before .before .before .before .before .before .before .before .before .before .before .before .args in let l = five (a .labels .now) (a .equations .now) (a .values .now) (a .marks .now) (a .moves .now) in let s = a .bytes .now in let y = are-bytes s (λ i. omega (arith, c .before .before .before .before .before .before .before .before .before .before .before .before .before .before .before .before .before .before .shared-slice-known .given i)) in let h = c .before .before .before .before .before .before .before .before .before .read-model .ensures in let g = c .before .found .given in load-refused l s y _ _ h (g .0 .0) (g .0 .1 .0) (g .1)
+returns c =
+    let a = c .before .before .before .before .before .before .before .before .before .before .before .before .before .before .before .before .before .before .before .args in
+    let l = five (a .labels .now) (a .equations .now) (a .values .now) (a .marks .now) (a .moves .now) in
+    let s = a .bytes .now in
+    let y = are-bytes s (λ i. omega (arith, c .before .before .before .before .before .before .before .before .before .before .before .before .before .before .before .before .before .before .shared-slice-known .given i)) in
+    let h = c .before .before .before .before .before .before .before .before .before .read-model .ensures in
+    let g = c .before .found .given in
+    load-refused l s y _ _ h (g .0 .0) (g .0 .1 .0) (g .1)
 
 same-length-4 : tie.Need-same-length-4
 same-length-4 c = search needs
@@ -52,7 +67,15 @@ same-length-8 : tie.Need-same-length-8
 same-length-8 c = search needs
 
 returns-2 : tie.Need-returns-2
-returns-2 c = let a = c .before .before .before .before .before .before .before .before .before .before .before .before .before .before .before .before .before .before .before .before .before .before .before .before .before .before .before .before .before .before .before .args in let l = five (a .labels .now) (a .equations .now) (a .values .now) (a .marks .now) (a .moves .now) in let s = a .bytes .now in let y = are-bytes s (λ i. omega (arith, c .before .before .before .before .before .before .before .before .before .before .before .before .before .before .before .before .before .before .before .before .before .before .before .before .before .before .before .before .before .before .shared-slice-known .given i)) in let h = c .before .before .before .before .before .before .before .before .before .before .before .before .before .before .before .before .before .before .before .before .before .read-model .ensures in let g = c .before .before .before .before .before .before .before .before .before .before .before .before .before .found2 .given in let v = c .before .before .before .before .before .before .load-values .ensures in load-good l s y _ _ h (g .0 .0) (g .0 .1 .0) (g .1) _ _ _ (v .0) (v .1) (c .stamp-of .ensures)
+returns-2 c =
+    let a = c .before .before .before .before .before .before .before .before .before .before .before .before .before .before .before .before .before .before .before .before .before .before .before .before .before .before .before .before .before .before .before .args in
+    let l = five (a .labels .now) (a .equations .now) (a .values .now) (a .marks .now) (a .moves .now) in
+    let s = a .bytes .now in
+    let y = are-bytes s (λ i. omega (arith, c .before .before .before .before .before .before .before .before .before .before .before .before .before .before .before .before .before .before .before .before .before .before .before .before .before .before .before .before .before .before .shared-slice-known .given i)) in
+    let h = c .before .before .before .before .before .before .before .before .before .before .before .before .before .before .before .before .before .before .before .before .before .read-model .ensures in
+    let g = c .before .before .before .before .before .before .before .before .before .before .before .before .before .found2 .given in
+    let v = c .before .before .before .before .before .before .load-values .ensures in
+    load-good l s y _ _ h (g .0 .0) (g .0 .1 .0) (g .1) _ _ _ (v .0) (v .1) (c .stamp-of .ensures)
 
 pub load-spec : {M : Type 1} → statement M
 load-spec =

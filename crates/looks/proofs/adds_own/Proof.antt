@@ -12,11 +12,15 @@ owns-requires c κs = search needs
 
 returns : tie.Need-returns
 unfolding addsOwn
-returns c = let a = c .before .before .args in rw (eqb-in (a .w % 2) 1 (c .before .if1 .taken)) (c .owns .ensures)
+returns c =
+    let a = c .before .before .args in
+    rw (eqb-in (a .w % 2) 1 (c .before .if1 .taken)) (c .owns .ensures)
 
 returns-2 : tie.Need-returns-2
 unfolding addsOwn
-returns-2 c = let a = c .before .args in rw (eqb-no (a .w % 2) 1 .1 (c .if1 .left)) refl
+returns-2 c =
+    let a = c .before .args in
+    rw (eqb-no (a .w % 2) 1 .1 (c .if1 .left)) refl
 
 pub adds-own-spec : {M : Type 1} → statement M
 adds-own-spec = tie.close (tie.spec owns-requires returns returns-2)

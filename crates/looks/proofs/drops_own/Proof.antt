@@ -12,7 +12,9 @@ use Rattle.looks.proofs.drops_own.Tie as tie
 
 returns : tie.Need-returns
 unfolding dropsOwn
-returns c = let a = c .before .before .before .before .args in rw (eqb-in (a .w % 2) 1 (c .if1 .taken)) refl
+returns c =
+    let a = c .before .before .before .before .args in
+    rw (eqb-in (a .w % 2) 1 (c .if1 .taken)) refl
 
 owns-requires : tie.Need-owns-requires
 owns-requires c κs = search needs

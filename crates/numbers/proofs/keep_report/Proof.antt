@@ -19,7 +19,10 @@ same-length : tie.Need-same-length
 same-length c = search needs
 
 returns : tie.Need-returns
-returns c = let s = c .before .before .before .before .before .before .before .before .before .before .before in let a = s .args in report-kept (a .room .now) _ _ _ _ (a .report) (s .pre) (c .before .before .before .before .before .before .before .before .set-count .ensures) (c .before .before .before .before .before .set-count2 .ensures) (toZ-ofZ w32 (a .report .net) (record { sfits = c .before .before .struct-told .given .1 .1 .0 .1 })) (c .before .set-net .ensures)
+returns c =
+    let s = c .before .before .before .before .before .before .before .before .before .before .before in
+    let a = s .args in
+    report-kept (a .room .now) _ _ _ _ (a .report) (s .pre) (c .before .before .before .before .before .before .before .before .set-count .ensures) (c .before .before .before .before .before .set-count2 .ensures) (toZ-ofZ w32 (a .report .net) (record { sfits = c .before .before .struct-told .given .1 .1 .0 .1 })) (c .before .set-net .ensures)
 
 pub keep-report-spec : {M : Type 1} → statement M
 keep-report-spec =

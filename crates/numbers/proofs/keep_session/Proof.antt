@@ -17,7 +17,10 @@ same-length : tie.Need-same-length
 same-length c = search needs
 
 returns : tie.Need-returns
-returns c = let s = c .before .before .before .before .before .before .before .before .before .before .before .before .before in let a = s .args in session-kept (a .room .now) _ _ _ (a .session) (s .pre) (c .before .before .before .before .before .before .before .before .before .before .keep-sizes .ensures) (c .before .before .before .before .before .before .set-word .ensures) (c .before .before .set-word2 .ensures)
+returns c =
+    let s = c .before .before .before .before .before .before .before .before .before .before .before .before .before in
+    let a = s .args in
+    session-kept (a .room .now) _ _ _ (a .session) (s .pre) (c .before .before .before .before .before .before .before .before .before .before .keep-sizes .ensures) (c .before .before .before .before .before .before .set-word .ensures) (c .before .before .set-word2 .ensures)
 
 pub keep-session-spec : {M : Type 1} → statement M
 keep-session-spec =

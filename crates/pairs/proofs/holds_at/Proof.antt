@@ -10,7 +10,9 @@ use Rattle.pairs.proofs.holds_at.Statement.{statement}
 use Rattle.pairs.proofs.holds_at.Tie as tie
 
 returns : tie.Need-returns
-returns c = let h = c .before .shared-slice-known .given (c .before .before .args .s .0) in sym (no-bit (getD (c .before .before .args .labels .now) (c .before .before .args .s .0) 0) (c .before .before .args .q) (omega arith) (omega arith))
+returns c =
+    let h = c .before .shared-slice-known .given (c .before .before .args .s .0) in
+    sym (no-bit (getD (c .before .before .args .labels .now) (c .before .before .args .s .0) 0) (c .before .before .args .q) (omega arith) (omega arith))
 
 cast-word-at : tie.Need-cast-word-at
 cast-word-at c = search needs

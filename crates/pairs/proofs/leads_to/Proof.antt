@@ -22,7 +22,9 @@ other-requires c κs = search needs
 
 returns : tie.Need-returns
 unfolding leadsTo
-returns c = let a = c .before .before .before .before .args in c .other .ensures ∙ ap (is (not (a .b))) (c .before .value-at .ensures ∙ ap (valueAt (a .values .now)) (c .before .before .pair-of .ensures))
+returns c =
+    let a = c .before .before .before .before .args in
+    c .other .ensures ∙ ap (is (not (a .b))) (c .before .value-at .ensures ∙ ap (valueAt (a .values .now)) (c .before .before .pair-of .ensures))
 
 pub leads-to-spec : {M : Type 1} → statement M
 leads-to-spec =

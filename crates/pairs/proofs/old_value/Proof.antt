@@ -16,7 +16,9 @@ value-at-requires : tie.Need-value-at-requires
 value-at-requires c κs = search needs
 
 returns : tie.Need-returns
-returns c = let a = c .before .before .before .before .before .before .args in c .value-at .ensures ∙ sym (past-kept (a .sizes) (a .equations .now) (a .values .now) (a .marks .now) (a .p) (sym (c .before .before .byte-at .ensures) ∙ c .before .if1 .taken))
+returns c =
+    let a = c .before .before .before .before .before .before .args in
+    c .value-at .ensures ∙ sym (past-kept (a .sizes) (a .equations .now) (a .values .now) (a .marks .now) (a .p) (sym (c .before .before .byte-at .ensures) ∙ c .before .if1 .taken))
 
 own-value-requires : tie.Need-own-value-requires
 own-value-requires c κs = search needs

@@ -18,7 +18,10 @@ abbrev μ-loop : tie.MeasureT-loop
 μ-loop input start labels equations values₀ marks₀ moves₀ out₀ place session₀ from₀ at₀ values marks moves out session from at = length input - from
 
 loop-holds : tie.Need-loop-holds Inv-loop μ-loop
-loop-holds c = let a = c .before .before .before .before .before .before .before .args in let p = c .before .before .before .before .before .before .before .pre in (refl, refl, refl, refl, begins (a .input .now) (a .first) (roomsOf (a .labels .now) (a .equations .now) (a .values .now) (a .marks .now) (a .moves .now)) (a .start) (a .place) (a .out .now) (p .1) (p .2))
+loop-holds c =
+    let a = c .before .before .before .before .before .before .before .args in
+    let p = c .before .before .before .before .before .before .before .pre in
+    (refl, refl, refl, refl, begins (a .input .now) (a .first) (roomsOf (a .labels .now) (a .equations .now) (a .values .now) (a .marks .now) (a .moves .now)) (a .start) (a .place) (a .out .now) (p .1) (p .2))
 
 sub-step : tie.Need-sub-step Inv-loop μ-loop
 sub-step c = omega arith
@@ -30,7 +33,9 @@ part-step-end : tie.Need-part-step-end Inv-loop μ-loop
 part-step-end c = search needs
 
 step-requires : tie.Need-step-requires Inv-loop μ-loop
-step-requires c κs = let b = c .before .before .before .before .before .before .loop .inv .4 .bound in omega arith
+step-requires c κs =
+    let b = c .before .before .before .before .before .before .loop .inv .4 .bound in
+    omega arith
 
 add-from : tie.Need-add-from Inv-loop μ-loop
 add-from c =

@@ -28,7 +28,12 @@ same-length c = search needs
 
 returns : tie.Need-returns
 unfolding freshRooms
-returns c = let s = c .before .before .before .before .before .before .before .before .before .before .before .before .before .before .before .before in let a = s .args in let r = c .before .before .before .before .before .before .before .run-in in let f = fresh-run (a .input .now) (a .out .now) _ _ (r .ensures .0) (r .ensures .1) (s .pre .1) in (f .0, (f .1, f .2))
+returns c =
+    let s = c .before .before .before .before .before .before .before .before .before .before .before .before .before .before .before .before in
+    let a = s .args in
+    let r = c .before .before .before .before .before .before .before .run-in in
+    let f = fresh-run (a .input .now) (a .out .now) _ _ (r .ensures .0) (r .ensures .1) (s .pre .1) in
+    (f .0, (f .1, f .2))
 
 pub run-spec : {M : Type 1} → statement M
 run-spec =

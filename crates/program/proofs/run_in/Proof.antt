@@ -1,3 +1,4 @@
+-- The model's part, and then the batches. Assumes nothing.
 use mathlib.Core.Path.{_∙_}
 -- The whole run: the model's part, and then the batches. Assumes nothing.
 use native.Mathlib.Omega.{arith}

@@ -1,28 +1,21 @@
+-- Below the count, and of another block. Assumes nothing.
 use native.Mathlib.Omega.{arith}
 use Rattle.seeks.specs.SeekLaws.{ahead-in, ahead-out}
 use borrow.Author.Needs.{needs}
 use Rattle.seeks.proofs.is_ahead.Statement.{statement}
 use Rattle.seeks.proofs.is_ahead.Tie as tie
-use Rattle.seeks.proofs.is_ahead.Reads as reads
-use Rattle.seeks.proofs.is_ahead.Lts as lts
-use Rattle.limits.proofs.pairs_of.Reads as pairs-of-reads
-use Rattle.pairs.proofs.block_of.Reads as block-of-reads
 
--- src/lib.rt:61:12
 pairs-of-requires : tie.Need-pairs-of-requires
 pairs-of-requires c κs = search needs
 
--- src/lib.rt:62:16
 block-of-requires : tie.Need-block-of-requires
 block-of-requires c κs = search needs
 
--- src/lib.rt:62:9
 returns : tie.Need-returns
 returns c =
     let a = c .before .before .before .before .args in
     ahead-in (a .sizes) (a .equations .now) (a .block) (a .p) (c .block-of .result) (omega arith) (c .block-of .ensures)
 
--- src/lib.rt:57:1
 returns-2 : tie.Need-returns-2
 returns-2 c =
     let a = c .before .before .before .args in

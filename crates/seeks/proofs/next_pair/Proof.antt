@@ -1,3 +1,4 @@
+-- Variables of other blocks are passed over. Assumes nothing.
 use mathlib.Core.Path.{_≡_, refl, sym, _∙_}
 use Prim.Native.Nat.{_≤_, _-_}
 use native.Mathlib.Omega.{arith}
@@ -10,10 +11,6 @@ use Rattle.seeks.specs.Seeking.{aheadOf}
 use Rattle.seeks.specs.SeekLaws.{pairs-below, ahead-below, start-after, start-inside, pass-variable, stop-there}
 use Rattle.seeks.proofs.next_pair.Statement.{statement}
 use Rattle.seeks.proofs.next_pair.Tie as tie
-use Rattle.seeks.proofs.next_pair.Reads as reads
-use Rattle.seeks.proofs.next_pair.Lts as lts
-use Rattle.seeks.proofs.is_ahead.Reads as is-ahead-reads
-use Rattle.seeks.proofs.next_start.Reads as next-start-reads
 
 abbrev Inv-loop : tie.InvT-loop
 Inv-loop sizes labels equations moves n block from p₀ ahead₀ p ahead =
@@ -25,26 +22,21 @@ Inv-loop sizes labels equations moves n block from p₀ ahead₀ p ahead =
 abbrev μ-loop : tie.MeasureT-loop
 μ-loop sizes labels equations moves n block from p₀ ahead₀ p ahead = pairsOf sizes - p
 
--- src/lib.rt:83:9
 is-ahead-requires : tie.Need-is-ahead-requires Inv-loop μ-loop
 is-ahead-requires c κs = drawn-sound (c .before .before .before .args .sizes) (c .before .before .before .args .labels .now) (c .before .before .before .args .equations .now) (c .before .before .before .args .moves .now) (c .before .before .before .args .n) (c .before .before .before .pre .0) .some
 
--- src/lib.rt:84:5
 loop-holds : tie.Need-loop-holds Inv-loop μ-loop
 loop-holds c = (c .before .before .before .before .pre .1, (c .is-ahead .ensures, refl))
 
--- src/lib.rt:85:9
 next-start-requires : tie.Need-next-start-requires Inv-loop μ-loop
 next-start-requires c κs =
     let h = pairs-below (c .before .before .before .before .before .before .args .sizes) (c .before .before .before .before .before .before .args .labels .now) (c .before .before .before .before .before .before .args .equations .now) (c .before .before .before .before .before .before .args .moves .now) (c .before .before .before .before .before .before .args .n) (c .before .before .before .before .before .before .pre .0) in
     let k = c .before .loop .inv .0 in
     (drawn-sound (c .before .before .before .before .before .before .args .sizes) (c .before .before .before .before .before .before .args .labels .now) (c .before .before .before .before .before .before .args .equations .now) (c .before .before .before .before .before .before .args .moves .now) (c .before .before .before .before .before .before .args .n) (c .before .before .before .before .before .before .pre .0) .some, omega arith)
 
--- src/lib.rt:86:9
 is-ahead-requires-2 : tie.Need-is-ahead-requires-2 Inv-loop μ-loop
 is-ahead-requires-2 c κs = drawn-sound (c .before .before .before .before .before .before .before .args .sizes) (c .before .before .before .before .before .before .before .args .labels .now) (c .before .before .before .before .before .before .before .args .equations .now) (c .before .before .before .before .before .before .before .args .moves .now) (c .before .before .before .before .before .before .before .args .n) (c .before .before .before .before .before .before .before .pre .0) .some
 
--- src/lib.rt:84:5
 loop-less : tie.Need-loop-less Inv-loop μ-loop
 loop-less c =
     let v = c .before .before .before .loop .inv in
@@ -54,7 +46,6 @@ loop-less c =
     let e = c .before .next-start .ensures in
     omega arith
 
--- src/lib.rt:84:5
 loop-again : tie.Need-loop-again Inv-loop μ-loop
 loop-again c =
     let v = c .before .before .before .loop .inv in
@@ -64,7 +55,6 @@ loop-again c =
     let e = c .before .next-start .ensures in
     (omega arith, (c .is-ahead2 .ensures, v .1 .1 ∙ pass-variable (c .before .before .before .before .before .before .before .before .args .sizes) (c .before .before .before .before .before .before .before .before .args .labels .now) (c .before .before .before .before .before .before .before .before .args .equations .now) (c .before .before .before .before .before .before .before .before .args .moves .now) (c .before .before .before .before .before .before .before .before .args .n) (c .before .before .before .before .before .before .before .before .pre .0) _ _ a ∙ rw e refl))
 
--- src/lib.rt:77:1
 returns : tie.Need-returns Inv-loop μ-loop
 returns c =
     let v = c .before .loop .inv in

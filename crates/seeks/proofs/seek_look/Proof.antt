@@ -1,3 +1,4 @@
+-- Phase after phase until a pair is found or none is left. Assumes nothing.
 use borrow.Author.Needs.{needs}
 use mathlib.Core.Path.{_≡_, sym, ap, _∙_}
 use Prim.Native.Nat.{ℕ, _+_, _-_, _≤_, _<_}
@@ -9,10 +10,6 @@ use Rattle.pairs.specs.Drawn.{tableOf}
 use Rattle.seeks.specs.SeekLaws.{phases-few}
 use Rattle.seeks.proofs.seek_look.Statement.{statement}
 use Rattle.seeks.proofs.seek_look.Tie as tie
-use Rattle.seeks.proofs.seek_look.Reads as reads
-use Rattle.seeks.proofs.seek_look.Lts as lts
-use Rattle.seeks.proofs.phases_left.Reads as phases-left-reads
-use Rattle.seeks.proofs.seek_phase.Reads as seek-phase-reads
 
 abbrev Inv-loop : tie.InvT-loop
 Inv-loop sizes labels equations moves n block settling place at₀ at =
@@ -24,15 +21,12 @@ Inv-loop sizes labels equations moves n block settling place at₀ at =
 abbrev μ-loop : tie.MeasureT-loop
 μ-loop sizes labels equations moves n block settling place at₀ at = at .left
 
--- src/lib.rt:157:27
 cast-phases-left : tie.Need-cast-phases-left Inv-loop μ-loop
 cast-phases-left c = search needs
 
--- src/lib.rt:157:15
 phases-left-requires : tie.Need-phases-left-requires Inv-loop μ-loop
 phases-left-requires c κs = omega arith
 
--- src/lib.rt:159:5
 loop-holds : tie.Need-loop-holds Inv-loop μ-loop
 loop-holds c =
     let a = c .before .before .before .before .before .args in
@@ -40,24 +34,20 @@ loop-holds c =
     let h = phases-few (a .sizes .blocks - a .block) (a .settling) in
     (c .before .before .before .before .before .pre .1 .0, (omega arith, ap (λ (k : ℕ). seek (frame (tableOf (a .sizes) (a .labels .now) (a .equations .now) (a .moves .now) (a .n))) k (a .block) (a .settling) (a .place)) (sym e)))
 
--- src/lib.rt:160:9
 seek-phase-requires : tie.Need-seek-phase-requires Inv-loop μ-loop
 seek-phase-requires c κs =
     let v = c .before .before .loop .inv in
     (c .before .before .before .before .before .before .before .before .pre .0, (v .0, (omega arith, omega arith)))
 
--- src/lib.rt:159:5
 loop-less : tie.Need-loop-less Inv-loop μ-loop
 loop-less c = c .seek-phase .ensures .fewer
 
--- src/lib.rt:159:5
 loop-again : tie.Need-loop-again Inv-loop μ-loop
 loop-again c =
     let v = c .before .before .before .loop .inv in
     let e = c .seek-phase .ensures in
     (e .low, (omega (arith, e .near), v .1 .1 ∙ e .same))
 
--- src/lib.rt:147:1
 returns : tie.Need-returns Inv-loop μ-loop
 returns c =
     let v = c .before .before .loop .inv in

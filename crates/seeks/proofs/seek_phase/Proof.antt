@@ -1,3 +1,4 @@
+-- A pair of the block, or the beginning of the next phase. Assumes nothing.
 use native.Mathlib.Omega.{arith}
 use Rattle.laws.specs.ModelSystem.{frame}
 use Rattle.pairs.specs.Drawn.{tableOf}
@@ -5,20 +6,13 @@ use Rattle.seeks.specs.SeekLaws.{seek-found, seek-settle, seek-block}
 use borrow.Author.Needs.{needs}
 use Rattle.seeks.proofs.seek_phase.Statement.{statement}
 use Rattle.seeks.proofs.seek_phase.Tie as tie
-use Rattle.seeks.proofs.seek_phase.Reads as reads
-use Rattle.seeks.proofs.seek_phase.Lts as lts
-use Rattle.seeks.proofs.next_pair.Reads as next-pair-reads
-use Rattle.limits.proofs.pairs_of.Reads as pairs-of-reads
 
--- src/lib.rt:120:9
 next-pair-requires : tie.Need-next-pair-requires
 next-pair-requires c κs = search needs
 
--- src/lib.rt:121:12
 pairs-of-requires : tie.Need-pairs-of-requires
 pairs-of-requires c κs = search needs
 
--- src/lib.rt:122:9
 returns : tie.Need-returns
 returns c =
     let a = c .before .before .before .before .before .before .args in
@@ -26,15 +20,12 @@ returns c =
     let q = c .before .pairs-of .ensures .0 in
     seek-found (frame (tableOf (a .sizes) (a .labels .now) (a .equations .now) (a .moves .now) (a .n))) (a .at .block) (a .at .settling) (a .at .place) (a .at .left) (c .before .before .next-pair .result) (c .before .before .before .before .before .before .pre .1 .1 .0) e (omega arith)
 
--- src/lib.rt:129:16
 sub-left : tie.Need-sub-left
 sub-left c = search needs
 
--- src/lib.rt:132:20
 add-t11 : tie.Need-add-t11
 add-t11 c = search needs
 
--- src/lib.rt:131:9
 returns-2 : tie.Need-returns-2
 returns-2 c =
     let a = c .before .before .before .before .before .before .before .before .before .args in
@@ -42,7 +33,6 @@ returns-2 c =
     let q = c .before .before .before .before .pairs-of .ensures .0 in
     seek-block (frame (tableOf (a .sizes) (a .labels .now) (a .equations .now) (a .moves .now) (a .n))) (a .at .block) (a .at .settling) (a .at .place) (a .at .left) (c .before .before .before .before .before .next-pair .result) (c .before .before .before .before .before .before .before .before .before .pre .1 .1 .0) e (omega arith) (c .before .if2 .taken)
 
--- src/lib.rt:115:1
 returns-3 : tie.Need-returns-3
 returns-3 c =
     let a = c .before .before .before .before .before .before .before .before .args in

@@ -31,16 +31,26 @@ add-if1 : tie.Need-add-if1 Inv-loop μ-loop
 add-if1 c = search needs
 
 add-at : tie.Need-add-at Inv-loop μ-loop
-add-at c = let t = simp tests at (c .if1 .taken) in omega arith
+add-at c =
+    let t = simp tests at (c .if1 .taken) in
+    omega arith
 
 loop-less : tie.Need-loop-less Inv-loop μ-loop
-loop-less c = let t = simp tests at (c .if1 .taken) in omega arith
+loop-less c =
+    let t = simp tests at (c .if1 .taken) in
+    omega arith
 
 loop-again : tie.Need-loop-again Inv-loop μ-loop
-loop-again c = let a = c .before .before .before .before .before .before .args in let t = rw (c .before .block-of .ensures .0, c .before .before .word-at .ensures, c .before .before .before .before .least .ensures) at (c .if1 .taken) in c .before .before .before .loop .inv ∙ block-on (a .equations .now) (a .n) (c .before .before .before .loop .at) (a .b) t
+loop-again c =
+    let a = c .before .before .before .before .before .before .args in
+    let t = rw (c .before .block-of .ensures .0, c .before .before .word-at .ensures, c .before .before .before .before .least .ensures) at (c .if1 .taken) in
+    c .before .before .before .loop .inv ∙ block-on (a .equations .now) (a .n) (c .before .before .before .loop .at) (a .b) t
 
 returns : tie.Need-returns Inv-loop μ-loop
-returns c = let a = c .before .before .before .before .before .before .args in let t = rw (c .before .block-of .ensures .0, c .before .before .word-at .ensures, c .before .before .before .before .least .ensures) at (c .if1 .left) in sym (c .before .before .before .loop .inv ∙ block-over (a .equations .now) (a .n) (c .before .before .before .loop .at) (a .b) t)
+returns c =
+    let a = c .before .before .before .before .before .before .args in
+    let t = rw (c .before .block-of .ensures .0, c .before .before .word-at .ensures, c .before .before .before .before .least .ensures) at (c .if1 .left) in
+    sym (c .before .before .before .loop .inv ∙ block-over (a .equations .now) (a .n) (c .before .before .before .loop .at) (a .b) t)
 
 pub block-end-spec : {M : Type 1} → statement M
 block-end-spec =

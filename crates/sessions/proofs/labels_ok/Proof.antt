@@ -20,7 +20,9 @@ least-requires : tie.Need-least-requires Inv-loop μ-loop
 least-requires c κs = search needs
 
 loop-holds : tie.Need-loop-holds Inv-loop μ-loop
-loop-holds c = let e = rest-over (c .before .before .args .labels .now) (c .before .before .args .n) (c .least .result) (omega arith) in (omega arith, rw e)
+loop-holds c =
+    let e = rest-over (c .before .before .args .labels .now) (c .before .before .args .n) (c .least .result) (omega arith) in
+    (omega arith, rw e)
 
 sub-i : tie.Need-sub-i Inv-loop μ-loop
 sub-i c = search needs
@@ -35,10 +37,14 @@ loop-less : tie.Need-loop-less Inv-loop μ-loop
 loop-less c = search needs
 
 loop-again : tie.Need-loop-again Inv-loop μ-loop
-loop-again c = let e = rest-less (c .before .before .before .before .before .before .args .labels .now) (c .before .before .before .before .before .before .args .n) (c .before .before .before .loop .i) (omega arith) (omega arith) in (omega arith, rw (e, c .label-ok .ensures, c .before .word-at .ensures, c .before .before .before .loop .inv .1))
+loop-again c =
+    let e = rest-less (c .before .before .before .before .before .before .args .labels .now) (c .before .before .before .before .before .before .args .n) (c .before .before .before .loop .i) (omega arith) (omega arith) in
+    (omega arith, rw (e, c .label-ok .ensures, c .before .word-at .ensures, c .before .before .before .loop .inv .1))
 
 returns : tie.Need-returns Inv-loop μ-loop
-returns c = let e : c .before .loop .i ≡ 0 = omega arith in rw e at (c .before .loop .inv .1)
+returns c =
+    let e : c .before .loop .i ≡ 0 = omega arith in
+    rw e at (c .before .loop .inv .1)
 
 pub labels-ok-spec : {M : Type 1} → statement M
 labels-ok-spec =

@@ -49,7 +49,10 @@ loop-again c = let a = c .before .before .before .before .before .before .args i
     moves-turn (a .sizes) (a .moves .now) (a .n) (s .i) (s .least) (c .before .word-at .result) (s .ok) (c .move-ok .result) _ (c .before .word-at .ensures) (c .move-ok .ensures) (omega arith) (s .inv)
 
 returns : tie.Need-returns Inv-loop μ-loop
-returns c = let a = c .before .before .before .before .args in let s = c .before .loop in sym (moves-over (a .sizes) (a .moves .now) (a .n) (s .i) (s .least) (s .ok) (omega arith)) ∙ s .inv
+returns c =
+    let a = c .before .before .before .before .args in
+    let s = c .before .loop in
+    sym (moves-over (a .sizes) (a .moves .now) (a .n) (s .i) (s .least) (s .ok) (omega arith)) ∙ s .inv
 
 pub moves-ok-spec : {M : Type 1} → statement M
 moves-ok-spec =

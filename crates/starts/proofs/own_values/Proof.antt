@@ -18,10 +18,14 @@ abbrev μ-loop : tie.MeasureT-loop
 μ-loop sizes equations n values₀ p₀ values p = n - p
 
 loop-holds : tie.Need-loop-holds Inv-loop μ-loop
-loop-holds c = let s = c .before .before in (omega arith, filled-none (λ q. bit (eqb (kindIn (s .args .sizes) (s .args .equations .now) q) 1)) (s .args .values .now))
+loop-holds c =
+    let s = c .before .before in
+    (omega arith, filled-none (λ q. bit (eqb (kindIn (s .args .sizes) (s .args .equations .now) q) 1)) (s .args .values .now))
 
 own-byte-requires : tie.Need-own-byte-requires Inv-loop μ-loop
-own-byte-requires c κs = let s = c .before .before .before .before in s .pre .0
+own-byte-requires c κs =
+    let s = c .before .before .before .before in
+    s .pre .0
 
 set-byte-requires : tie.Need-set-byte-requires Inv-loop μ-loop
 set-byte-requires c κs = search needs

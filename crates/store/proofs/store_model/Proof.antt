@@ -16,7 +16,12 @@ enum-told : tie.Need-enum-told
 enum-told c = search needs
 
 returns : tie.Need-returns
-returns c = let a = c .before .before .before .before .before .before .before .args in let l = lengthsBy (a .l) in let s = a .bytes .now in let t = three (a .labels .now) (a .equations .now) (a .moves .now) in stored-none l s t ((rw (c .enum-told .given .1) at (c .before .before .first-turn .ensures)) .1)
+returns c =
+    let a = c .before .before .before .before .before .before .before .args in
+    let l = lengthsBy (a .l) in
+    let s = a .bytes .now in
+    let t = three (a .labels .now) (a .equations .now) (a .moves .now) in
+    stored-none l s t ((rw (c .enum-told .given .1) at (c .before .before .first-turn .ensures)) .1)
 
 store-rest-requires : tie.Need-store-rest-requires
 store-rest-requires c κs = (rw (c .before .before .before .before .t .given .1) at (c .before .before .before .before .before .before .first-turn .ensures)) .kept
@@ -31,7 +36,12 @@ same-length-3 : tie.Need-same-length-3
 same-length-3 c = search needs
 
 returns-2 : tie.Need-returns-2
-returns-2 c = let a = c .before .before .before .before .before .before .before .before .before .before .before .before .before .before .before .before .before .before .args in let l = lengthsBy (a .l) in let s = a .bytes .now in let t = three (a .labels .now) (a .equations .now) (a .moves .now) in stored-first l s (c .before .before .before .before .before .before .before .before .before .before .before .t .given .0 .1 .0) (c .before .before .before .before .before .before .before .before .before .before .before .t .given .0 .1 .1 .0) (c .before .before .before .before .before .before .before .before .before .before .before .t .given .0 .0) t _ (rw (c .before .before .before .before .before .before .before .before .before .before .before .t .given .1) at (c .before .before .before .before .before .before .before .before .before .before .before .before .before .first-turn .ensures)) (c .before .before .before .before .before .before .store-rest .ensures)
+returns-2 c =
+    let a = c .before .before .before .before .before .before .before .before .before .before .before .before .before .before .before .before .before .before .args in
+    let l = lengthsBy (a .l) in
+    let s = a .bytes .now in
+    let t = three (a .labels .now) (a .equations .now) (a .moves .now) in
+    stored-first l s (c .before .before .before .before .before .before .before .before .before .before .before .t .given .0 .1 .0) (c .before .before .before .before .before .before .before .before .before .before .before .t .given .0 .1 .1 .0) (c .before .before .before .before .before .before .before .before .before .before .before .t .given .0 .0) t _ (rw (c .before .before .before .before .before .before .before .before .before .before .before .t .given .1) at (c .before .before .before .before .before .before .before .before .before .before .before .before .before .first-turn .ensures)) (c .before .before .before .before .before .before .store-rest .ensures)
 
 pub store-model-spec : {M : Type 1} → statement M
 store-model-spec =

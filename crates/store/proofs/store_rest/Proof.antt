@@ -38,7 +38,15 @@ same-length-3 : tie.Need-same-length-3 Inv-loop μ-loop
 same-length-3 c = c .before .before .before .before .loop .inv .2
 
 returns : tie.Need-returns Inv-loop μ-loop
-returns c = let a = c .before .before .before .before .before .before .before .before .before .args in let l = lengthsBy (a .l) in let s = a .bytes .now in let x = sofarOf (a .x) in let t = three (a .labels .now) (a .equations .now) (a .moves .now) in let k = c .before .before .before .before .loop in let u = three (k .labels) (k .equations) (k .moves) in here-stops l s x (a .start) t (sofarOf (k .p)) (k .at) u (k .inv .4) ((rw (c .enum-told .given .1) at (c .before .before .turn .ensures)) .1)
+returns c =
+    let a = c .before .before .before .before .before .before .before .before .before .args in
+    let l = lengthsBy (a .l) in
+    let s = a .bytes .now in
+    let x = sofarOf (a .x) in
+    let t = three (a .labels .now) (a .equations .now) (a .moves .now) in
+    let k = c .before .before .before .before .loop in
+    let u = three (k .labels) (k .equations) (k .moves) in
+    here-stops l s x (a .start) t (sofarOf (k .p)) (k .at) u (k .inv .4) ((rw (c .enum-told .given .1) at (c .before .before .turn .ensures)) .1)
 
 enum-known-t : tie.Need-enum-known-t Inv-loop μ-loop
 enum-known-t c = search needs
@@ -47,10 +55,21 @@ put-record-requires : tie.Need-put-record-requires Inv-loop μ-loop
 put-record-requires c κs = c .before .before .before .before .before .before .before .before .loop .inv .3
 
 loop-less : tie.Need-loop-less Inv-loop μ-loop
-loop-less c = let g = rw (c .before .before .before .before .before .before .before .before .before .before .before .t .given .1) at (c .before .before .before .before .before .before .before .before .before .before .before .before .before .turn .ensures) in omega arith
+loop-less c =
+    let g = rw (c .before .before .before .before .before .before .before .before .before .before .before .t .given .1) at (c .before .before .before .before .before .before .before .before .before .before .before .before .before .turn .ensures) in
+    omega arith
 
 loop-again : tie.Need-loop-again Inv-loop μ-loop
-loop-again c = let a = c .before .before .before .before .before .before .before .before .before .before .before .before .before .before .before .before .before .before .before .before .args in let l = lengthsBy (a .l) in let s = a .bytes .now in let x = sofarOf (a .x) in let t = three (a .labels .now) (a .equations .now) (a .moves .now) in let k = c .before .before .before .before .before .before .before .before .before .before .before .before .before .before .before .loop in let u = three (k .labels) (k .equations) (k .moves) in let g = rw (c .before .before .before .before .before .before .before .before .before .before .before .t .given .1) at (c .before .before .before .before .before .before .before .before .before .before .before .before .before .turn .ensures) in (search needs, search needs, search needs, g .kept, here-goes l s x (a .start) t (k .p) (c .before .before .before .before .before .before .before .before .before .before .before .t .given .0 .1 .0) (k .at) (c .before .before .before .before .before .before .before .before .before .before .before .t .given .0 .1 .1 .0) (c .before .before .before .before .before .before .before .before .before .before .before .t .given .0 .0) u _ (k .inv .4) (k .inv .3) g (c .before .before .before .before .before .before .put-record .ensures))
+loop-again c =
+    let a = c .before .before .before .before .before .before .before .before .before .before .before .before .before .before .before .before .before .before .before .before .args in
+    let l = lengthsBy (a .l) in
+    let s = a .bytes .now in
+    let x = sofarOf (a .x) in
+    let t = three (a .labels .now) (a .equations .now) (a .moves .now) in
+    let k = c .before .before .before .before .before .before .before .before .before .before .before .before .before .before .before .loop in
+    let u = three (k .labels) (k .equations) (k .moves) in
+    let g = rw (c .before .before .before .before .before .before .before .before .before .before .before .t .given .1) at (c .before .before .before .before .before .before .before .before .before .before .before .before .before .turn .ensures) in
+    (search needs, search needs, search needs, g .kept, here-goes l s x (a .start) t (k .p) (c .before .before .before .before .before .before .before .before .before .before .before .t .given .0 .1 .0) (k .at) (c .before .before .before .before .before .before .before .before .before .before .before .t .given .0 .1 .1 .0) (c .before .before .before .before .before .before .before .before .before .before .before .t .given .0 .0) u _ (k .inv .4) (k .inv .3) g (c .before .before .before .before .before .before .put-record .ensures))
 
 same-length-4 : tie.Need-same-length-4 Inv-loop μ-loop
 same-length-4 c = c .before .loop .inv .0
@@ -62,7 +81,15 @@ same-length-6 : tie.Need-same-length-6 Inv-loop μ-loop
 same-length-6 c = c .before .loop .inv .2
 
 returns-2 : tie.Need-returns-2 Inv-loop μ-loop
-returns-2 c = let a = c .before .before .before .before .before .before .args in let l = lengthsBy (a .l) in let s = a .bytes .now in let x = sofarOf (a .x) in let t = three (a .labels .now) (a .equations .now) (a .moves .now) in let k = c .before .loop in let u = three (k .labels) (k .equations) (k .moves) in here-past l s x (a .start) t (sofarOf (k .p)) (k .at) u (k .inv .4) (omega arith)
+returns-2 c =
+    let a = c .before .before .before .before .before .before .args in
+    let l = lengthsBy (a .l) in
+    let s = a .bytes .now in
+    let x = sofarOf (a .x) in
+    let t = three (a .labels .now) (a .equations .now) (a .moves .now) in
+    let k = c .before .loop in
+    let u = three (k .labels) (k .equations) (k .moves) in
+    here-past l s x (a .start) t (sofarOf (k .p)) (k .at) u (k .inv .4) (omega arith)
 
 pub store-rest-spec : {M : Type 1} → statement M
 store-rest-spec =

@@ -29,7 +29,11 @@ loop-less : tie.Need-loop-less Inv-loop μ-loop
 loop-less c = omega arith
 
 loop-again : tie.Need-loop-again Inv-loop μ-loop
-loop-again c = let e = c .before .before .set-word .ensures in let i = c .before .before .before .before .before .loop .i in let to = c .before .before .before .before .before .before .before .args .to in (ap length e ∙ simp length-set (c .before .before .before .before .before .loop .inv .0), c .before .before .before .before .before .loop .inv .1 ∙ zeros-step (c .before .before .before .before .before .loop .room) i to (omega arith) ∙ sym (ap (λ (v : List ℕ). sets v (i + 1) (replicate (to - (i + 1)) 0)) e))
+loop-again c =
+    let e = c .before .before .set-word .ensures in
+    let i = c .before .before .before .before .before .loop .i in
+    let to = c .before .before .before .before .before .before .before .args .to in
+    (ap length e ∙ simp length-set (c .before .before .before .before .before .loop .inv .0), c .before .before .before .before .before .loop .inv .1 ∙ zeros-step (c .before .before .before .before .before .loop .room) i to (omega arith) ∙ sym (ap (λ (v : List ℕ). sets v (i + 1) (replicate (to - (i + 1)) 0)) e))
 
 same-length : tie.Need-same-length Inv-loop μ-loop
 same-length c = c .before .loop .inv .0

@@ -29,16 +29,26 @@ cast-if1 : tie.Need-cast-if1 Inv-loop μ-loop
 cast-if1 c = search needs
 
 add-at : tie.Need-add-at Inv-loop μ-loop
-add-at c = let t = simp tests at (c .if1 .taken) in omega arith
+add-at c =
+    let t = simp tests at (c .if1 .taken) in
+    omega arith
 
 loop-less : tie.Need-loop-less Inv-loop μ-loop
-loop-less c = let t = simp tests at (c .if1 .taken) in omega arith
+loop-less c =
+    let t = simp tests at (c .if1 .taken) in
+    omega arith
 
 loop-again : tie.Need-loop-again Inv-loop μ-loop
-loop-again c = let a = c .before .before .before .before .before .args in let t = rw (c .before .word-at .ensures, c .before .before .before .least .ensures) at (c .if1 .taken) in c .before .before .loop .inv ∙ walk-on (a .key) (a .moves .now) (a .n) (c .before .before .loop .at) t
+loop-again c =
+    let a = c .before .before .before .before .before .args in
+    let t = rw (c .before .word-at .ensures, c .before .before .before .least .ensures) at (c .if1 .taken) in
+    c .before .before .loop .inv ∙ walk-on (a .key) (a .moves .now) (a .n) (c .before .before .loop .at) t
 
 returns : tie.Need-returns Inv-loop μ-loop
-returns c = let a = c .before .before .before .before .before .args in let t = rw (c .before .word-at .ensures, c .before .before .before .least .ensures) at (c .if1 .left) in sym (c .before .before .loop .inv ∙ walk-over (a .key) (a .moves .now) (a .n) (c .before .before .loop .at) t)
+returns c =
+    let a = c .before .before .before .before .before .args in
+    let t = rw (c .before .word-at .ensures, c .before .before .before .least .ensures) at (c .if1 .left) in
+    sym (c .before .before .loop .inv ∙ walk-over (a .key) (a .moves .now) (a .n) (c .before .before .loop .at) t)
 
 pub passed-spec : {M : Type 1} → statement M
 passed-spec =

@@ -11,7 +11,9 @@ passed-requires : tie.Need-passed-requires
 passed-requires c κs = search needs
 
 returns : tie.Need-returns
-returns c = let a = c .before .before .args in c .passed .ensures ∙ zero-add _ ∙ leading-below (a .q) 0 (take (a .n) (a .moves .now)) (c .before .before .pre)
+returns c =
+    let a = c .before .before .args in
+    c .passed .ensures ∙ zero-add _ ∙ leading-below (a .q) 0 (take (a .n) (a .moves .now)) (c .before .before .pre)
 
 pub place-of-spec : {M : Type 1} → statement M
 place-of-spec = tie.close (tie.spec passed-requires returns)

@@ -17,7 +17,11 @@ enum-told : tie.Need-enum-told
 enum-told c = search needs
 
 read-on-requires : tie.Need-read-on-requires
-read-on-requires c κs = let s = c .before .before .before .before .before .before .before .before .before .before .before .before .before .before .before in let a = s .args in let l = roomsOf (a .labels .now) (a .equations .now) (a .values .now) (a .marks .now) (a .moves .now) in sane (a .session) l _ (c .before .before .before .before .before .session-refusal .ensures) (c .before .before .before .enum-told .given .1)
+read-on-requires c κs =
+    let s = c .before .before .before .before .before .before .before .before .before .before .before .before .before .before .before in
+    let a = s .args in
+    let l = roomsOf (a .labels .now) (a .equations .now) (a .values .now) (a .marks .now) (a .moves .now) in
+    sane (a .session) l _ (c .before .before .before .before .before .session-refusal .ensures) (c .before .before .before .enum-told .given .1)
 
 same-length : tie.Need-same-length
 same-length c = search needs
@@ -29,7 +33,11 @@ same-length-3 : tie.Need-same-length-3
 same-length-3 c = search needs
 
 returns : tie.Need-returns
-returns c = let s = c .before .before .before .before .before .before .before .before .before .before .before .before .before in let a = s .args in let l = roomsOf (a .labels .now) (a .equations .now) (a .values .now) (a .marks .now) (a .moves .now) in batch-stops (a .session) l (a .bytes .now) _ (c .before .before .before .session-refusal .ensures) _ (c .before .found .given .1)
+returns c =
+    let s = c .before .before .before .before .before .before .before .before .before .before .before .before .before in
+    let a = s .args in
+    let l = roomsOf (a .labels .now) (a .equations .now) (a .values .now) (a .marks .now) (a .moves .now) in
+    batch-stops (a .session) l (a .bytes .now) _ (c .before .before .before .session-refusal .ensures) _ (c .before .found .given .1)
 
 same-length-4 : tie.Need-same-length-4
 same-length-4 c = search needs
@@ -41,7 +49,11 @@ same-length-6 : tie.Need-same-length-6
 same-length-6 c = search needs
 
 returns-2 : tie.Need-returns-2
-returns-2 c = let s = c .before .before .before .before .before .before .before .before .before .before .before .before .before .before .before .before .before .before .before .before .before .before in let a = s .args in let l = roomsOf (a .labels .now) (a .equations .now) (a .values .now) (a .marks .now) (a .moves .now) in c .before .before .before .before .before .before .read-on .ensures ∙ batch-goes (a .session) l (a .bytes .now) _ (c .before .before .before .before .before .before .before .before .before .before .before .before .session-refusal .ensures) (c .before .before .before .before .before .before .before .before .before .before .enum-told .given .1)
+returns-2 c =
+    let s = c .before .before .before .before .before .before .before .before .before .before .before .before .before .before .before .before .before .before .before .before .before .before in
+    let a = s .args in
+    let l = roomsOf (a .labels .now) (a .equations .now) (a .values .now) (a .marks .now) (a .moves .now) in
+    c .before .before .before .before .before .before .read-on .ensures ∙ batch-goes (a .session) l (a .bytes .now) _ (c .before .before .before .before .before .before .before .before .before .before .before .before .session-refusal .ensures) (c .before .before .before .before .before .before .before .before .before .before .enum-told .given .1)
 
 pub batch-spec : {M : Type 1} → statement M
 batch-spec =

@@ -13,7 +13,9 @@ cast-n : tie.Need-cast-n
 cast-n c = search needs
 
 judge-batch-requires : tie.Need-judge-batch-requires
-judge-batch-requires c κs = let s = c .before .before .before .before .before .before .before .before in (s .pre .1 .0 .0, (s .pre .0 .moves .stamp, s .pre .0 .moves .ascend))
+judge-batch-requires c κs =
+    let s = c .before .before .before .before .before .before .before .before in
+    (s .pre .1 .0 .0, (s .pre .0 .moves .stamp, s .pre .0 .moves .ascend))
 
 enum-known-verdict : tie.Need-enum-known-verdict
 enum-known-verdict c = search needs
@@ -22,13 +24,23 @@ enum-told : tie.Need-enum-told
 enum-told c = search needs
 
 move-on-requires : tie.Need-move-on-requires
-move-on-requires c κs = let s = c .before .before .before .before .before .before .before .before .before .before .before .before .before .before in let a = s .args in let l = roomsOf (a .labels .now) (a .equations .now) (a .values .now) (a .marks .now) (a .moves .now) in let b : Batch = record { stamp = a .stamp; changes = changesOf (take (a .count) (a .changes .now)) } in (able (a .session) l b b (s .pre .0) (s .pre .1 .1) (judged-good (a .session) l b _ (c .before .before .before .before .before .judge-batch .ensures) (c .before .before .before .enum-told .given .1)), s .pre .1 .0)
+move-on-requires c κs =
+    let s = c .before .before .before .before .before .before .before .before .before .before .before .before .before .before in
+    let a = s .args in
+    let l = roomsOf (a .labels .now) (a .equations .now) (a .values .now) (a .marks .now) (a .moves .now) in
+    let b : Batch = record { stamp = a .stamp; changes = changesOf (take (a .count) (a .changes .now)) } in
+    (able (a .session) l b b (s .pre .0) (s .pre .1 .1) (judged-good (a .session) l b _ (c .before .before .before .before .before .judge-batch .ensures) (c .before .before .before .enum-told .given .1)), s .pre .1 .0)
 
 same-length : tie.Need-same-length
 same-length c = search needs
 
 returns : tie.Need-returns
-returns c = let s = c .before .before .before .before .before .before .before .before .before .before .before .before in let a = s .args in let l = roomsOf (a .labels .now) (a .equations .now) (a .values .now) (a .marks .now) (a .moves .now) in let b : Batch = record { stamp = a .stamp; changes = changesOf (take (a .count) (a .changes .now)) } in read-bad (a .session) l b _ (c .before .before .before .judge-batch .ensures) _ _ (c .before .verdict .given .1)
+returns c =
+    let s = c .before .before .before .before .before .before .before .before .before .before .before .before in
+    let a = s .args in
+    let l = roomsOf (a .labels .now) (a .equations .now) (a .values .now) (a .marks .now) (a .moves .now) in
+    let b : Batch = record { stamp = a .stamp; changes = changesOf (take (a .count) (a .changes .now)) } in
+    read-bad (a .session) l b _ (c .before .before .before .judge-batch .ensures) _ _ (c .before .verdict .given .1)
 
 same-length-2 : tie.Need-same-length-2
 same-length-2 c = search needs
@@ -40,7 +52,12 @@ same-length-4 : tie.Need-same-length-4
 same-length-4 c = search needs
 
 returns-2 : tie.Need-returns-2
-returns-2 c = let s = c .before .before .before .before .before .before .before .before .before .before .before .before .before .before .before .before .before .before .before .before .before in let a = s .args in let l = roomsOf (a .labels .now) (a .equations .now) (a .values .now) (a .marks .now) (a .moves .now) in let b : Batch = record { stamp = a .stamp; changes = changesOf (take (a .count) (a .changes .now)) } in read-good (a .session) l b _ (c .before .before .before .before .before .before .before .before .before .before .before .before .judge-batch .ensures) _ (c .before .before .before .before .before .before .before .before .before .before .enum-told .given .1) (c .before .before .before .before .before .before .move-on .ensures)
+returns-2 c =
+    let s = c .before .before .before .before .before .before .before .before .before .before .before .before .before .before .before .before .before .before .before .before .before in
+    let a = s .args in
+    let l = roomsOf (a .labels .now) (a .equations .now) (a .values .now) (a .marks .now) (a .moves .now) in
+    let b : Batch = record { stamp = a .stamp; changes = changesOf (take (a .count) (a .changes .now)) } in
+    read-good (a .session) l b _ (c .before .before .before .before .before .before .before .before .before .before .before .before .judge-batch .ensures) _ (c .before .before .before .before .before .before .before .before .before .before .enum-told .given .1) (c .before .before .before .before .before .before .move-on .ensures)
 
 pub judge-on-spec : {M : Type 1} → statement M
 judge-on-spec =

@@ -20,10 +20,23 @@ apply-requires : tie.Need-apply-requires
 apply-requires c κs = search needs
 
 update-requires : tie.Need-update-requires
-update-requires c κs = let s = c .before .before .before .before .before .before .before .before .before .before .before .before .before .before .before in let a = s .args in let l = roomsOf (a .labels .now) (a .equations .now) (a .values .now) (a .marks .now) (a .moves .now) in let cs = changesOf (take (a .count) (a .changes .now)) in let p = s .pre .0 in let e = c .before .before .before .before .before .apply .ensures in (made-drawn (a .session) l cs p _ _ e, (p .in-range, (made-started (a .session) l cs p _ _ e, ((p .is-sane .fits .values-room, p .is-sane .fits .marks-room), s .pre .1))))
+update-requires c κs =
+    let s = c .before .before .before .before .before .before .before .before .before .before .before .before .before .before .before in
+    let a = s .args in
+    let l = roomsOf (a .labels .now) (a .equations .now) (a .values .now) (a .marks .now) (a .moves .now) in
+    let cs = changesOf (take (a .count) (a .changes .now)) in
+    let p = s .pre .0 in
+    let e = c .before .before .before .before .before .apply .ensures in
+    (made-drawn (a .session) l cs p _ _ e, (p .in-range, (made-started (a .session) l cs p _ _ e, ((p .is-sane .fits .values-room, p .is-sane .fits .marks-room), s .pre .1))))
 
 cast-held : tie.Need-cast-held
-cast-held c = let s = c .before .before .before .before .before .before .before .before .before .before .before .before .before .before .before .before .before .before .before .before .before in let a = s .args in let l = roomsOf (a .labels .now) (a .equations .now) (a .values .now) (a .marks .now) (a .moves .now) in let cs = changesOf (take (a .count) (a .changes .now)) in let few = made-few (a .session) l cs (s .pre .0) _ _ (c .before .before .before .before .before .before .before .before .before .before .before .apply .ensures) in record { fits = omega arith }
+cast-held c =
+    let s = c .before .before .before .before .before .before .before .before .before .before .before .before .before .before .before .before .before .before .before .before .before in
+    let a = s .args in
+    let l = roomsOf (a .labels .now) (a .equations .now) (a .values .now) (a .marks .now) (a .moves .now) in
+    let cs = changesOf (take (a .count) (a .changes .now)) in
+    let few = made-few (a .session) l cs (s .pre .0) _ _ (c .before .before .before .before .before .before .before .before .before .before .before .apply .ensures) in
+    record { fits = omega arith }
 
 carried-requires : tie.Need-carried-requires
 carried-requires c κs = search needs
@@ -38,7 +51,12 @@ same-length-3 : tie.Need-same-length-3
 same-length-3 c = search needs
 
 returns : tie.Need-returns
-returns c = let s = c .before .before .before .before .before .before .before .before .before .before .before .before .before .before .before .before .before .before .before .before .before .before .before in let a = s .args in let l = roomsOf (a .labels .now) (a .equations .now) (a .values .now) (a .marks .now) (a .moves .now) in let cs = changesOf (take (a .count) (a .changes .now)) in update-reports (a .session) l cs (s .pre .0) _ _ (c .before .before .before .before .before .before .before .before .before .before .before .before .before .apply .ensures) _ _ _ _ _ _ (let f = c .before .before .before .before .before .before .before .update .ensures in record { values-are = f .values-are; marks-are = f .marks-are; shift-is = f .shift-is; settle-is = f .settle-is; net-is = toZ-ofZ w32 _ (record { sfits = net-small _ _ _ _ _ _ _ _ _ (pairs-few (a .session .sizes) (a .labels .now) (a .equations .now) _ _ (made-drawn (a .session) l cs (s .pre .0) _ _ (c .before .before .before .before .before .before .before .before .before .before .before .before .before .apply .ensures))) f }) ∙ f .net-is }) (c .before .carried .ensures)
+returns c =
+    let s = c .before .before .before .before .before .before .before .before .before .before .before .before .before .before .before .before .before .before .before .before .before .before .before in
+    let a = s .args in
+    let l = roomsOf (a .labels .now) (a .equations .now) (a .values .now) (a .marks .now) (a .moves .now) in
+    let cs = changesOf (take (a .count) (a .changes .now)) in
+    update-reports (a .session) l cs (s .pre .0) _ _ (c .before .before .before .before .before .before .before .before .before .before .before .before .before .apply .ensures) _ _ _ _ _ _ (let f = c .before .before .before .before .before .before .before .update .ensures in record { values-are = f .values-are; marks-are = f .marks-are; shift-is = f .shift-is; settle-is = f .settle-is; net-is = toZ-ofZ w32 _ (record { sfits = net-small _ _ _ _ _ _ _ _ _ (pairs-few (a .session .sizes) (a .labels .now) (a .equations .now) _ _ (made-drawn (a .session) l cs (s .pre .0) _ _ (c .before .before .before .before .before .before .before .before .before .before .before .before .before .apply .ensures))) f }) ∙ f .net-is }) (c .before .carried .ensures)
 
 pub move-on-spec : {M : Type 1} → statement M
 move-on-spec =

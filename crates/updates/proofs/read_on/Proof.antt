@@ -28,10 +28,21 @@ slice-aggregate-judge-on : tie.Need-slice-aggregate-judge-on
 slice-aggregate-judge-on c = search needs
 
 judge-on-requires : tie.Need-judge-on-requires
-judge-on-requires c κs = let s = c .before .before .before .before .before .before .before .before .before .before .before .before .before .before .before .before in let a = s .args in let l = roomsOf (a .labels .now) (a .equations .now) (a .values .now) (a .marks .now) (a .moves .now) in let w = good-read (a .session .sizes) (a .bytes .now) (sane-sizes (a .session) l (s .pre)) (are-bytes (a .bytes .now) (λ i. omega (arith, c .before .before .before .before .before .before .before .before .before .before .before .before .before .before .before .shared-slice-known .given i))) _ _ _ _ (c .before .before .before .before .before .before .before .before .read-batch .ensures) (c .before .before .before .before .before .read2 .given .1) in let k = c .before .before .before .before .before .before .before .before .read-batch .kept in let e = length-replicate {A = ℕ} 64 0 in (s .pre, ((w .few, omega (arith, k, e, w .few)), w .in-range))
+judge-on-requires c κs =
+    let s = c .before .before .before .before .before .before .before .before .before .before .before .before .before .before .before .before in
+    let a = s .args in
+    let l = roomsOf (a .labels .now) (a .equations .now) (a .values .now) (a .marks .now) (a .moves .now) in
+    let w = good-read (a .session .sizes) (a .bytes .now) (sane-sizes (a .session) l (s .pre)) (are-bytes (a .bytes .now) (λ i. omega (arith, c .before .before .before .before .before .before .before .before .before .before .before .before .before .before .before .shared-slice-known .given i))) _ _ _ _ (c .before .before .before .before .before .before .before .before .read-batch .ensures) (c .before .before .before .before .before .read2 .given .1) in
+    let k = c .before .before .before .before .before .before .before .before .read-batch .kept in
+    let e = length-replicate {A = ℕ} 64 0 in
+    (s .pre, ((w .few, omega (arith, k, e, w .few)), w .in-range))
 
 returns : tie.Need-returns
-returns c = let s = c .before .before .before .before .before .before .before .before .before .before .before .before in let a = s .args in let l = roomsOf (a .labels .now) (a .equations .now) (a .values .now) (a .marks .now) (a .moves .now) in bytes-bad (a .session) l (a .bytes .now) _ _ (bad-read (a .session .sizes) (a .bytes .now) _ _ _ _ _ (c .before .before .before .before .read-batch .ensures) (c .before .read .given .1))
+returns c =
+    let s = c .before .before .before .before .before .before .before .before .before .before .before .before in
+    let a = s .args in
+    let l = roomsOf (a .labels .now) (a .equations .now) (a .values .now) (a .marks .now) (a .moves .now) in
+    bytes-bad (a .session) l (a .bytes .now) _ _ (bad-read (a .session .sizes) (a .bytes .now) _ _ _ _ _ (c .before .before .before .before .read-batch .ensures) (c .before .read .given .1))
 
 same-length : tie.Need-same-length
 same-length c = search needs
@@ -43,7 +54,12 @@ same-length-3 : tie.Need-same-length-3
 same-length-3 c = search needs
 
 returns-2 : tie.Need-returns-2
-returns-2 c = let s = c .before .before .before .before .before .before .before .before .before .before .before .before .before .before .before .before .before .before .before .before .before .before .before in let a = s .args in let l = roomsOf (a .labels .now) (a .equations .now) (a .values .now) (a .marks .now) (a .moves .now) in let w = good-read (a .session .sizes) (a .bytes .now) (sane-sizes (a .session) l (s .pre)) (are-bytes (a .bytes .now) (λ i. omega (arith, c .before .before .before .before .before .before .before .before .before .before .before .before .before .before .before .before .before .before .before .before .before .before .shared-slice-known .given i))) _ _ _ _ (c .before .before .before .before .before .before .before .before .before .before .before .before .before .before .before .read-batch .ensures) (c .before .before .before .before .before .before .before .before .before .before .before .before .read2 .given .1) in c .before .before .before .before .before .before .judge-on .ensures ∙ bytes-good (a .session) l (a .bytes .now) _ (w .read)
+returns-2 c =
+    let s = c .before .before .before .before .before .before .before .before .before .before .before .before .before .before .before .before .before .before .before .before .before .before .before in
+    let a = s .args in
+    let l = roomsOf (a .labels .now) (a .equations .now) (a .values .now) (a .marks .now) (a .moves .now) in
+    let w = good-read (a .session .sizes) (a .bytes .now) (sane-sizes (a .session) l (s .pre)) (are-bytes (a .bytes .now) (λ i. omega (arith, c .before .before .before .before .before .before .before .before .before .before .before .before .before .before .before .before .before .before .before .before .before .before .shared-slice-known .given i))) _ _ _ _ (c .before .before .before .before .before .before .before .before .before .before .before .before .before .before .before .read-batch .ensures) (c .before .before .before .before .before .before .before .before .before .before .before .before .read2 .given .1) in
+    c .before .before .before .before .before .before .judge-on .ensures ∙ bytes-good (a .session) l (a .bytes .now) _ (w .read)
 
 pub read-on-spec : {M : Type 1} → statement M
 read-on-spec =

@@ -1,20 +1,16 @@
+-- By the phase and the mark. Assumes nothing.
 use mathlib.Core.Path.{refl}
 use Rattle.lists.specs.Tests.{eqb-in, eqb-no}
 use borrow.Author.Needs.{needs}
 use Rattle.visits.proofs.next_mark.Statement.{statement}
 use Rattle.visits.proofs.next_mark.Tie as tie
-use Rattle.visits.proofs.next_mark.Reads as reads
-use Rattle.visits.proofs.next_mark.Lts as lts
 
--- src/lib.rt:24:13
 returns : tie.Need-returns
 returns c = rw (c .before .if1 .taken, eqb-in _ 0 (c .if2 .taken)) refl
 
--- src/lib.rt:26:9
 returns-2 : tie.Need-returns-2
 returns-2 c = rw (c .before .if1 .taken, eqb-no _ 0 .1 (c .if2 .left)) refl
 
--- src/lib.rt:19:1
 returns-3 : tie.Need-returns-3
 returns-3 c = search needs
 

@@ -1,3 +1,4 @@
+-- The pair waits where it is free and must turn. Assumes nothing.
 use Rattle.pairs.specs.Drawn.{tableOf}
 use Rattle.systems.specs.ListMachine.{Pile}
 use Rattle.visits.specs.VisitLaws.{visit-push}
@@ -8,8 +9,6 @@ use Rattle.pairs.specs.DrawnLimits.{pairs-few}
 use borrow.Author.Needs.{needs}
 use Rattle.visits.proofs.visit.Statement.{statement}
 use Rattle.visits.proofs.visit.Tie as tie
-use Rattle.visits.proofs.visit.Reads as reads
-use Rattle.visits.proofs.visit.Lts as lts
 
 add-count : tie.Need-add-count
 add-count c = search needs
@@ -24,7 +23,12 @@ asks-requires : tie.Need-asks-requires
 asks-requires c κs = search needs
 
 wait-requires : tie.Need-wait-requires
-wait-requires c κs = let s = c .before .before .before .before .before .before .before .before .before .before .before .before .before .before .before in let a = s .args in let h = pairs-few (a .sizes) (a .labels .now) (a .equations .now) (a .moves .now) (a .n) (s .pre .0) in let k = s .pre .1 in (omega arith, omega arith)
+wait-requires c κs =
+    let s = c .before .before .before .before .before .before .before .before .before .before .before .before .before .before .before in
+    let a = s .args in
+    let h = pairs-few (a .sizes) (a .labels .now) (a .equations .now) (a .moves .now) (a .n) (s .pre .0) in
+    let k = s .pre .1 in
+    (omega arith, omega arith)
 
 same-length : tie.Need-same-length
 same-length c = search needs

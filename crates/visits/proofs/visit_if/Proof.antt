@@ -1,11 +1,10 @@
+-- A visit or none. Assumes nothing.
 use Rattle.pairs.specs.Drawn.{tableOf}
 use Rattle.systems.specs.ListMachine.{Pile}
 use Rattle.visits.specs.VisitLaws.{visit-yes, visit-no}
 use borrow.Author.Needs.{needs}
 use Rattle.visits.proofs.visit_if.Statement.{statement}
 use Rattle.visits.proofs.visit_if.Tie as tie
-use Rattle.visits.proofs.visit_if.Reads as reads
-use Rattle.visits.proofs.visit_if.Lts as lts
 
 visit-requires : tie.Need-visit-requires
 visit-requires c κs = search needs

@@ -1,5 +1,5 @@
 -- The pair at the source of the move, visited where the move has the action. Assumes nothing.
-use mathlib.Core.Path.{_≡_, sym, ap, _∙_, subst}
+use mathlib.Core.Path.{sym, ap, _∙_, subst}
 use Prim.Native.Nat.{ℕ, _+_, _*_, _/_, _<_}
 use lib.ListN.{getD}
 use Rattle.rules.specs.Rooms.{pairsOf}

@@ -37,10 +37,21 @@ loop-less : tie.Need-loop-less Inv-loop μ-loop
 loop-less c = omega arith
 
 loop-again : tie.Need-loop-again Inv-loop μ-loop
-loop-again c = let a = c .before .before .before .before .before .args in let s = a .room .now in let l = c .before .before .before .loop in let e = labelled-step s (l .i) (a .n) (omega arith) in let f : c .one .result ≡ labelled (getD s (l .i) 0 ∷ []) = rw (c .before .word-at .ensures) at (c .one .ensures .0) in omega arith
+loop-again c =
+    let a = c .before .before .before .before .before .args in
+    let s = a .room .now in
+    let l = c .before .before .before .loop in
+    let e = labelled-step s (l .i) (a .n) (omega arith) in
+    let f : c .one .result ≡ labelled (getD s (l .i) 0 ∷ []) = rw (c .before .word-at .ensures) at (c .one .ensures .0) in
+    omega arith
 
 returns : tie.Need-returns Inv-loop μ-loop
-returns c = let a = c .before .before .before .args in let s = a .room .now in let l = c .before .loop in let e = labelled-end s (l .i) (a .n) (omega arith) in omega arith
+returns c =
+    let a = c .before .before .before .args in
+    let s = a .room .now in
+    let l = c .before .loop in
+    let e = labelled-end s (l .i) (a .n) (omega arith) in
+    omega arith
 
 pub count-labels-spec : {M : Type 1} → statement M
 count-labels-spec =

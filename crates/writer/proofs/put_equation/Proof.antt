@@ -31,7 +31,14 @@ same-length c = search needs
 
 returns : tie.Need-returns
 unfolding widths
-returns c = let a = c .before .before .before .before .before .before .before .before .before .args in let s = a .room .now in let v = getD s (a .i) 0 in let w = c .before .before .before .before .before .before .word-at .ensures in let q : suc (unword v .block) ≡ c .before .before .before .before .before .block-after .result = sym (c .before .before .before .before .before .block-after .ensures ∙ ap (λ (w : ℕ). suc (w / 256 / 256 / 256 / 2)) w) in let r = map unword (rest s (a .i + 1) (a .n)) in (rw (equation-same (a .b) v r (q ∙ c .before .before .before .before .if1 .taken)) (rw w at (c .before .before .write-equation .ensures), refl), omega arith)
+returns c =
+    let a = c .before .before .before .before .before .before .before .before .before .args in
+    let s = a .room .now in
+    let v = getD s (a .i) 0 in
+    let w = c .before .before .before .before .before .before .word-at .ensures in
+    let q : suc (unword v .block) ≡ c .before .before .before .before .before .block-after .result = sym (c .before .before .before .before .before .block-after .ensures ∙ ap (λ (w : ℕ). suc (w / 256 / 256 / 256 / 2)) w) in
+    let r = map unword (rest s (a .i + 1) (a .n)) in
+    (rw (equation-same (a .b) v r (q ∙ c .before .before .before .before .if1 .taken)) (rw w at (c .before .before .write-equation .ensures), refl), omega arith)
 
 add-run-of : tie.Need-add-run-of
 add-run-of c = search needs
@@ -59,7 +66,15 @@ same-length-2 c = search needs
 
 returns-2 : tie.Need-returns-2
 unfolding widths
-returns-2 c = let a = c .before .before .before .before .before .before .before .before .before .before .before .before .before .before .args in let s = a .room .now in let v = getD s (a .i) 0 in let w = c .before .before .before .before .before .before .before .before .before .before .before .word-at .ensures in let q : suc (unword v .block) ≡ c .before .before .before .before .before .before .before .before .before .before .block-after .result = sym (c .before .before .before .before .before .before .before .before .before .before .block-after .ensures ∙ ap (λ (w : ℕ). suc (w / 256 / 256 / 256 / 2)) w) in let r = map unword (rest s (a .i + 1) (a .n)) in let e : c .before .before .before .before .before .before .before .before .run-of .result + 1 ≡ suc (runOf (suc (unword v .block)) r) = rw q (omega (arith, c .before .before .before .before .before .before .before .before .run-of .ensures .0)) in (rw (equation-new (a .b) v r (λ z. c .before .before .before .before .before .before .before .before .before .if1 .left (sym q ∙ z))) (wrote-more (bytes (blockRec (unword v .kind) (suc (runOf (suc (unword v .block)) r)))) (bytes (equationRec (unword v))) (a .out .now) (c .before .before .before .before .before .before .write-block .last .0) _ (a .at) (a .at + 3) (a .at + 7) (rw (w, e) at (c .before .before .before .before .before .before .write-block .ensures), refl) (rw w at (c .before .before .write-equation2 .ensures), omega arith)), omega arith)
+returns-2 c =
+    let a = c .before .before .before .before .before .before .before .before .before .before .before .before .before .before .args in
+    let s = a .room .now in
+    let v = getD s (a .i) 0 in
+    let w = c .before .before .before .before .before .before .before .before .before .before .before .word-at .ensures in
+    let q : suc (unword v .block) ≡ c .before .before .before .before .before .before .before .before .before .before .block-after .result = sym (c .before .before .before .before .before .before .before .before .before .before .block-after .ensures ∙ ap (λ (w : ℕ). suc (w / 256 / 256 / 256 / 2)) w) in
+    let r = map unword (rest s (a .i + 1) (a .n)) in
+    let e : c .before .before .before .before .before .before .before .before .run-of .result + 1 ≡ suc (runOf (suc (unword v .block)) r) = rw q (omega (arith, c .before .before .before .before .before .before .before .before .run-of .ensures .0)) in
+    (rw (equation-new (a .b) v r (λ z. c .before .before .before .before .before .before .before .before .before .if1 .left (sym q ∙ z))) (wrote-more (bytes (blockRec (unword v .kind) (suc (runOf (suc (unword v .block)) r)))) (bytes (equationRec (unword v))) (a .out .now) (c .before .before .before .before .before .before .write-block .last .0) _ (a .at) (a .at + 3) (a .at + 7) (rw (w, e) at (c .before .before .before .before .before .before .write-block .ensures), refl) (rw w at (c .before .before .write-equation2 .ensures), omega arith)), omega arith)
 
 pub put-equation-spec : {M : Type 1} → statement M
 put-equation-spec =

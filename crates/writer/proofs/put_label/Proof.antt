@@ -6,7 +6,9 @@ use Rattle.writer.proofs.put_label.Statement.{statement}
 use Rattle.writer.proofs.put_label.Tie as tie
 
 returns : tie.Need-returns
-returns c = let a = c .before .before .args in (rw (no-label (a .s) (a .v) (c .if1 .taken)) (wrote-none (a .out .now) (a .at)), omega arith)
+returns c =
+    let a = c .before .before .args in
+    (rw (no-label (a .s) (a .v) (c .if1 .taken)) (wrote-none (a .out .now) (a .at)), omega arith)
 
 cast-write-label : tie.Need-cast-write-label
 cast-write-label c = search needs
@@ -21,7 +23,10 @@ same-length : tie.Need-same-length
 same-length c = search needs
 
 returns-2 : tie.Need-returns-2
-returns-2 c = let a = c .before .before .before .before .before .before .args in let l = label-length (a .s) (a .v) in (rw (a-label (a .s) (a .v) (c .before .before .before .before .if1 .left)) (c .before .before .write-label .ensures, omega arith), omega arith)
+returns-2 c =
+    let a = c .before .before .before .before .before .before .args in
+    let l = label-length (a .s) (a .v) in
+    (rw (a-label (a .s) (a .v) (c .before .before .before .before .if1 .left)) (c .before .before .write-label .ensures, omega arith), omega arith)
 
 pub put-label-spec : {M : Type 1} → statement M
 put-label-spec =

@@ -29,7 +29,13 @@ block-after-requires : tie.Need-block-after-requires Inv-loop μ-loop
 block-after-requires c κs = search needs
 
 returns : tie.Need-returns Inv-loop μ-loop
-returns c = let a = c .before .before .before .before .before .before .args in let s = a .room .now in let l = c .before .before .before .before .loop in let q : suc (unword (getD s (l .i) 0) .block) ≡ c .before .block-after .result = sym (c .before .block-after .ensures ∙ ap (λ (w : ℕ). suc (w / 256 / 256 / 256 / 2)) (c .before .before .word-at .ensures)) in let e = run-other s (a .b) (l .i) (a .n) (omega arith) (λ z. c .if1 .taken (sym q ∙ z)) in omega arith
+returns c =
+    let a = c .before .before .before .before .before .before .args in
+    let s = a .room .now in
+    let l = c .before .before .before .before .loop in
+    let q : suc (unword (getD s (l .i) 0) .block) ≡ c .before .block-after .result = sym (c .before .block-after .ensures ∙ ap (λ (w : ℕ). suc (w / 256 / 256 / 256 / 2)) (c .before .before .word-at .ensures)) in
+    let e = run-other s (a .b) (l .i) (a .n) (omega arith) (λ z. c .if1 .taken (sym q ∙ z)) in
+    omega arith
 
 add-k : tie.Need-add-k Inv-loop μ-loop
 add-k c = omega arith
@@ -41,10 +47,21 @@ loop-less : tie.Need-loop-less Inv-loop μ-loop
 loop-less c = omega arith
 
 loop-again : tie.Need-loop-again Inv-loop μ-loop
-loop-again c = let a = c .before .before .before .before .before .before .args in let s = a .room .now in let l = c .before .before .before .before .loop in let q : suc (unword (getD s (l .i) 0) .block) ≡ c .before .block-after .result = sym (c .before .block-after .ensures ∙ ap (λ (w : ℕ). suc (w / 256 / 256 / 256 / 2)) (c .before .before .word-at .ensures)) in let e = run-same s (a .b) (l .i) (a .n) (omega arith) (q ∙ c .if1 .left) in omega arith
+loop-again c =
+    let a = c .before .before .before .before .before .before .args in
+    let s = a .room .now in
+    let l = c .before .before .before .before .loop in
+    let q : suc (unword (getD s (l .i) 0) .block) ≡ c .before .block-after .result = sym (c .before .block-after .ensures ∙ ap (λ (w : ℕ). suc (w / 256 / 256 / 256 / 2)) (c .before .before .word-at .ensures)) in
+    let e = run-same s (a .b) (l .i) (a .n) (omega arith) (q ∙ c .if1 .left) in
+    omega arith
 
 returns-2 : tie.Need-returns-2 Inv-loop μ-loop
-returns-2 c = let a = c .before .before .before .args in let s = a .room .now in let l = c .before .loop in let e = run-end s (a .b) (l .i) (a .n) (omega arith) in omega arith
+returns-2 c =
+    let a = c .before .before .before .args in
+    let s = a .room .now in
+    let l = c .before .loop in
+    let e = run-end s (a .b) (l .i) (a .n) (omega arith) in
+    omega arith
 
 pub run-of-spec : {M : Type 1} → statement M
 run-of-spec =

@@ -38,13 +38,23 @@ loop-less : tie.Need-loop-less Inv-loop μ-loop
 loop-less c = omega arith
 
 loop-again : tie.Need-loop-again Inv-loop μ-loop
-loop-again c = let a = c .before .before .before .before .before .before .before .before .before .before .args in let s = a .room .now in let l = c .before .before .before .before .before .before .before .loop in let v = getD s (l .i) 0 in let q : c .block-after .result ≡ suc (unword v .block) = c .block-after .ensures ∙ ap (λ (w : ℕ). suc (w / 256 / 256 / 256 / 2)) (c .before .word-at .ensures) in (search needs, omega arith, omega arith, λ o k w. l .inv .3 o k (rw (equation-step s (l .b) (l .i) (a .n) (omega arith)) (wrote-more (oneEquation (l .b) (unword v) (map unword (rest s (l .i + 1) (a .n)))) (equationBytes (suc (unword v .block)) s (l .i + 1) (a .n)) (l .out) (c .before .before .before .before .put-equation .last .0) o (l .at) (c .before .before .before .before .put-equation .result) k (c .before .before .before .before .put-equation .ensures .0) (rw q at w))))
+loop-again c =
+    let a = c .before .before .before .before .before .before .before .before .before .before .args in
+    let s = a .room .now in
+    let l = c .before .before .before .before .before .before .before .loop in
+    let v = getD s (l .i) 0 in
+    let q : c .block-after .result ≡ suc (unword v .block) = c .block-after .ensures ∙ ap (λ (w : ℕ). suc (w / 256 / 256 / 256 / 2)) (c .before .word-at .ensures) in
+    (search needs, omega arith, omega arith, λ o k w. l .inv .3 o k (rw (equation-step s (l .b) (l .i) (a .n) (omega arith)) (wrote-more (oneEquation (l .b) (unword v) (map unword (rest s (l .i + 1) (a .n)))) (equationBytes (suc (unword v .block)) s (l .i + 1) (a .n)) (l .out) (c .before .before .before .before .put-equation .last .0) o (l .at) (c .before .before .before .before .put-equation .result) k (c .before .before .before .before .put-equation .ensures .0) (rw q at w))))
 
 same-length : tie.Need-same-length Inv-loop μ-loop
 same-length c = c .before .loop .inv .0
 
 returns : tie.Need-returns Inv-loop μ-loop
-returns c = let a = c .before .before .before .before .args in let s = a .room .now in let l = c .before .loop in (l .inv .3 (l .out) (l .at) (rw (equation-end s (l .b) (l .i) (a .n) (omega arith)) (wrote-none (l .out) (l .at))), omega arith)
+returns c =
+    let a = c .before .before .before .before .args in
+    let s = a .room .now in
+    let l = c .before .loop in
+    (l .inv .3 (l .out) (l .at) (rw (equation-end s (l .b) (l .i) (a .n) (omega arith)) (wrote-none (l .out) (l .at))), omega arith)
 
 pub write-equations-spec : {M : Type 1} → statement M
 write-equations-spec =

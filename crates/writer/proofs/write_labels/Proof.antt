@@ -34,13 +34,22 @@ loop-less : tie.Need-loop-less Inv-loop μ-loop
 loop-less c = omega arith
 
 loop-again : tie.Need-loop-again Inv-loop μ-loop
-loop-again c = let a = c .before .before .before .before .before .before .before .before .before .args in let s = a .room .now in let l = c .before .before .before .before .before .before .loop in let f : Wrote (l .out) (l .at) (oneLabel (l .i) (getD s (l .i) 0)) (c .before .before .put-label .last .0) (c .before .before .put-label .result) = rw (c .before .before .before .word-at .ensures) at (c .before .before .put-label .ensures .0) in (search needs, omega arith, omega arith, λ o k w. l .inv .3 o k (rw (label-step s (l .i) (a .n) (omega arith)) (wrote-more (oneLabel (l .i) (getD s (l .i) 0)) (labelBytes s (l .i + 1) (a .n)) (l .out) (c .before .before .put-label .last .0) o (l .at) (c .before .before .put-label .result) k f w)))
+loop-again c =
+    let a = c .before .before .before .before .before .before .before .before .before .args in
+    let s = a .room .now in
+    let l = c .before .before .before .before .before .before .loop in
+    let f : Wrote (l .out) (l .at) (oneLabel (l .i) (getD s (l .i) 0)) (c .before .before .put-label .last .0) (c .before .before .put-label .result) = rw (c .before .before .before .word-at .ensures) at (c .before .before .put-label .ensures .0) in
+    (search needs, omega arith, omega arith, λ o k w. l .inv .3 o k (rw (label-step s (l .i) (a .n) (omega arith)) (wrote-more (oneLabel (l .i) (getD s (l .i) 0)) (labelBytes s (l .i + 1) (a .n)) (l .out) (c .before .before .put-label .last .0) o (l .at) (c .before .before .put-label .result) k f w)))
 
 same-length : tie.Need-same-length Inv-loop μ-loop
 same-length c = c .before .loop .inv .0
 
 returns : tie.Need-returns Inv-loop μ-loop
-returns c = let a = c .before .before .before .before .args in let s = a .room .now in let l = c .before .loop in (l .inv .3 (l .out) (l .at) (rw (label-end s (l .i) (a .n) (omega arith)) (wrote-none (l .out) (l .at))), omega arith)
+returns c =
+    let a = c .before .before .before .before .args in
+    let s = a .room .now in
+    let l = c .before .loop in
+    (l .inv .3 (l .out) (l .at) (rw (label-end s (l .i) (a .n) (omega arith)) (wrote-none (l .out) (l .at))), omega arith)
 
 pub write-labels-spec : {M : Type 1} → statement M
 write-labels-spec =

@@ -32,7 +32,13 @@ same-length c = search needs
 
 returns : tie.Need-returns
 unfolding widths
-returns c = let a = c .before .before .before .before .before .before .before .before .before .before .before .before .before .before .before .before .before .before .before .before .before .before .args in let z = a .z in let ls = a .labels .now in let es = a .equations .now in let ms = a .moves .now in rw (spelled z (a .n) ls es ms) (wrote-more (bytes (sizesRec z)) (labelBytes ls 0 (z .states) ++ (equationBytes 0 es 0 (z .variables) ++ moveBytes ms 0 (a .n))) (a .out .now) (c .before .before .before .before .before .before .before .before .before .before .before .before .before .before .before .before .write-sizes .last .0) _ 0 7 _ (c .before .before .before .before .before .before .before .before .before .before .before .before .before .before .before .before .write-sizes .ensures, refl) (wrote-more (labelBytes ls 0 (z .states)) (equationBytes 0 es 0 (z .variables) ++ moveBytes ms 0 (a .n)) (c .before .before .before .before .before .before .before .before .before .before .before .before .before .before .before .before .write-sizes .last .0) (c .before .before .before .before .before .before .before .before .before .before .before .write-labels .last .0) _ 7 (c .before .before .before .before .before .before .before .before .before .before .before .write-labels .result) _ (c .before .before .before .before .before .before .before .before .before .before .before .write-labels .ensures .0) (wrote-more (equationBytes 0 es 0 (z .variables)) (moveBytes ms 0 (a .n)) (c .before .before .before .before .before .before .before .before .before .before .before .write-labels .last .0) (c .before .before .before .before .before .before .write-equations .last .0) _ (c .before .before .before .before .before .before .before .before .before .before .before .write-labels .result) (c .before .before .before .before .before .before .write-equations .result) _ (c .before .before .before .before .before .before .write-equations .ensures .0) (c .before .before .write-moves .ensures))))
+returns c =
+    let a = c .before .before .before .before .before .before .before .before .before .before .before .before .before .before .before .before .before .before .before .before .before .before .args in
+    let z = a .z in
+    let ls = a .labels .now in
+    let es = a .equations .now in
+    let ms = a .moves .now in
+    rw (spelled z (a .n) ls es ms) (wrote-more (bytes (sizesRec z)) (labelBytes ls 0 (z .states) ++ (equationBytes 0 es 0 (z .variables) ++ moveBytes ms 0 (a .n))) (a .out .now) (c .before .before .before .before .before .before .before .before .before .before .before .before .before .before .before .before .write-sizes .last .0) _ 0 7 _ (c .before .before .before .before .before .before .before .before .before .before .before .before .before .before .before .before .write-sizes .ensures, refl) (wrote-more (labelBytes ls 0 (z .states)) (equationBytes 0 es 0 (z .variables) ++ moveBytes ms 0 (a .n)) (c .before .before .before .before .before .before .before .before .before .before .before .before .before .before .before .before .write-sizes .last .0) (c .before .before .before .before .before .before .before .before .before .before .before .write-labels .last .0) _ 7 (c .before .before .before .before .before .before .before .before .before .before .before .write-labels .result) _ (c .before .before .before .before .before .before .before .before .before .before .before .write-labels .ensures .0) (wrote-more (equationBytes 0 es 0 (z .variables)) (moveBytes ms 0 (a .n)) (c .before .before .before .before .before .before .before .before .before .before .before .write-labels .last .0) (c .before .before .before .before .before .before .write-equations .last .0) _ (c .before .before .before .before .before .before .before .before .before .before .before .write-labels .result) (c .before .before .before .before .before .before .write-equations .result) _ (c .before .before .before .before .before .before .write-equations .ensures .0) (c .before .before .write-moves .ensures))))
 
 pub write-model-spec : {M : Type 1} → statement M
 write-model-spec =

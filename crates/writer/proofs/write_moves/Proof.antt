@@ -40,7 +40,13 @@ loop-less c = omega arith
 
 loop-again : tie.Need-loop-again Inv-loop μ-loop
 unfolding widths
-loop-again c = let a = c .before .before .before .before .before .before .before .before .before .args in let s = a .room .now in let l = c .before .before .before .before .before .before .loop in let v = getD s (l .i) 0 in let f : Wrote (l .out) (l .at) (bytes (moveRec v)) (c .before .before .write-move .last .0) (l .at + 6) = (rw (c .before .before .before .word-at .ensures) at (c .before .before .write-move .ensures), refl) in (search needs, omega arith, omega arith, λ o k w. l .inv .3 o k (rw (move-step s (l .i) (a .n) (omega arith)) (wrote-more (bytes (moveRec v)) (moveBytes s (l .i + 1) (a .n)) (l .out) (c .before .before .write-move .last .0) o (l .at) (l .at + 6) k f w)))
+loop-again c =
+    let a = c .before .before .before .before .before .before .before .before .before .args in
+    let s = a .room .now in
+    let l = c .before .before .before .before .before .before .loop in
+    let v = getD s (l .i) 0 in
+    let f : Wrote (l .out) (l .at) (bytes (moveRec v)) (c .before .before .write-move .last .0) (l .at + 6) = (rw (c .before .before .before .word-at .ensures) at (c .before .before .write-move .ensures), refl) in
+    (search needs, omega arith, omega arith, λ o k w. l .inv .3 o k (rw (move-step s (l .i) (a .n) (omega arith)) (wrote-more (bytes (moveRec v)) (moveBytes s (l .i + 1) (a .n)) (l .out) (c .before .before .write-move .last .0) o (l .at) (l .at + 6) k f w)))
 
 write-end-requires : tie.Need-write-end-requires Inv-loop μ-loop
 write-end-requires c κs = search needs
@@ -53,7 +59,11 @@ same-length c = search needs
 
 returns : tie.Need-returns Inv-loop μ-loop
 unfolding widths
-returns c = let a = c .before .before .before .before .before .before .before .before .args in let s = a .room .now in let l = c .before .before .before .before .before .loop in l .inv .3 _ (l .at + 1) (rw (move-end s (l .i) (a .n) (omega arith)) (c .before .before .write-end .ensures, refl))
+returns c =
+    let a = c .before .before .before .before .before .before .before .before .args in
+    let s = a .room .now in
+    let l = c .before .before .before .before .before .loop in
+    l .inv .3 _ (l .at + 1) (rw (move-end s (l .i) (a .n) (omega arith)) (c .before .before .write-end .ensures, refl))
 
 pub write-moves-spec : {M : Type 1} → statement M
 write-moves-spec =

@@ -14,7 +14,10 @@ enum-known-why : tie.Need-enum-known-why
 enum-known-why c = search needs
 
 returns : tie.Need-returns
-returns c = let a = c .before .before .before .before .before .before .before .before .before .before .args in let l = roomsOf (a .labels .now) (a .equations .now) (a .values .now) (a .marks .now) (a .moves .now) in write-stops (a .session) l (a .out .now) (c .before .before .before .session-refusal .result) (c .before .before .before .session-refusal .ensures) _ (c .before .why .given .1)
+returns c =
+    let a = c .before .before .before .before .before .before .before .before .before .before .args in
+    let l = roomsOf (a .labels .now) (a .equations .now) (a .values .now) (a .marks .now) (a .moves .now) in
+    write-stops (a .session) l (a .out .now) (c .before .before .before .session-refusal .result) (c .before .before .before .session-refusal .ensures) _ (c .before .why .given .1)
 
 enum-told : tie.Need-enum-told
 enum-told c = search needs
@@ -23,19 +26,28 @@ spelled-length-requires : tie.Need-spelled-length-requires
 spelled-length-requires c κs = search needs
 
 returns-2 : tie.Need-returns-2
-returns-2 c = let a = c .before .before .before .before .before .before .before .before .before .before .before .args in let l = roomsOf (a .labels .now) (a .equations .now) (a .values .now) (a .marks .now) (a .moves .now) in leaves-short (a .session) l (a .out .now) (c .before .before .before .before .session-refusal .result) (c .before .before .before .before .session-refusal .ensures) (c .before .before .enum-told .given .1) (c .before .spelled-length .result) (c .before .spelled-length .ensures) (omega arith)
+returns-2 c =
+    let a = c .before .before .before .before .before .before .before .before .before .before .before .args in
+    let l = roomsOf (a .labels .now) (a .equations .now) (a .values .now) (a .marks .now) (a .moves .now) in
+    leaves-short (a .session) l (a .out .now) (c .before .before .before .before .session-refusal .result) (c .before .before .before .before .session-refusal .ensures) (c .before .before .enum-told .given .1) (c .before .spelled-length .result) (c .before .spelled-length .ensures) (omega arith)
 
 cast-write-model : tie.Need-cast-write-model
 cast-write-model c = search needs
 
 write-model-requires : tie.Need-write-model-requires
-write-model-requires c κs = let a = c .before .before .before .before .before .before .before .before .before .before .before .before .before .args in let l = roomsOf (a .labels .now) (a .equations .now) (a .values .now) (a .marks .now) (a .moves .now) in good-limits (a .session) l (a .out .now) (c .before .before .before .before .before .before .session-refusal .result) (c .before .before .before .before .before .before .session-refusal .ensures) (c .before .before .before .before .enum-told .given .1)
+write-model-requires c κs =
+    let a = c .before .before .before .before .before .before .before .before .before .before .before .before .before .args in
+    let l = roomsOf (a .labels .now) (a .equations .now) (a .values .now) (a .marks .now) (a .moves .now) in
+    good-limits (a .session) l (a .out .now) (c .before .before .before .before .before .before .session-refusal .result) (c .before .before .before .before .before .before .session-refusal .ensures) (c .before .before .before .before .enum-told .given .1)
 
 same-length : tie.Need-same-length
 same-length c = search needs
 
 returns-3 : tie.Need-returns-3
-returns-3 c = let a = c .before .before .before .before .before .before .before .before .before .before .before .before .before .before .before .before .args in let l = roomsOf (a .labels .now) (a .equations .now) (a .values .now) (a .marks .now) (a .moves .now) in leaves-written (a .session) l (a .out .now) (c .before .before .before .before .before .before .before .before .before .session-refusal .result) (c .before .before .before .before .before .before .before .before .before .session-refusal .ensures) (c .before .before .before .before .before .before .before .enum-told .given .1) (c .before .before .before .before .before .before .spelled-length .result) (c .before .before .before .before .before .before .spelled-length .ensures) (omega arith) _ _ (c .before .before .write-model .ensures)
+returns-3 c =
+    let a = c .before .before .before .before .before .before .before .before .before .before .before .before .before .before .before .before .args in
+    let l = roomsOf (a .labels .now) (a .equations .now) (a .values .now) (a .marks .now) (a .moves .now) in
+    leaves-written (a .session) l (a .out .now) (c .before .before .before .before .before .before .before .before .before .session-refusal .result) (c .before .before .before .before .before .before .before .before .before .session-refusal .ensures) (c .before .before .before .before .before .before .before .enum-told .given .1) (c .before .before .before .before .before .before .spelled-length .result) (c .before .before .before .before .before .before .spelled-length .ensures) (omega arith) _ _ (c .before .before .write-model .ensures)
 
 pub write-spec : {M : Type 1} → statement M
 write-spec =
