@@ -14,7 +14,7 @@ use Rattle.rules.specs.Records.{accepted}
 use Rattle.rules.specs.Batch.{Change, Batch, judge, remove, insert, removeAll, insertAll, inserts, deletes, edited}
 use Rattle.laws.specs.Edits.{judge-out, AllAre, Distinct, Judged, removeAll-elem, removeAll-ok, insertAll-elem}
 use Rattle.table.specs.Ascending.{ascends, some-sizes, moves-ascend}
-use Rattle.applies.specs.Kept.{Kept, removedFrom, insertedInto, deletedAll, insertedAll, appliedTo}
+use Rattle.applies.specs.Kept.{Kept, removedFrom, insertedInto, changedAll, appliedTo}
 use Rattle.applies.specs.OneMove.{Found, Due, found, due, taken-out, put-in, out-length, in-length}
 
 -- What stands behind the first m places, where n places were moves: zeros up to n, and the room past that.
@@ -101,7 +101,7 @@ module _ (n : ℕ) (room ms : List ℕ) where
 
   -- All deletes.
   all-out : (cs : List Change) → ascends 0 ms ≡ true → Distinct (deletes cs) → AllAre true (deletes cs) ms → length ms ≤ n
-      → (deletedAll cs (apart n room ms) ≡ apart n room (removeAll (deletes cs) ms)) × (length (removeAll (deletes cs) ms) ≤ n)
+      → (changedAll false cs (apart n room ms) ≡ apart n room (removeAll (deletes cs) ms)) × (length (removeAll (deletes cs) ms) ≤ n)
   all-out [] h d a k = (refl, k)
   all-out (c ∷ cs) h d a k =
       elim (tell true (c .insert)) [
@@ -112,7 +112,7 @@ module _ (n : ℕ) (room ms : List ℕ) where
             let ih = all-out cs h (d′ .1) (a′ .1) k in
             let o : elem (c .move) (removeAll (deletes cs) ms) ≡ true = removeAll-elem (c .move) (deletes cs) ms ∙ rw (a′ .0, d′ .0) refl in
             let f = found (c .move) 0 (removeAll (deletes cs) ms) (removeAll-ascends (deletes cs) ms h) o in
-            rw t (out-step (c .move) (deletedAll cs (apart n room ms)) (removeAll (deletes cs) ms) f (ih .1) (ih .0))
+            rw t (out-step (c .move) (changedAll false cs (apart n room ms)) (removeAll (deletes cs) ms) f (ih .1) (ih .0))
       ]
 
   -- An insert after others.
@@ -124,7 +124,7 @@ module _ (n : ℕ) (room ms : List ℕ) where
 
   -- All inserts.
   all-in : (cs : List Change) → Distinct (inserts cs) → AllAre false (inserts cs) ms → length (insertAll (inserts cs) ms) ≤ length room
-      → insertedAll cs (apart n room ms) ≡ apart n room (insertAll (inserts cs) ms)
+      → changedAll true cs (apart n room ms) ≡ apart n room (insertAll (inserts cs) ms)
   all-in [] d a k = refl
   all-in (c ∷ cs) d a k =
       elim (tell true (c .insert)) [
@@ -133,7 +133,7 @@ module _ (n : ℕ) (room ms : List ℕ) where
             let d′ = rw t at d in
             let a′ = rw t at a in
             let o : elem (c .move) (insertAll (inserts cs) ms) ≡ false = insertAll-elem (c .move) (inserts cs) ms ∙ rw (d′ .0, a′ .0) refl in
-            rw t (in-step (c .move) (insertedAll cs (apart n room ms)) (insertAll (inserts cs) ms) o (rw t at k) (λ h. all-in cs (d′ .1) (a′ .1) h))
+            rw t (in-step (c .move) (changedAll true cs (apart n room ms)) (insertAll (inserts cs) ms) o (rw t at k) (λ h. all-in cs (d′ .1) (a′ .1) h))
       ]
 
 -- What was absent is absent after the deletes.
@@ -152,7 +152,7 @@ applied-edits n room cs h o j k =
     let base = removeAll (deletes cs) ms in
     let e : record { moves = room; count = n } ≡ apart n room ms = start-apart n room ms s (sym (take-append-drop n room)) in
     let out = all-out n room ms cs o (j .1) (j .3) (omega arith) in
-    ap (λ (x : Kept). insertedAll cs (deletedAll cs x)) e ∙ ap (insertedAll cs) (out .0)
+    ap (λ (x : Kept). changedAll true cs (changedAll false cs x)) e ∙ ap (changedAll true cs) (out .0)
     ∙ all-in n room base cs (j .0) (outside (inserts cs) (deletes cs) ms (j .2)) k ∙ sym (laid-apart n room (insertAll (inserts cs) base))
 
 -- So it is for a batch that the judgement accepts.

@@ -1,5 +1,5 @@
 -- The room of the moves and how many of its places are moves; what the code does to them, step by step. Definitions only.
-use mathlib.Core.Bool.{cond}
+use mathlib.Core.Bool.{Bool, true, false, cond}
 use mathlib.Core.List.{List, [], _∷_, _++_}
 use Prim.Native.Nat.{ℕ, zero, suc, _+_, _-_}
 use lib.ListN.{length, getD, take, drop, set}
@@ -49,15 +49,16 @@ deletedBy c k = cond (c .insert) k (removedFrom (c .move) k)
 abbrev pub insertedBy : Change → Kept → Kept
 insertedBy c k = cond (c .insert) (insertedInto (c .move) k) k
 
--- All deletes, from the last to the first, and all inserts.
-abbrev pub deletedAll : List Change → Kept → Kept
-deletedAll [] k = k
-deletedAll (c ∷ cs) k = deletedBy c (deletedAll cs k)
+-- One change, where it is of the kind asked for: an insert or a delete.
+abbrev pub changedBy : Bool → Change → Kept → Kept
+changedBy true c k = insertedBy c k
+changedBy false c k = deletedBy c k
 
-abbrev pub insertedAll : List Change → Kept → Kept
-insertedAll [] k = k
-insertedAll (c ∷ cs) k = insertedBy c (insertedAll cs k)
+-- All changes of a kind, from the last to the first.
+abbrev pub changedAll : Bool → List Change → Kept → Kept
+changedAll b [] k = k
+changedAll b (c ∷ cs) k = changedBy b c (changedAll b cs k)
 
 -- All changes: first the deletes, then the inserts.
 abbrev pub appliedTo : List Change → Kept → Kept
-appliedTo cs k = insertedAll cs (deletedAll cs k)
+appliedTo cs k = changedAll true cs (changedAll false cs k)

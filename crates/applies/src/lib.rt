@@ -3,7 +3,7 @@
 ghost use mathlib.Core.Path.{_≡_};
 ghost use lib.ListN.{take};
 ghost use Rattle.edits.specs.Changes.{changeOf, changesOf};
-ghost use Rattle.applies.specs.Kept.{Kept, pulledIn, pushedIn, removedFrom, insertedInto, deletedBy, insertedBy, deletedAll, insertedAll, appliedTo};
+ghost use Rattle.applies.specs.Kept.{Kept, pulledIn, pushedIn, removedFrom, insertedInto, deletedBy, insertedBy, changedBy, changedAll, appliedTo};
 
 // The places from `from` to `end` each take the value of the next one.
 fn pull(moves: &mut [u32], from: usize, end: usize)
@@ -77,28 +77,25 @@ fn insert_one(w: u32, moves: &mut [u32], n: usize) -> usize
     n
 }
 
-// All deletes, from the last change to the first.
-fn delete_all(changes: &[u32], count: usize, moves: &mut [u32], n: usize) -> usize
-    ensures { λ r. ⌜ _≡_ {A = Kept} (record { moves = now (moves .exit); count = r }) (deletedAll (changesOf (take count (now (changes .entry)))) (record { moves = now (moves .entry); count = n })) ⌝ }
+// One change, where it is of the kind asked for: an insert or a delete.
+fn change_one(w: u32, inserting: bool, moves: &mut [u32], n: usize) -> usize
+    ensures { λ r. ⌜ _≡_ {A = Kept} (record { moves = now (moves .exit); count = r }) (changedBy inserting (changeOf w) (record { moves = now (moves .entry); count = n })) ⌝ }
 {
-    let mut i = table::least(count, changes.len());
-    let mut left = n;
-    while 0 < i {
-        i = i - 1;
-        left = delete_one(rooms::word_at(changes, i), moves, left);
+    if inserting {
+        return insert_one(w, moves, n);
     }
-    left
+    delete_one(w, moves, n)
 }
 
-// All inserts, from the last change to the first.
-fn insert_all(changes: &[u32], count: usize, moves: &mut [u32], n: usize) -> usize
-    ensures { λ r. ⌜ _≡_ {A = Kept} (record { moves = now (moves .exit); count = r }) (insertedAll (changesOf (take count (now (changes .entry)))) (record { moves = now (moves .entry); count = n })) ⌝ }
+// All changes of a kind, from the last to the first.
+fn change_all(changes: &[u32], count: usize, inserting: bool, moves: &mut [u32], n: usize) -> usize
+    ensures { λ r. ⌜ _≡_ {A = Kept} (record { moves = now (moves .exit); count = r }) (changedAll inserting (changesOf (take count (now (changes .entry)))) (record { moves = now (moves .entry); count = n })) ⌝ }
 {
     let mut i = table::least(count, changes.len());
     let mut held = n;
     while 0 < i {
         i = i - 1;
-        held = insert_one(rooms::word_at(changes, i), moves, held);
+        held = change_one(rooms::word_at(changes, i), inserting, moves, held);
     }
     held
 }
@@ -107,6 +104,6 @@ fn insert_all(changes: &[u32], count: usize, moves: &mut [u32], n: usize) -> usi
 pub fn apply(changes: &[u32], count: usize, moves: &mut [u32], n: usize) -> usize
     ensures { λ r. ⌜ _≡_ {A = Kept} (record { moves = now (moves .exit); count = r }) (appliedTo (changesOf (take count (now (changes .entry)))) (record { moves = now (moves .entry); count = n })) ⌝ }
 {
-    let left = delete_all(changes, count, moves, n);
-    insert_all(changes, count, moves, left)
+    let left = change_all(changes, count, false, moves, n);
+    change_all(changes, count, true, moves, left)
 }

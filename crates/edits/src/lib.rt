@@ -80,6 +80,7 @@ fn repeats(changes: &[u32], count: usize) -> Verdict
 
 // Whether a change inserts a move that is present, or deletes one that is absent.
 fn is_wrong(w: u32, moves: &[u32], n: usize) -> bool
+    requires { ⌜ ascends 0 (take n (now moves)) ≡ true ⌝ }
     ensures { λ r. ⌜ r ≡ wrong (take n (now (moves .entry))) (changeOf w) ⌝ }
 {
     let insert = w % 2 == 1;
@@ -100,6 +101,7 @@ fn wrong_at(w: u32, at: usize) -> Verdict
 // 7 or 8: the first change that is wrong.
 fn misplaces(changes: &[u32], count: usize, moves: &[u32], n: usize) -> Verdict
     requires { ⌜ count ≤ 64 ⌝ }
+    requires { ⌜ ascends 0 (take n (now moves)) ≡ true ⌝ }
     ensures { λ r. ⌜ faultOf r ≡ misplaced (take n (now (moves .entry))) 5 (changesOf (take count (now (changes .entry)))) ⌝ }
 {
     let end = table::least(count, changes.len());

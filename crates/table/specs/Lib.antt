@@ -4,3 +4,4 @@ pub mod Stamps
 pub mod Leading
 pub mod OwnMoves
 pub mod PartWalk
+pub mod Members

@@ -81,19 +81,6 @@ pub fn stamp_of(moves: &[u32], n: usize) -> u32
     stamp
 }
 
-// Whether q is one of the first n moves.
-pub fn holds_move(moves: &[u32], n: usize, q: u32) -> bool
-    ensures { λ r. ⌜ r ≡ elem q (take n (now (moves .entry))) ⌝ }
-{
-    let mut i = least(n, moves.len());
-    let mut found = false;
-    while 0 < i {
-        i = i - 1;
-        found = (q == rooms::word_at(moves, i)) | found;
-    }
-    found
-}
-
 // The place of the first of the n moves, from `from` on, that does not lie below the key.
 pub fn passed(moves: &[u32], n: usize, from: usize, key: u64) -> usize
     ensures { λ r. ⌜ r ≡ from + leading key (drop from (take n (now (moves .entry)))) ⌝ }
@@ -112,6 +99,15 @@ pub fn place_of(moves: &[u32], n: usize, q: u32) -> usize
     ensures { λ r. ⌜ r ≡ below q (take n (now (moves .entry))) ⌝ }
 {
     passed(moves, n, 0, q as u64)
+}
+
+// Whether q is one of the first n moves: the one at its place tells.
+pub fn holds_move(moves: &[u32], n: usize, q: u32) -> bool
+    requires { ⌜ ascends 0 (take n (now moves)) ≡ true ⌝ }
+    ensures { λ r. ⌜ r ≡ elem q (take n (now (moves .entry))) ⌝ }
+{
+    let at = place_of(moves, n, q);
+    (at < least(n, moves.len())) & (rooms::word_at(moves, at) == q)
 }
 
 // Which part of the first n moves belongs to a state and an action, walked from the front.

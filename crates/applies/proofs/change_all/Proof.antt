@@ -5,17 +5,17 @@ use Prim.Native.Nat.{ℕ, _≤_, min}
 use lib.ListN.{length}
 use Rattle.rules.specs.Batch.{Change}
 use Rattle.edits.specs.Changes.{changeOf, changesFrom, changes-less, changes-over}
-use Rattle.applies.specs.Kept.{Kept, deletedBy, deletedAll}
+use Rattle.applies.specs.Kept.{Kept, changedBy, changedAll}
 use borrow.Author.Needs.{needs}
 use native.Mathlib.Omega.{arith}
-use Rattle.applies.proofs.delete_all.Statement.{statement}
-use Rattle.applies.proofs.delete_all.Tie as tie
+use Rattle.applies.proofs.change_all.Statement.{statement}
+use Rattle.applies.proofs.change_all.Tie as tie
 
 abbrev Inv-loop : tie.InvT-loop
-Inv-loop changes count moves₀ n i₀ left₀ moves i left = (i ≤ min count (length changes)) × (length moves ≡ length moves₀) × (_≡_ {A = Kept} (record { moves = moves; count = left }) (deletedAll (changesFrom changes count i) (record { moves = moves₀; count = n })))
+Inv-loop changes count inserting moves₀ n i₀ held₀ moves i held = (i ≤ min count (length changes)) × (length moves ≡ length moves₀) × (_≡_ {A = Kept} (record { moves = moves; count = held }) (changedAll inserting (changesFrom changes count i) (record { moves = moves₀; count = n })))
 
 abbrev μ-loop : tie.MeasureT-loop
-μ-loop changes count moves₀ n i₀ left₀ moves i left = i
+μ-loop changes count inserting moves₀ n i₀ held₀ moves i held = i
 
 least-requires : tie.Need-least-requires Inv-loop μ-loop
 least-requires c κs = search needs
@@ -31,8 +31,8 @@ sub-i c = search needs
 word-at-requires : tie.Need-word-at-requires Inv-loop μ-loop
 word-at-requires c κs = search needs
 
-delete-one-requires : tie.Need-delete-one-requires Inv-loop μ-loop
-delete-one-requires c κs = search needs
+change-one-requires : tie.Need-change-one-requires Inv-loop μ-loop
+change-one-requires c κs = search needs
 
 loop-less : tie.Need-loop-less Inv-loop μ-loop
 loop-less c = search needs
@@ -41,9 +41,9 @@ loop-again : tie.Need-loop-again Inv-loop μ-loop
 loop-again c = let a = c .before .before .before .before .before .before .before .before .before .before .args in let s = c .before .before .before .before .before .before .loop in
     let k : Kept = record { moves = a .moves .now; count = a .n } in (
       omega arith,
-      c .before .before .delete-one .kept .1 .0 ∙ s .inv .1,
-      c .before .before .delete-one .ensures ∙ ap₂ (λ (w : ℕ) (x : Kept). deletedBy (changeOf w) x) (c .before .before .before .before .word-at .ensures) (s .inv .2)
-          ∙ sym (ap (λ (cs : List Change). deletedAll cs k) (changes-less (a .changes .now) (a .count) (s .i) (omega arith) (omega arith))),
+      c .before .before .change-one .kept .1 .1 .0 ∙ s .inv .1,
+      c .before .before .change-one .ensures ∙ ap₂ (λ (w : ℕ) (x : Kept). changedBy (a .inserting) (changeOf w) x) (c .before .before .before .before .word-at .ensures) (s .inv .2)
+          ∙ sym (ap (λ (cs : List Change). changedAll (a .inserting) cs k) (changes-less (a .changes .now) (a .count) (s .i) (omega arith) (omega arith))),
     )
 
 same-length : tie.Need-same-length Inv-loop μ-loop
@@ -54,8 +54,8 @@ returns c =
     let e : c .before .loop .i ≡ 0 = omega arith in
     rw e at (c .before .loop .inv .2)
 
-pub delete-all-spec : {M : Type 1} → statement M
-delete-all-spec =
+pub change-all-spec : {M : Type 1} → statement M
+change-all-spec =
     tie.close
     (tie.spec
     Inv-loop
@@ -64,7 +64,7 @@ delete-all-spec =
     loop-holds
     sub-i
     word-at-requires
-    delete-one-requires
+    change-one-requires
     loop-less
     loop-again
     same-length
