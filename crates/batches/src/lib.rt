@@ -27,8 +27,7 @@ pub enum ChangeTurn {
 fn coded(m: Move, insert: u8) -> u32
     ensures { λ r. ⌜ r ≡ wrap (2 * pack (m .source .0) (m .action .0) (m .target .0) + insert) ⌝ }
 {
-    let q = 65536 * (m.source.0 as u64) + 1024 * (m.action.0 as u64) + (m.target.0 as u64);
-    ((2 * q + insert as u64) % 4294967296) as u32
+    ((2 * limits::packed(m) + insert as u64) % 4294967296) as u32
 }
 
 // A change: not the 65th, and in range.

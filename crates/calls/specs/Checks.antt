@@ -7,20 +7,15 @@ use Prim.Native.Nat.{ℕ}
 use lib.ListN.{length}
 use Rattle.lists.specs.Tests.{tell}
 use Rattle.rules.specs.Records.{Outcome, refused, accepted}
-use Rattle.rules.specs.Rooms.{Rooms, Lengths, roomsOk}
+use Rattle.rules.specs.Rooms.{Rooms, roomsOk, lengthsOf}
 use Rattle.rules.specs.Session.{restOk, sessionDemands}
 use Rattle.rules.specs.Calls.{asked, andThen}
 use Rattle.rules.specs.Answers.{numberOf}
 use Rattle.rules.specs.declared.Refusal.{Refusal}
 use Rattle.rules.specs.declared.Session.{Session}
-use Rattle.sessions.specs.Tested.{countsBy, counts-by, rooms-by}
+use Rattle.sessions.specs.Tested.{countsBy, counts-by}
 use Rattle.calls.specs.declared.Checked.{Checked}
 use Rattle.calls.specs.declared.Checked.the-variants as Found
-
--- The lengths that 13 looks at: all but that of the move room.
-abbrev pub lengthsNow : Rooms → Lengths
-lengthsNow l =
-    record { labels = length (l .labels); equations = length (l .equations); values = length (l .values); marks = length (l .marks); moves = 0 }
 
 -- The outcome where nothing is refused and nothing more is answered.
 abbrev pub allWell : Outcome (Unit {0})
@@ -48,16 +43,16 @@ module _ (s : Session) (l : Rooms) where
 
   module _ (a : countsBy s (length (l .moves)) ≡ true) where
     -- 13 where a room is too short.
-    pub check-rooms : roomsOk (lengthsNow l) (s .sizes) ≡ false → refused 13 0 ≡ checkOf s l
-    check-rooms b = rw (counts-by s l, a, sym (rooms-by l (s .sizes)), b) refl
+    pub check-rooms : roomsOk (lengthsOf l) (s .sizes) ≡ false → refused 13 0 ≡ checkOf s l
+    check-rooms b = rw (counts-by s l, a, b) refl
 
     -- 12 where the rest is not as it must be.
-    pub check-rest : roomsOk (lengthsNow l) (s .sizes) ≡ true → restOk s l ≡ false → refused 12 0 ≡ checkOf s l
-    check-rest b d = rw (counts-by s l, a, sym (rooms-by l (s .sizes)), b, d) refl
+    pub check-rest : roomsOk (lengthsOf l) (s .sizes) ≡ true → restOk s l ≡ false → refused 12 0 ≡ checkOf s l
+    check-rest b d = rw (counts-by s l, a, b, d) refl
 
     -- Nothing where all three are answered yes.
-    pub check-good : roomsOk (lengthsNow l) (s .sizes) ≡ true → restOk s l ≡ true → allWell ≡ checkOf s l
-    check-good b d = rw (counts-by s l, a, sym (rooms-by l (s .sizes)), b, d) refl
+    pub check-good : roomsOk (lengthsOf l) (s .sizes) ≡ true → restOk s l ≡ true → allWell ≡ checkOf s l
+    check-good b d = rw (counts-by s l, a, b, d) refl
 
 -- A session that was checked: k is what the check found.
 module _ (s : Session) (l : Rooms) (k : Checked) (h : checkedSays k ≡ checkOf s l) where

@@ -5,6 +5,7 @@ ghost use Rattle.rules.specs.Answers.{askedSays};
 ghost use Rattle.sessions.specs.Tested.{roomsOf};
 ghost use Rattle.calls.specs.AskLaws.{numbersOk};
 ghost use Rattle.calls.specs.Checks.{checkOf, checkedSays};
+use limits::Lent;
 use rules::Asked;
 use rules::Refusal;
 use rules::Session;
@@ -62,13 +63,14 @@ pub fn session_refusal(
     if !sessions::counts_ok(session, moves.len()) {
         return Checked::Refused(Refusal::NotAModel);
     }
-    if !sessions::rooms_ok(
-        sizes,
-        labels.len(),
-        equations.len(),
-        values.len(),
-        marks.len(),
-    ) {
+    let lent = Lent {
+        labels: labels.len(),
+        equations: equations.len(),
+        values: values.len(),
+        marks: marks.len(),
+        moves: moves.len(),
+    };
+    if !limits::rooms_ok(lent, sizes) {
         return Checked::Refused(Refusal::ShortRoom);
     }
     if !sessions::rest_ok(session, labels, equations, values, marks, moves) {

@@ -124,17 +124,20 @@ fn on_equation(x: Progress, o: u8, a: u8, b: u8) -> Judged
     if !limits::operands_ok(z, o, a, b) {
         return Judged::Refused(Refusal::BadNumber);
     }
-    if !limits::names_ok(blocks.equations + blocks.due, o, a, b) {
+    let end = blocks.equations + blocks.due;
+    if !limits::names_ok(end as usize, o, a, b) {
         return Judged::Refused(Refusal::LaterBlock);
     }
+    let due = blocks.due - 1;
+    let equations = blocks.equations + 1;
     Judged::Next(Progress {
         sizes: z,
         labels: x.labels,
         blocks: BlocksRead {
             count: blocks.count,
             kind: blocks.kind,
-            due: blocks.due - 1,
-            equations: blocks.equations + 1,
+            due: due,
+            equations: equations,
         },
         moves: moves,
     })
@@ -147,13 +150,6 @@ fn moves_due(x: Progress) -> bool
     (x.blocks.due == 0) & (x.blocks.count == x.sizes.blocks as u32)
 }
 
-// A move as one number.
-fn packed(m: Move) -> u64
-    ensures { λ r. ⌜ (r ≡ pack (m .source .0) (m .action .0) (m .target .0)) × (r < 8589934592) ⌝ }
-{
-    65536 * (m.source.0 as u64) + 1024 * (m.action.0 as u64) + (m.target.0 as u64)
-}
-
 // A move: due after the last equation; in range; in order; and there is room for it.
 fn on_move(l: Lent, x: Progress, m: Move) -> Judged
     ensures { λ r. ⌜ judgedSays r ≡ go (moveDemands (lengthsBy l) (sofarOf x) (m .source .0) (m .action .0) (m .target .0)) (afterMove (sofarOf x) (pack (m .source .0) (m .action .0) (m .target .0))) ⌝ }
@@ -161,7 +157,7 @@ fn on_move(l: Lent, x: Progress, m: Move) -> Judged
     let z = x.sizes;
     let blocks = x.blocks;
     let count = x.moves.count as usize;
-    let q = packed(m);
+    let q = limits::packed(m);
     if !moves_due(x) {
         return Judged::Refused(Refusal::NotDue);
     }

@@ -3,6 +3,7 @@ ghost use mathlib.Core.Path.{_≡_};
 ghost use Prim.Native.Nat.{_<_};
 ghost use Rattle.rules.specs.Limits.{sizesOk};
 ghost use Rattle.rules.specs.Model.{labelOk, moveOk, operandsOk, namesOk};
+ghost use Rattle.rules.specs.Moves.{pack};
 ghost use Rattle.rules.specs.Rooms.{pairsOf, roomsOk};
 ghost use Rattle.rules.specs.Values.{pair};
 ghost use Rattle.limits.specs.Lent.{lengthsBy};
@@ -77,6 +78,13 @@ pub fn label_ok(z: Sizes, v: u32) -> bool
     32 - u32::leading_zeros(v) <= z.propositions as u32
 }
 
+// A move as one number.
+pub fn packed(m: Move) -> u64
+    ensures { λ r. ⌜ (r ≡ pack (m .source .0) (m .action .0) (m .target .0)) × (r < 8589934592) ⌝ }
+{
+    65536 * (m.source.0 as u64) + 1024 * (m.action.0 as u64) + (m.target.0 as u64)
+}
+
 // Source, action and target lie below their counts.
 pub fn move_ok(z: Sizes, m: Move) -> bool
     ensures { λ r. ⌜ r ≡ moveOk z (m .source .0) (m .action .0) (m .target .0) ⌝ }
@@ -101,14 +109,14 @@ pub fn operands_ok(z: Sizes, o: u8, a: u8, b: u8) -> bool
 }
 
 // The variables that an equation names lie below `end`, the first variable after its block.
-pub fn names_ok(end: u32, o: u8, a: u8, b: u8) -> bool
+pub fn names_ok(end: usize, o: u8, a: u8, b: u8) -> bool
     ensures { λ r. ⌜ r ≡ namesOk end o a b ⌝ }
 {
     if o < 4 {
         return true;
     }
     if o < 6 {
-        return ((a as u32) < end) & ((b as u32) < end);
+        return ((a as usize) < end) & ((b as usize) < end);
     }
-    (b as u32) < end
+    (b as usize) < end
 }

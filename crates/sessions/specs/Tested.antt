@@ -21,13 +21,6 @@ pub counts-by : (s : Session) (l : Rooms) → countsOk s l ≡ countsBy s (lengt
 unfolding countsOk countsBy
 counts-by s l = refl
 
--- 13 does not look at the move room.
-pub rooms-by : (l : Rooms) (z : Sizes)
-    → roomsOk (record { labels = length (l .labels); equations = length (l .equations); values = length (l .values); marks = length (l .marks); moves = 0 }) z
-    ≡ roomsOk (lengthsOf l) z
-unfolding roomsOk
-rooms-by l z = refl
-
 -- The five rooms, and the model that a session holds in three of them.
 abbrev pub roomsOf : List ℕ → List ℕ → List ℕ → List ℕ → List ℕ → Rooms
 roomsOf labels equations values marks moves =

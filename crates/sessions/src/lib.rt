@@ -5,10 +5,7 @@ ghost use Prim.Native.Nat.{_+_, _<_};
 ghost use lib.ListN.{take};
 ghost use lib.Dec.{leb};
 ghost use Rattle.lists.specs.Lists.{all};
-ghost use Rattle.rules.specs.Limits.{sizesOk};
-ghost use Rattle.rules.specs.Moves.{source, action, target};
-ghost use Rattle.rules.specs.Model.{labelOk, moveOk, operandsOk, namesOk, runOf, equationsOk, movesOk, wellFormed};
-ghost use Rattle.rules.specs.Rooms.{pairsOf, roomsOk};
+ghost use Rattle.rules.specs.Model.{labelOk, runOf, equationsOk, movesOk, wellFormed};
 ghost use Rattle.rules.specs.Session.{unword, restOk};
 ghost use Rattle.sessions.specs.Tested.{countsBy, roomsOf, heldIn, goesOn, equationOk};
 ghost use Rattle.sessions.specs.EquationWalk.{equationsFrom};
@@ -23,18 +20,7 @@ pub fn counts_ok(session: Session, room: usize) -> bool
     limits::sizes_ok(sizes) & (session.moves as usize <= table::least(limits::MOST_MOVES, room))
 }
 
-// 13: no room is shorter than the sizes need.
-pub fn rooms_ok(sizes: Sizes, labels: usize, equations: usize, values: usize, marks: usize) -> bool
-    ensures { λ r. ⌜ r ≡ roomsOk (record { labels = labels; equations = equations; values = values; marks = marks; moves = 0 }) sizes ⌝ }
-{
-    let pairs = limits::pairs_of(sizes);
-    (sizes.states as usize <= labels)
-        & (sizes.variables as usize <= equations)
-        & (pairs <= values)
-        & (pairs <= marks)
-}
-
-// Whether each of the first n sets does.
+// Whether the highest proposition of each of the first n sets lies below the count.
 fn labels_ok(sizes: Sizes, labels: &[u32], n: usize) -> bool
     ensures { λ r. ⌜ r ≡ all (labelOk sizes) (take n (now (labels .entry))) ⌝ }
 {
@@ -60,16 +46,6 @@ fn bytes_ok(room: &[u8], n: usize, most: u8) -> bool
     ok
 }
 
-// Whether the numbers of a move lie below their counts.
-pub fn move_ok(sizes: Sizes, q: u32) -> bool
-    ensures { λ r. ⌜ r ≡ moveOk sizes (source q) (action q) (target q) ⌝ }
-{
-    let states = sizes.states as u32;
-    (table::source_of(q) < states)
-        & (table::action_of(q) < sizes.actions as u32)
-        & (table::target_of(q) < states)
-}
-
 // Whether the first n moves are in range and ascend.
 fn moves_ok(sizes: Sizes, moves: &[u32], n: usize) -> bool
     ensures { λ r. ⌜ r ≡ movesOk sizes 0 (take n (now (moves .entry))) ⌝ }
@@ -80,7 +56,7 @@ fn moves_ok(sizes: Sizes, moves: &[u32], n: usize) -> bool
     let mut ok = true;
     while i < end {
         let q = rooms::word_at(moves, i);
-        ok = ok & ((least <= q as u64) & move_ok(sizes, q));
+        ok = ok & ((least <= q as u64) & limits::move_ok(sizes, table::unpacked(q)));
         least = (q as u64) + 1;
         i = i + 1;
     }
@@ -113,48 +89,16 @@ fn goes_on(sizes: Sizes, b: u32, k: u32, w: u32) -> bool
     (block == b) & (b < blocks) & (kind <= 1)
 }
 
-// Whether the operator is known, what it uses lies below its count, and what it does not use is 0.
-pub fn operands_ok(sizes: Sizes, o: u32, a: u32, b: u32) -> bool
-    ensures { λ r. ⌜ r ≡ operandsOk sizes o a b ⌝ }
-{
-    let actions = sizes.actions as u32;
-    let propositions = sizes.propositions as u32;
-    let variables = sizes.variables as u32;
-    if o < 2 {
-        return (a == 0) & (b == 0);
-    }
-    if o < 4 {
-        return (a < propositions) & (b == 0);
-    }
-    if o < 6 {
-        return (a < variables) & (b < variables);
-    }
-    (o < 8) & (a < actions) & (b < variables)
-}
-
-// Whether the variables that an equation names lie below `end`.
-pub fn names_ok(end: usize, o: u32, a: u32, b: u32) -> bool
-    ensures { λ r. ⌜ r ≡ namesOk end o a b ⌝ }
-{
-    let first = a as usize;
-    let second = b as usize;
-    if o < 4 {
-        return true;
-    }
-    if o < 6 {
-        return (first < end) & (second < end);
-    }
-    second < end
-}
-
 // All that is asked of one equation, after b blocks of which the last has kind k.
 fn equation_ok(sizes: Sizes, b: u32, k: u32, end: usize, w: u32) -> bool
     ensures { λ r. ⌜ r ≡ equationOk sizes b k end (unword w) ⌝ }
 {
-    let o = w % 256;
-    let first = w / 256 % 256;
-    let second = w / 256 / 256 % 256;
-    goes_on(sizes, b, k, w) & operands_ok(sizes, o, first, second) & names_ok(end, o, first, second)
+    let o = (w % 256) as u8;
+    let first = (w / 256 % 256) as u8;
+    let second = (w / 256 / 256 % 256) as u8;
+    goes_on(sizes, b, k, w)
+        & limits::operands_ok(sizes, o, first, second)
+        & limits::names_ok(end, o, first, second)
 }
 
 // The first of the n equations, from `from` on, that does not stand in the block with number b - 1.

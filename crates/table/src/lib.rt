@@ -7,6 +7,9 @@ ghost use Rattle.lists.specs.Lists.{elem};
 ghost use Rattle.rules.specs.Moves.{source, action, target, weight, wrap, stampOf};
 ghost use Rattle.table.specs.Ascending.{ascends, below, leading};
 ghost use Rattle.table.specs.OwnMoves.{partOf};
+use rules::Action;
+use rules::Move;
+use rules::State;
 
 // A part of the list: the place of its first move, and the place past its last.
 pub struct Part {
@@ -41,6 +44,20 @@ pub fn target_of(m: u32) -> u32
     ensures { λ r. ⌜ (r ≡ target m) × (r < 1024) ⌝ }
 {
     m % 1024
+}
+
+// A packed move, taken apart.
+pub fn unpacked(m: u32) -> Move
+    ensures { λ r. ⌜ (r .source .0 ≡ source m) × ((r .action .0 ≡ action m) × (r .target .0 ≡ target m)) ⌝ }
+{
+    let from = source_of(m) as u16;
+    let by = action_of(m) as u8;
+    let to = target_of(m) as u16;
+    Move {
+        source: State(from),
+        action: Action(by),
+        target: State(to),
+    }
 }
 
 // What one move adds to the stamp, wrapping.

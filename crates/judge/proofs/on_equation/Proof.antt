@@ -26,8 +26,11 @@ returns-2 c =
     let x = sofarOf (a .x) in
     fails 1 (equationDemands x (a .o) (a .a) (a .b)) (next (inside (afterEquation x))) (c .before .before .if1 .left, rw (c .before .operands-ok .ensures) at (c .if2 .taken))
 
-add-names-ok : tie.Need-add-names-ok
-add-names-ok c = search needs
+add-end : tie.Need-add-end
+add-end c = search needs
+
+cast-names-ok : tie.Need-cast-names-ok
+cast-names-ok c = search needs
 
 names-ok-requires : tie.Need-names-ok-requires
 names-ok-requires c κs = search needs
@@ -38,14 +41,14 @@ returns-3 c =
     let x = sofarOf (a .x) in
     fails 2 (equationDemands x (a .o) (a .a) (a .b)) (next (inside (afterEquation x))) (c .before .before .before .before .before .if1 .left, (rw (c .before .before .before .before .operands-ok .ensures) at (c .before .before .before .if2 .left), rw (c .before .names-ok .ensures) at (c .if3 .taken)))
 
-sub-t12 : tie.Need-sub-t12
-sub-t12 c =
+sub-due : tie.Need-sub-due
+sub-due c =
     let a = c .before .before .before .before .before .before .before .before .before .before .before .args .x .blocks .due in
     let h = ltb-true 0 a (not-false (ltb 0 a) (c .before .before .before .before .before .before .if1 .left)) in
     omega arith
 
-add-t14 : tie.Need-add-t14
-add-t14 c = search needs
+add-equations : tie.Need-add-equations
+add-equations c = search needs
 
 returns-4 : tie.Need-returns-4
 returns-4 c =
@@ -60,9 +63,10 @@ on-equation-spec =
     returns
     operands-ok-requires
     returns-2
-    add-names-ok
+    add-end
+    cast-names-ok
     names-ok-requires
     returns-3
-    sub-t12
-    add-t14
+    sub-due
+    add-equations
     returns-4)

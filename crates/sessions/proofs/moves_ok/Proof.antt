@@ -28,6 +28,9 @@ word-at-requires c κs = search needs
 cast-ok : tie.Need-cast-ok Inv-loop μ-loop
 cast-ok c = search needs
 
+unpacked-requires : tie.Need-unpacked-requires Inv-loop μ-loop
+unpacked-requires c κs = search needs
+
 move-ok-requires : tie.Need-move-ok-requires Inv-loop μ-loop
 move-ok-requires c κs = search needs
 
@@ -44,9 +47,12 @@ loop-less : tie.Need-loop-less Inv-loop μ-loop
 loop-less c = search needs
 
 loop-again : tie.Need-loop-again Inv-loop μ-loop
-loop-again c = let a = c .before .before .before .before .before .before .args in
-    let s = c .before .before .before .loop in
-    moves-turn (a .sizes) (a .moves .now) (a .n) (s .i) (s .least) (c .before .word-at .result) (s .ok) (c .move-ok .result) _ (c .before .word-at .ensures) (c .move-ok .ensures) (omega arith) (s .inv)
+loop-again c =
+    let a = c .before .before .before .before .before .before .before .args in
+    let s = c .before .before .before .before .loop in
+    let w = c .before .before .word-at in
+    let u = c .before .unpacked .ensures in
+    moves-turn (a .sizes) (a .moves .now) (a .n) (s .i) (s .least) (w .result) (s .ok) (c .move-ok .result) _ (w .ensures) (rw (u .0, u .1 .0, u .1 .1) at (c .move-ok .ensures)) (omega arith) (s .inv)
 
 returns : tie.Need-returns Inv-loop μ-loop
 returns c =
@@ -64,6 +70,7 @@ moves-ok-spec =
     loop-holds
     word-at-requires
     cast-ok
+    unpacked-requires
     move-ok-requires
     cast-least
     add-least
