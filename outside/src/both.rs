@@ -48,6 +48,9 @@ pub fn same(call: Call, wanted: &Rooms, found: &Rooms) -> Result<(), String> {
 
 /// The first place where a room is not as wanted.
 fn differs<T: PartialEq + Debug>(name: &str, wanted: &[T], found: &[T]) -> Option<String> {
+    if wanted == found {
+        return None;
+    }
     let at = wanted.iter().zip(found).position(|(w, f)| w != f)?;
     let length = found.len();
     Some(format!(

@@ -19,6 +19,9 @@ pub struct Case {
     pub plan: u64,
 }
 
+/// Up to which product of pairs and moves a model is small.
+const SMALL: usize = 4_096;
+
 /// Runs a case on both sides. Says where they differ first; an error that stops either side is told in the same way.
 pub fn run(boundary: &dyn Boundary, case: &Case, tally: &mut Tally) -> Result<(), String> {
     let ran = catch_unwind(AssertUnwindSafe(|| walk(boundary, case, tally)));
@@ -109,19 +112,24 @@ impl<'a> Run<'a> {
         Ok(accepted)
     }
 
-    /// Damages the rooms in one way, makes the call and looks, and puts the rooms back.
+    /// Damages the rooms in one way or more, makes the call and looks, and puts the rooms back.
     fn aside(&mut self, call: Call) -> Result<(), String> {
         let (rooms, solved) = (self.rooms.clone(), self.solved);
         let needs = match call {
             Call::Load(bytes) => Needs::of_model(bytes),
             _ => Needs::of_session(&self.rooms.session),
         };
-        let way = self.random.pick(&DAMAGES);
-        damage(way, &mut self.rooms, needs, &mut self.random);
+        let mut ways = vec![self.random.pick(&DAMAGES)];
+        while self.random.chance(30) {
+            ways.push(self.random.pick(&DAMAGES));
+        }
+        for way in &ways {
+            damage(*way, &mut self.rooms, needs, &mut self.random);
+        }
         self.solved = false;
         let looked = self.call(call).and_then(|_| self.look());
         (self.rooms, self.solved) = (rooms, solved);
-        looked.map_err(|what| format!("with {way:?} damaged: {what}"))
+        looked.map_err(|what| format!("after {ways:?}: {what}"))
     }
 
     /// Writes the session, loads what was written, and asks about a few pairs.
@@ -131,7 +139,9 @@ impl<'a> Run<'a> {
         self.rooms.out = known_bytes(&mut self.random, length);
         let written = self.call(Call::Write)?;
         if written.is_accepted() {
-            self.reload(written.told as usize)?;
+            if self.reloads() {
+                self.reload(written.told as usize)?;
+            }
             self.write_short(written.told as usize)?;
         }
         for _ in 0..3 {
@@ -149,6 +159,12 @@ impl<'a> Run<'a> {
         let length = self.random.pick(&[length, length - 1, any]);
         self.rooms.out = known_bytes(&mut self.random, length);
         self.call(Call::Write).map(|_| ())
+    }
+
+    /// Whether what was written is to be loaded: always for a small model, now and then for a large one, which takes longer.
+    fn reloads(&mut self) -> bool {
+        let needs = Needs::of_session(&self.rooms.session);
+        needs.pairs * needs.moves <= SMALL || self.random.chance(10)
     }
 
     /// Loads what was written into fresh rooms. Where the values follow from a load, it must give the session back.

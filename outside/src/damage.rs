@@ -147,7 +147,7 @@ fn put_move_count(rooms: &mut Rooms, random: &mut Random) {
         room + 1,
         1_024,
         1_025,
-        count + 1,
+        count.wrapping_add(1),
         count.wrapping_sub(1),
         u32::MAX,
         65_536,

@@ -11,10 +11,14 @@ const LONGEST: usize = 16_000;
 /// Numbers at and around the limits, for single bytes.
 const TELLING: [u8; 16] = [0, 1, 2, 3, 4, 7, 8, 9, 15, 16, 17, 31, 32, 33, 64, 255];
 
-/// Changes a stream in one to four ways, and every other time gives its batches the right stamps again.
+/// Changes a stream in a few ways, more where it is long, and every other time gives its batches the right stamps again.
 pub fn mutate(random: &mut Random, bytes: &[u8], other: &[u8]) -> Vec<u8> {
     let mut changed = bytes.to_vec();
-    for _ in 0..random.between(1, 4) {
+    if random.chance(50) {
+        trim(random, &mut changed);
+    }
+    let most = 3 + changed.len() / 300;
+    for _ in 0..random.between(1, most) {
         mutate_once(random, &mut changed, other);
     }
     changed.truncate(LONGEST);
@@ -22,6 +26,21 @@ pub fn mutate(random: &mut Random, bytes: &[u8], other: &[u8]) -> Vec<u8> {
         mend_stamps(&mut changed);
     }
     changed
+}
+
+/// Leaves the model and a run of at most eight batches.
+fn trim(random: &mut Random, bytes: &mut Vec<u8>) {
+    let (mut ends, mut end) = (Vec::new(), 0);
+    while let Some(length) = cut(&bytes[end..]) {
+        end += length;
+        ends.push(end);
+    }
+    if ends.len() > 2 {
+        let first = random.below(ends.len() - 1);
+        let last = random.between(first + 1, (first + 8).min(ends.len() - 1));
+        bytes.truncate(ends[last]);
+        bytes.drain(ends[0]..ends[first]);
+    }
 }
 
 /// Changes a stream in one way.
@@ -117,7 +136,7 @@ fn drop_one(random: &mut Random, bytes: &mut Vec<u8>) {
 }
 
 /// Changes a record over with the one behind it.
-fn swap(random: &mut Random, bytes: &mut Vec<u8>) {
+fn swap(random: &mut Random, bytes: &mut [u8]) {
     let found = records(bytes);
     if found.len() < 2 {
         return;
