@@ -1,10 +1,10 @@
-//! The generator's streams, one case per seed.
+//! The generator's streams, two cases per seed.
 
 use std::sync::atomic::{AtomicU64, Ordering};
 use std::sync::Mutex;
 use std::thread;
 
-use reference::generate::generate;
+use reference::generate::{generate, generate_family, Family};
 
 use crate::boundary::Boundary;
 use crate::case::{run, Case};
@@ -16,12 +16,13 @@ pub const ENOUGH: u64 = 500;
 /// The seed of a case that differed, with the case and what differed.
 pub type Differed = (u64, Case, String);
 
-/// The case of a seed.
-pub fn case_of(seed: u64) -> Case {
-    Case {
-        bytes: generate(seed).bytes,
+/// The cases of a seed: its stream, and one whose model is refused, so that every refusal of a load comes often.
+pub fn cases_of(seed: u64) -> [Case; 2] {
+    let streams = [generate(seed), generate_family(seed, Family::BadModel)];
+    streams.map(|stream| Case {
+        bytes: stream.bytes,
         plan: seed,
-    }
+    })
 }
 
 /// Runs the cases of so many seeds from a first one on, on all processors. Gives the counts, and the lowest seed among those
@@ -60,10 +61,11 @@ fn work(
             return tally;
         }
         let seed = first.wrapping_add(number);
-        let case = case_of(seed);
-        if let Err(what) = run(boundary, &case, &mut tally) {
-            keep_lowest(&mut differed.lock().unwrap(), (seed, case, what));
-            return tally;
+        for case in cases_of(seed) {
+            if let Err(what) = run(boundary, &case, &mut tally) {
+                keep_lowest(&mut differed.lock().unwrap(), (seed, case, what));
+                return tally;
+            }
         }
     }
 }

@@ -1,7 +1,9 @@
 //! Rooms cut short and sessions damaged, each in one way.
 
 use reference::random::Random;
+use reference::stamp;
 
+use crate::mirror::move_in;
 use crate::rooms::{Needs, Rooms, MOVES, REPORT, SESSION, STAMP};
 
 /// One way to cut a room short or to damage a session.
@@ -34,6 +36,11 @@ pub enum Damage {
     Move,
     /// Two moves changed over, or one twice.
     MoveOrder,
+    /// A byte of an equation that may well leave a model, and a block of the other kind.
+    EquationByte,
+    BlockKind,
+    /// A move one off, a move more or less, with the stamp that belongs to what is there then.
+    Restamped,
     /// Values and marks that are no solution, but in range: not a damage for document 01.
     OtherValues,
     /// Any number at any place of the session.
@@ -43,7 +50,7 @@ pub enum Damage {
 use Damage::*;
 
 /// All ways.
-pub const DAMAGES: [Damage; 20] = [
+pub const DAMAGES: [Damage; 23] = [
     ShortSession,
     ShortReport,
     ShortLabels,
@@ -62,6 +69,9 @@ pub const DAMAGES: [Damage; 20] = [
     Equation,
     Move,
     MoveOrder,
+    EquationByte,
+    BlockKind,
+    Restamped,
     OtherValues,
     AnyNumber,
 ];
@@ -97,6 +107,9 @@ pub fn damage(way: Damage, rooms: &mut Rooms, needs: Needs, random: &mut Random)
         Equation => flip(&mut rooms.equations, needs.equations, random),
         Move => flip(&mut rooms.moves, needs.moves, random),
         MoveOrder => disorder(&mut rooms.moves, needs.moves, random),
+        EquationByte => put_equation_byte(&mut rooms.equations, needs.equations, random),
+        BlockKind => turn_block(&mut rooms.equations, needs.equations, random),
+        Restamped => restamp(rooms, needs.moves, random),
         OtherValues => other_values(rooms, needs.pairs, random),
         AnyNumber => put_any(&mut rooms.session, random),
     }
@@ -185,6 +198,56 @@ fn disorder(moves: &mut [u32], used: usize, random: &mut Random) {
         moves.swap(at, other);
     } else {
         moves[at] = moves[other];
+    }
+}
+
+/// Puts a small number, or the next equation's byte, at one byte of an equation.
+fn put_equation_byte(equations: &mut [u32], used: usize, random: &mut Random) {
+    let Some(at) = place(equations, used, random) else {
+        return;
+    };
+    let next = equations[(at + 1) % used.min(equations.len())].to_le_bytes();
+    let mut bytes = equations[at].to_le_bytes();
+    let which = random.below(4);
+    let small = random.byte() & 7;
+    bytes[which] = random.pick(&[next[which], small, bytes[which] ^ 1]);
+    equations[at] = u32::from_le_bytes(bytes);
+}
+
+/// Gives one block the other kind.
+fn turn_block(equations: &mut [u32], used: usize, random: &mut Random) {
+    let Some(at) = place(equations, used, random) else {
+        return;
+    };
+    let block = equations[at] >> 25;
+    for word in equations.iter_mut().take(used) {
+        if *word >> 25 == block {
+            *word ^= 1 << 24;
+        }
+    }
+}
+
+/// Changes a move or the move count by one, or the order of two moves, and puts the stamp of what is there then.
+fn restamp(rooms: &mut Rooms, used: usize, random: &mut Random) {
+    let step = random.pick(&[1, 1 << 10, 1 << 16]);
+    match (random.below(4), place(&rooms.moves, used, random)) {
+        (0, Some(at)) => rooms.moves[at] = rooms.moves[at].wrapping_add(step),
+        (1, Some(at)) => rooms.moves[at] = rooms.moves[at].wrapping_sub(step),
+        (2, _) => disorder(&mut rooms.moves, used, random),
+        _ => add(&mut rooms.session, MOVES, &[1, u32::MAX], random),
+    }
+    put_stamp(rooms);
+}
+
+/// Puts the stamp of the moves that the session counts.
+fn put_stamp(rooms: &mut Rooms) {
+    let Some(&count) = rooms.session.get(MOVES) else {
+        return;
+    };
+    let table = rooms.moves.iter().take(count as usize);
+    let table: Vec<_> = table.map(|word| move_in(*word)).collect();
+    if let Some(kept) = rooms.session.get_mut(STAMP) {
+        *kept = stamp(&table);
     }
 }
 

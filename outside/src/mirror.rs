@@ -157,7 +157,7 @@ fn equation_in(word: u32) -> Equation {
 }
 
 /// The move that a word is.
-fn move_in(word: u32) -> Move {
+pub fn move_in(word: u32) -> Move {
     let (source, action, target) = (word >> 16, word >> 10 & 63, word & 1_023);
     Move::new(source as u16, action as u8, target as u16)
 }

@@ -6,7 +6,7 @@ use reference::random::Random;
 use crate::both::both;
 use crate::boundary::{Answer, Boundary, Call};
 use crate::case::{run, Case};
-use crate::compare::{case_of, compare};
+use crate::compare::{cases_of, compare};
 use crate::damage::{damage, Damage};
 use crate::mirror::Mirrored;
 use crate::proved::Proved;
@@ -189,7 +189,7 @@ fn what_is_wrong_is_found() {
 #[test]
 fn a_case_is_the_same_each_time() {
     let (mut first, mut again) = (Tally::default(), Tally::default());
-    let case = case_of(12);
+    let [case, _] = cases_of(12);
     run(&Proved, &case, &mut first).unwrap();
     run(&Proved, &case, &mut again).unwrap();
     assert_eq!((first.counts, first.signs), (again.counts, again.signs));
