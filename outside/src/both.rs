@@ -7,17 +7,14 @@ use crate::mirror::Mirrored;
 use crate::rooms::Rooms;
 
 /// Makes a call on the rooms through the boundary, and the same call by the second program on a copy. Gives the answer, or
-/// says where the two differ: in the answer, or at a place of any room.
+/// says where the two differ: in the answer, or at a place of any room. The second program's side touches nothing before it
+/// knows that a call is accepted, so a refusal that changes a room is a difference too.
 pub fn both(boundary: &dyn Boundary, call: Call, rooms: &mut Rooms) -> Result<Answer, String> {
-    let before = rooms.clone();
     let mut wanted = rooms.clone();
     let due = Mirrored.call(call, &mut wanted);
     let found = boundary.call(call, rooms);
     agree(call, due, found)?;
     same(call, &wanted, rooms)?;
-    if !found.is_accepted() {
-        same(call, &before, rooms).map_err(|what| format!("a refusal changed a room: {what}"))?;
-    }
     Ok(found)
 }
 

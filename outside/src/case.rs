@@ -82,7 +82,8 @@ impl<'a> Run<'a> {
         Ok(answer)
     }
 
-    /// Hands one part over and looks at what is there then. Before that it may be tried on damaged rooms.
+    /// Hands one part over and looks at what is there then; after a refusal, which has left everything alone, only now and
+    /// then. Before that it may be tried on damaged rooms.
     fn part(&mut self, is_model: bool, part: &[u8]) -> Result<bool, String> {
         let call = if is_model {
             Call::Load(part)
@@ -108,7 +109,9 @@ impl<'a> Run<'a> {
             );
             self.solved = false;
         }
-        self.look()?;
+        if accepted || self.random.chance(20) {
+            self.look()?;
+        }
         Ok(accepted)
     }
 

@@ -126,59 +126,61 @@ fn keep_freed(_: Call, _: &mut Answer, before: &Rooms, rooms: &mut Rooms) {
     }
 }
 
+/// Wrong things, each with its name.
+const WRONGS: [(&str, Fault); 9] = [
+    ("a stamp off by one", |_, answer, _, rooms| {
+        touch(
+            &mut rooms.session,
+            if answer.number == 0 { STAMP } else { 99 },
+        )
+    }),
+    (
+        "a place past the last move of a load",
+        |call, _, _, rooms| {
+            let at = rooms.session.get(MOVES).map_or(0, |count| *count as usize);
+            touch(
+                &mut rooms.moves,
+                if call.index() == 0 { at } else { usize::MAX },
+            )
+        },
+    ),
+    ("a value past the pairs", |_, _, _, rooms| {
+        let at = Needs::of_session(&rooms.session).pairs;
+        touch(&mut rooms.values, at)
+    }),
+    ("a refusal's place", |_, answer, _, _| {
+        answer.told += u32::from(answer.number == 4)
+    }),
+    ("the report of a refusal", |_, answer, _, rooms| {
+        touch(&mut rooms.report, if answer.number == 11 { 0 } else { 99 })
+    }),
+    ("a visit too many", |call, answer, _, rooms| {
+        let batched = call.index() == 1 && answer.number == 0;
+        touch(&mut rooms.report, if batched { 1 } else { 99 })
+    }),
+    ("marks left as they were", |call, _, before, rooms| {
+        if call.index() == 1 {
+            rooms.marks.clone_from(&before.marks);
+        }
+    }),
+    ("freed places left as they were", keep_freed),
+    ("a byte past what was written", |call, answer, _, rooms| {
+        let wrote = call.index() == 2 && answer.number == 0;
+        touch(
+            &mut rooms.out,
+            if wrote {
+                answer.told as usize
+            } else {
+                usize::MAX
+            },
+        )
+    }),
+];
+
 /// Each wrong thing is found within a few streams.
 #[test]
 fn what_is_wrong_is_found() {
-    let wrongs: [(&str, Fault); 9] = [
-        ("a stamp off by one", |_, answer, _, rooms| {
-            touch(
-                &mut rooms.session,
-                if answer.number == 0 { STAMP } else { 99 },
-            )
-        }),
-        (
-            "a place past the last move of a load",
-            |call, _, _, rooms| {
-                let at = rooms.session.get(MOVES).map_or(0, |count| *count as usize);
-                touch(
-                    &mut rooms.moves,
-                    if call.index() == 0 { at } else { usize::MAX },
-                )
-            },
-        ),
-        ("a value past the pairs", |_, _, _, rooms| {
-            let at = Needs::of_session(&rooms.session).pairs;
-            touch(&mut rooms.values, at)
-        }),
-        ("a refusal's place", |_, answer, _, _| {
-            answer.told += u32::from(answer.number == 4)
-        }),
-        ("the report of a refusal", |_, answer, _, rooms| {
-            touch(&mut rooms.report, if answer.number == 11 { 0 } else { 99 })
-        }),
-        ("a visit too many", |call, answer, _, rooms| {
-            let batched = call.index() == 1 && answer.number == 0;
-            touch(&mut rooms.report, if batched { 1 } else { 99 })
-        }),
-        ("marks left as they were", |call, _, before, rooms| {
-            if call.index() == 1 {
-                rooms.marks.clone_from(&before.marks);
-            }
-        }),
-        ("freed places left as they were", keep_freed),
-        ("a byte past what was written", |call, answer, _, rooms| {
-            let wrote = call.index() == 2 && answer.number == 0;
-            touch(
-                &mut rooms.out,
-                if wrote {
-                    answer.told as usize
-                } else {
-                    usize::MAX
-                },
-            )
-        }),
-    ];
-    for (name, wrong) in wrongs {
+    for (name, wrong) in WRONGS {
         let (_, differed) = compare(&Wrong(wrong), 60, 0);
         let (_, _, what) = differed.unwrap_or_else(|| panic!("{name} passed"));
         assert!(!what.contains("stopped"), "{name}: {what}");
@@ -206,5 +208,25 @@ fn streams_of_nothing() {
             };
             run(&Proved, &case, &mut Tally::default()).unwrap();
         }
+    }
+}
+
+/// Damage that may leave a model does so now and then, and is refused with 12 now and then.
+#[test]
+fn some_damage_leaves_a_model() {
+    use Damage::*;
+    for way in [EquationByte, Restamped, Size] {
+        let mut numbers = std::collections::BTreeSet::new();
+        for seed in 0..400 {
+            let mut rooms = after_a(&Proved);
+            rooms.out = vec![0; 99];
+            let needs = Needs::of_session(&rooms.session);
+            damage(way, &mut rooms, needs, &mut Random::new(seed));
+            numbers.insert(both(&Proved, Call::Write, &mut rooms).unwrap().number);
+        }
+        assert!(
+            numbers.contains(&0) && numbers.contains(&12),
+            "{way:?}: {numbers:?}"
+        );
     }
 }
