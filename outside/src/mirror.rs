@@ -63,19 +63,16 @@ fn write(rooms: &mut Rooms) -> Result<u32, Refusal> {
     reference::write(&session, &mut rooms.out).map(|written| written as u32)
 }
 
-/// Ask. No room but that of the values is lent, so the others are as long as they need to be, and no move count is asked.
+/// Ask. No room but that of the values is lent, so the others are as long as any model needs, and no move count is asked.
 fn ask(rooms: &Rooms, state: State, variable: Variable) -> Result<u32, Refusal> {
     let sizes = sizes_in(&rooms.session);
     let session = Session {
         sizes,
         values: by_states(&rooms.values, sizes),
-        marks: vec![0; sizes.pairs()],
         ..Session::new(reference::Rooms {
-            labels: usize::from(sizes.states),
-            equations: usize::from(sizes.variables),
             values: 0,
-            marks: 0,
             moves: 0,
+            ..reference::Rooms::most()
         })
     };
     ask_value(&session, state, variable).map(u32::from)
