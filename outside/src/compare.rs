@@ -46,7 +46,8 @@ pub fn compare(
     (total.into_inner().unwrap(), differed.into_inner().unwrap())
 }
 
-/// Takes seed after seed until none is left or one has differed.
+/// Takes seed after seed until none is left or one has differed. A seed once taken is run to its end, so that the lowest that
+/// differs is always found.
 fn work(
     boundary: &(dyn Boundary + Sync),
     count: u64,
@@ -55,19 +56,20 @@ fn work(
     differed: &Mutex<Option<Differed>>,
 ) -> Tally {
     let mut tally = Tally::default();
-    loop {
+    while differed.lock().unwrap().is_none() {
         let number = next.fetch_add(1, Ordering::Relaxed);
-        if number >= count || differed.lock().unwrap().is_some() {
-            return tally;
+        if number >= count {
+            break;
         }
         let seed = first.wrapping_add(number);
         for case in cases_of(seed) {
             if let Err(what) = run(boundary, &case, &mut tally) {
                 keep_lowest(&mut differed.lock().unwrap(), (seed, case, what));
-                return tally;
+                break;
             }
         }
     }
+    tally
 }
 
 /// Keeps the difference of the lower seed.
