@@ -13,7 +13,8 @@
 //! assert_eq!(checker.load(&[9]).unwrap_err().number, 1);
 //! ```
 
-mod ffi;
+/// The four calls over slices of any length, for callers that keep rooms of their own.
+pub mod ffi;
 
 /// A state, by its number.
 #[derive(Clone, Copy, Debug, PartialEq, Eq)]

@@ -1,0 +1,107 @@
+//! A mutating run: cases that give a sort of call not seen before are kept and changed further.
+
+use std::time::{Duration, Instant};
+
+use reference::generate::{generate, generate_family, Family};
+use reference::random::Random;
+
+use crate::boundary::Boundary;
+use crate::case::{run, Case};
+use crate::mutate::mutate;
+use crate::tally::Tally;
+
+/// How many cases the corpus begins with, and the most that it holds.
+const FIRST: u64 = 200;
+const MOST: usize = 20_000;
+
+/// The longest stream that the corpus begins with.
+const LONGEST: usize = 16_000;
+
+/// What a run came to.
+pub struct Found {
+    pub tally: Tally,
+    pub cases: u64,
+    pub corpus: usize,
+    pub taken: Duration,
+    /// The case that differed, and what differed.
+    pub differed: Option<(Case, String)>,
+}
+
+/// The cases that a run begins with: good and bad streams, mostly small ones, and the bench cases of document 01.
+fn corpus(seed: u64) -> Vec<Case> {
+    use Family::{BadModel, Chain, Damaged, Small, Tiny};
+    let mut cases = bench_cases();
+    for number in 0..FIRST {
+        let family = [Tiny, Small, Chain, BadModel, Damaged][number as usize % 5];
+        let seed = seed.wrapping_mul(1_000_003).wrapping_add(number);
+        let stream = match number % 4 {
+            0 => generate(seed),
+            _ => generate_family(seed, family),
+        };
+        let mut bytes = stream.bytes;
+        bytes.truncate(LONGEST);
+        cases.push(Case { bytes, plan: seed });
+    }
+    cases
+}
+
+/// Model G of document 01 with batches A, B and C, and the model of case E with its batch.
+fn bench_cases() -> Vec<Case> {
+    let g = [1, 2, 0, 1, 0, 1, 1, 3, 1, 1, 4, 6, 0, 0, 6];
+    let a = [7, 0, 0, 0, 0, 8, 0, 0, 0, 0, 0, 6];
+    let b = [7, 1, 0, 0, 0, 8, 1, 0, 0, 0, 0, 6];
+    let c = [7, 3, 0, 1, 0, 9, 0, 0, 0, 0, 0, 6];
+    let e = [
+        1, 2, 0, 1, 1, 3, 1, 2, 1, 0, 1, 0, 0, 0, 3, 0, 3, 4, 4, 1, 2, 4, 2, 0, 0, 4, 6, 0, 0, 5,
+        0, 0, 0, 0, 0, 5, 0, 0, 0, 1, 0, 6,
+    ];
+    let f = [7, 3, 1, 0, 0, 9, 0, 0, 0, 1, 0, 6];
+    let case = |parts: &[&[u8]]| Case {
+        bytes: parts.concat(),
+        plan: 0,
+    };
+    vec![case(&[&g, &a, &b, &c]), case(&[&e, &f])]
+}
+
+/// A changed copy of one of the cases: another stream, another plan, or both.
+fn change(random: &mut Random, cases: &[Case]) -> Case {
+    let one = &cases[random.below(cases.len())];
+    let other = &cases[random.below(cases.len())];
+    let mut changed = one.clone();
+    let which = random.below(10);
+    if which < 8 {
+        changed.bytes = mutate(random, &one.bytes, &other.bytes);
+    }
+    if which > 3 {
+        changed.plan = random.bits();
+    }
+    changed
+}
+
+/// Runs changed cases until the time is over or one differs.
+pub fn fuzz(boundary: &dyn Boundary, time: Duration, seed: u64) -> Found {
+    let start = Instant::now();
+    let mut random = Random::new(seed);
+    let mut found = Found {
+        tally: Tally::default(),
+        cases: 0,
+        corpus: 0,
+        taken: Duration::ZERO,
+        differed: None,
+    };
+    let mut cases = corpus(seed);
+    let mut waiting = cases.clone();
+    while start.elapsed() < time && found.differed.is_none() {
+        let case = waiting.pop().unwrap_or_else(|| change(&mut random, &cases));
+        found.tally.fresh = 0;
+        found.cases += 1;
+        if let Err(what) = run(boundary, &case, &mut found.tally) {
+            found.differed = Some((case, what));
+        } else if found.tally.fresh > 0 && cases.len() < MOST {
+            cases.push(case);
+        }
+    }
+    found.corpus = cases.len();
+    found.taken = start.elapsed();
+    found
+}

@@ -1,0 +1,230 @@
+//! The second program behind the same four calls. The rooms are read into its own session, it makes the call, and what it
+//! left is put into those places of the rooms that document 01 says are written. It never sees any other place.
+
+use reference::limits::MOST_BLOCKS;
+use reference::{ask_value, Block, Equation, Move, Refusal, Session, Sizes, State, Variable};
+
+use crate::boundary::{Answer, Boundary, Call};
+use crate::rooms::{Rooms, MOVES, REPORT, SESSION, STAMP};
+
+/// The second program.
+pub struct Mirrored;
+
+impl Boundary for Mirrored {
+    fn call(&self, call: Call, rooms: &mut Rooms) -> Answer {
+        if rooms.session.len() < SESSION {
+            return Answer::refused(13, 0);
+        }
+        let answer = match call {
+            Call::Load(bytes) => load(rooms, bytes),
+            Call::Batch(bytes) => batch(rooms, bytes),
+            Call::Write => write(rooms),
+            Call::Ask(state, variable) => ask(rooms, State(state), Variable(variable)),
+        };
+        answer.map_or_else(refused, Answer::accepted)
+    }
+}
+
+/// A refusal as an answer.
+fn refused(refusal: Refusal) -> Answer {
+    Answer::refused(u32::from(refusal.number), refusal.place as u32)
+}
+
+/// Load, into a session whose rooms are as long as those lent. What they held does not matter.
+fn load(rooms: &mut Rooms, bytes: &[u8]) -> Result<u32, Refusal> {
+    let mut session = Session::new(lengths(rooms));
+    reference::load(&mut session, bytes)?;
+    put_model(&session, rooms);
+    put_table(&session, rooms);
+    Ok(0)
+}
+
+/// Batch. Places that the move list frees at its end become 0.
+fn batch(rooms: &mut Rooms, bytes: &[u8]) -> Result<u32, Refusal> {
+    if rooms.report.len() < REPORT {
+        return reference::refusal::refuse(13, 0);
+    }
+    let mut session = session_in(rooms);
+    let before = session.move_count;
+    let updated = reference::batch(&mut session, bytes)?;
+    put_table(&session, rooms);
+    if session.move_count < before {
+        rooms.moves[session.move_count..before].fill(0);
+    }
+    rooms.report[0] = updated.shift_visits as i64;
+    rooms.report[1] = updated.settle_visits as i64;
+    rooms.report[2] = updated.net;
+    Ok(0)
+}
+
+/// Write. The answer tells the number of bytes.
+fn write(rooms: &mut Rooms) -> Result<u32, Refusal> {
+    let session = session_in(rooms);
+    reference::write(&session, &mut rooms.out).map(|written| written as u32)
+}
+
+/// Ask. No room but that of the values is lent, so the others are as long as any model needs, and no move count is asked.
+fn ask(rooms: &Rooms, state: State, variable: Variable) -> Result<u32, Refusal> {
+    let sizes = sizes_in(&rooms.session);
+    let session = Session {
+        sizes,
+        values: by_states(&rooms.values, sizes),
+        ..Session::new(reference::Rooms {
+            values: 0,
+            moves: 0,
+            ..reference::Rooms::most()
+        })
+    };
+    ask_value(&session, state, variable).map(u32::from)
+}
+
+/// How long the rooms lent are.
+fn lengths(rooms: &Rooms) -> reference::Rooms {
+    reference::Rooms {
+        labels: rooms.labels.len(),
+        equations: rooms.equations.len(),
+        values: rooms.values.len(),
+        marks: rooms.marks.len(),
+        moves: rooms.moves.len(),
+    }
+}
+
+/// The sizes of a session. A number too large for its kind becomes the largest of it, which is outside its limits too.
+pub fn sizes_in(session: &[u32]) -> Sizes {
+    let byte = |at: usize| u8::try_from(session[at]).unwrap_or(u8::MAX);
+    Sizes {
+        states: u16::try_from(session[0]).unwrap_or(u16::MAX),
+        actions: byte(1),
+        propositions: byte(2),
+        variables: byte(3),
+        blocks: byte(4),
+    }
+}
+
+/// The session that lies in the rooms, good or not.
+fn session_in(rooms: &Rooms) -> Session {
+    let sizes = sizes_in(&rooms.session);
+    let counted = usize::from(sizes.variables).min(rooms.equations.len());
+    Session {
+        sizes,
+        blocks: blocks_in(&rooms.equations[..counted], usize::from(sizes.blocks)),
+        labels: rooms.labels.clone(),
+        equations: rooms.equations.iter().map(|w| equation_in(*w)).collect(),
+        moves: rooms.moves.iter().map(|w| move_in(*w)).collect(),
+        move_count: rooms.session[MOVES] as usize,
+        values: by_states(&rooms.values, sizes),
+        marks: by_states(&rooms.marks, sizes),
+        stamp: Some(rooms.session[STAMP]),
+    }
+}
+
+/// The blocks that stand in the top bytes of the equations. Where they are not numbered one by one from 0 up to their count,
+/// or one changes its kind, the blocks given are of no variables, which no model has.
+fn blocks_in(words: &[u32], blocks: usize) -> [Block; MOST_BLOCKS as usize] {
+    let none = [Block::default(); MOST_BLOCKS as usize];
+    let mut found = none;
+    let (mut count, mut last) = (0, None);
+    for word in words {
+        let top = word >> 24;
+        if last != Some(top) {
+            if count == found.len() || top >> 1 != count as u32 {
+                return none;
+            }
+            found[count].kind = (top & 1) as u8;
+            count += 1;
+            last = Some(top);
+        }
+        found[count - 1].variables += 1;
+    }
+    if count == blocks {
+        found
+    } else {
+        none
+    }
+}
+
+/// The equation that a word is, without its block.
+fn equation_in(word: u32) -> Equation {
+    let [operator, first, second, _] = word.to_le_bytes();
+    Equation {
+        operator,
+        first,
+        second,
+    }
+}
+
+/// The move that a word is.
+pub fn move_in(word: u32) -> Move {
+    let (source, action, target) = (word >> 16, word >> 10 & 63, word & 1_023);
+    Move::new(source as u16, action as u8, target as u16)
+}
+
+/// A word per pair of the boundary's order, variable by variable, in the second program's order, state by state. Where the
+/// room is shorter than the sizes need, no order is asked.
+fn by_states(room: &[u8], sizes: Sizes) -> Vec<u8> {
+    let mut ordered = room.to_vec();
+    if sizes.in_table() && sizes.pairs() <= room.len() {
+        for (pair, place) in pairs(sizes) {
+            ordered[pair] = room[place];
+        }
+    }
+    ordered
+}
+
+/// Each pair's place in the second program's order and in the boundary's.
+fn pairs(sizes: Sizes) -> impl Iterator<Item = (usize, usize)> {
+    let states = usize::from(sizes.states);
+    (0..sizes.states).flat_map(move |state| {
+        (0..sizes.variables).map(move |variable| {
+            let pair = sizes.pair(State(state), Variable(variable));
+            (pair, usize::from(variable) * states + usize::from(state))
+        })
+    })
+}
+
+/// Puts the labels and the equations of a loaded session into the rooms.
+fn put_model(session: &Session, rooms: &mut Rooms) {
+    let (states, sizes) = (usize::from(session.sizes.states), session.sizes);
+    rooms.labels[..states].copy_from_slice(&session.labels[..states]);
+    let mut at = 0;
+    for (number, block) in session.blocks[..usize::from(sizes.blocks)]
+        .iter()
+        .enumerate()
+    {
+        for _ in 0..block.variables {
+            let Equation {
+                operator,
+                first,
+                second,
+            } = session.equations[at];
+            let top = 2 * number as u8 + block.kind;
+            rooms.equations[at] = u32::from_le_bytes([operator, first, second, top]);
+            at += 1;
+        }
+    }
+}
+
+/// Puts the values, the marks, the moves and the numbers of a session into the rooms.
+fn put_table(session: &Session, rooms: &mut Rooms) {
+    for (pair, place) in pairs(session.sizes) {
+        rooms.values[place] = session.values[pair];
+        rooms.marks[place] = session.marks[pair];
+    }
+    for (place, m) in rooms.moves.iter_mut().zip(session.table()) {
+        let (source, action) = (u32::from(m.source.0), u32::from(m.action.0));
+        *place = 65_536 * source + 1_024 * action + u32::from(m.target.0);
+    }
+    let sizes = session.sizes;
+    let small = [
+        sizes.actions,
+        sizes.propositions,
+        sizes.variables,
+        sizes.blocks,
+    ];
+    rooms.session[0] = u32::from(sizes.states);
+    for (place, number) in rooms.session[1..].iter_mut().zip(small) {
+        *place = u32::from(number);
+    }
+    rooms.session[MOVES] = session.move_count as u32;
+    rooms.session[STAMP] = session.stamp.unwrap_or(0);
+}

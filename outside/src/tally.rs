@@ -1,0 +1,133 @@
+//! How often each answer came, and which coarse sorts of calls were seen.
+
+use std::collections::HashSet;
+
+use crate::boundary::{Answer, Call, CALLS, NAMES};
+use crate::rooms::{Needs, Rooms, REPORT};
+
+/// How many numbers an answer has: 0 for accepted, and 13 refusals.
+const NUMBERS: usize = 14;
+
+/// The numbers that each call can answer with.
+const DUE: [&[usize]; CALLS] = [
+    &[0, 1, 2, 3, 4, 5, 6, 10, 13],
+    &[0, 1, 2, 3, 4, 7, 8, 9, 10, 11, 12, 13],
+    &[0, 12, 13],
+    &[0, 4, 12, 13],
+];
+
+/// A coarse sort of calls: the call, its number, and the magnitudes of its place, its sizes and its report.
+pub type Sign = [u8; 9];
+
+/// Counts of answers, by call and number, and the sorts of calls seen.
+#[derive(Clone, Debug, Default)]
+pub struct Tally {
+    pub counts: [[u64; NUMBERS]; CALLS],
+    /// How many questions were answered false and true.
+    pub truths: [u64; 2],
+    pub signs: HashSet<Sign>,
+    /// How many sorts were new since this was last set to 0.
+    pub fresh: usize,
+}
+
+/// The number of binary digits.
+fn magnitude(number: usize) -> u8 {
+    (usize::BITS - number.leading_zeros()) as u8
+}
+
+/// The sort of a call, by its answer and the rooms after it.
+fn sign(call: Call, answer: Answer, rooms: &Rooms) -> Sign {
+    let needs = Needs::of_session(&rooms.session);
+    let reported = matches!(call, Call::Batch(_)) && answer.is_accepted();
+    let visits = |at: usize| match reported && rooms.report.len() >= REPORT {
+        true => magnitude(rooms.report[at] as usize),
+        false => 0,
+    };
+    let net = if reported {
+        rooms.report[2].signum()
+    } else {
+        0
+    };
+    [
+        call.index() as u8,
+        answer.number as u8,
+        magnitude(answer.told as usize),
+        magnitude(needs.labels),
+        magnitude(needs.equations),
+        magnitude(needs.moves),
+        visits(0),
+        visits(1),
+        (net + 1) as u8,
+    ]
+}
+
+impl Tally {
+    /// Counts one answered call.
+    pub fn add(&mut self, call: Call, answer: Answer, rooms: &Rooms) {
+        let number = (answer.number as usize).min(NUMBERS - 1);
+        self.counts[call.index()][number] += 1;
+        if matches!(call, Call::Ask(..)) && answer.is_accepted() {
+            self.truths[usize::from(answer.told == 1)] += 1;
+        }
+        self.fresh += usize::from(self.signs.insert(sign(call, answer, rooms)));
+    }
+
+    /// Adds another's counts.
+    pub fn join(&mut self, other: Tally) {
+        for (mine, theirs) in self
+            .counts
+            .iter_mut()
+            .flatten()
+            .zip(other.counts.iter().flatten())
+        {
+            *mine += theirs;
+        }
+        for (mine, theirs) in self.truths.iter_mut().zip(other.truths) {
+            *mine += theirs;
+        }
+        self.signs.extend(other.signs);
+    }
+
+    /// How many calls were made.
+    pub fn calls(&self) -> u64 {
+        self.counts.iter().flatten().sum()
+    }
+
+    /// How many calls were answered with a number.
+    fn answered(&self, number: usize) -> u64 {
+        self.counts.iter().map(|counts| counts[number]).sum()
+    }
+
+    /// The calls, how many were accepted, and how many refused by number, in one line.
+    pub fn line(&self) -> String {
+        let refused: Vec<String> = (1..NUMBERS)
+            .map(|number| format!("{number}: {}", self.answered(number)))
+            .collect();
+        let made =
+            |call: usize| format!("{} {}", self.counts[call].iter().sum::<u64>(), NAMES[call]);
+        let made: Vec<String> = (0..CALLS).map(made).collect();
+        format!(
+            "{} calls ({}), accepted {}, refused {}",
+            self.calls(),
+            made.join(", "),
+            self.answered(0),
+            refused.join(", ")
+        )
+    }
+
+    /// Whether each call gave every answer that it can give; else which is missing.
+    pub fn complete(&self) -> Result<(), String> {
+        for (call, numbers) in DUE.iter().enumerate() {
+            for number in *numbers {
+                if self.counts[call][*number] == 0 {
+                    return Err(format!("{} never answered {number}", NAMES[call]));
+                }
+            }
+        }
+        match self.truths {
+            [0, _] => Err("ask never told false".into()),
+            [_, 0] => Err("ask never told true".into()),
+            _ => Ok(()),
+        }
+    }
+}

@@ -1,0 +1,232 @@
+//! The two sides agree on document 01's bench cases, each damage is met with its number, and a boundary that is wrong in one
+//! place is found out.
+
+use reference::random::Random;
+
+use crate::both::both;
+use crate::boundary::{Answer, Boundary, Call};
+use crate::case::{run, Case};
+use crate::compare::{cases_of, compare};
+use crate::damage::{damage, Damage};
+use crate::mirror::Mirrored;
+use crate::proved::Proved;
+use crate::rooms::{Needs, Rooms, MOVES, STAMP};
+use crate::tally::Tally;
+
+/// Model G of document 01, and its batches A and C.
+const G: [u8; 15] = [1, 2, 0, 1, 0, 1, 1, 3, 1, 1, 4, 6, 0, 0, 6];
+const A: [u8; 12] = [7, 0, 0, 0, 0, 8, 0, 0, 0, 0, 0, 6];
+const AGAIN: [u8; 12] = [7, 1, 0, 0, 0, 8, 0, 0, 0, 0, 0, 6];
+const BACK: [u8; 12] = [7, 1, 0, 0, 0, 9, 0, 0, 0, 0, 0, 6];
+
+/// Rooms for G, longer than needed, with G loaded and A applied by a boundary.
+fn after_a(boundary: &dyn Boundary) -> Rooms {
+    let mut rooms = Rooms::lend(&mut Random::new(1), Needs::of_model(&G));
+    rooms.moves.resize(1_030, 0xfafa_fafa);
+    assert_eq!(boundary.call(Call::Load(&G), &mut rooms).number, 0);
+    assert_eq!(boundary.call(Call::Batch(&A), &mut rooms).number, 0);
+    rooms
+}
+
+/// Both sides leave what document 01 says of A, and the same refusals follow.
+#[test]
+fn both_sides_do_a() {
+    for side in [&Proved as &dyn Boundary, &Mirrored] {
+        let mut rooms = after_a(side);
+        assert_eq!(rooms.session[..7], [2, 1, 0, 1, 1, 1, 1]);
+        assert_eq!(
+            (&rooms.values[..2], &rooms.marks[..2]),
+            (&[1, 0][..], &[1, 0][..])
+        );
+        assert_eq!(rooms.report[..3], [1, 0, 1]);
+        assert_eq!(rooms.moves[0], 0);
+        let seven = side.call(Call::Batch(&AGAIN), &mut rooms);
+        assert_eq!(seven, Answer::refused(7, 5));
+        assert_eq!(side.call(Call::Ask(0, 0), &mut rooms), Answer::accepted(1));
+        assert_eq!(
+            side.call(Call::Ask(2, 0), &mut rooms),
+            Answer::refused(4, 0)
+        );
+    }
+}
+
+/// Each way to damage a session or to cut a room short is met with its number by both sides.
+#[test]
+fn each_damage_has_its_number() {
+    use Damage::*;
+    let ways = [
+        (ShortSession, 13),
+        (ShortReport, 13),
+        (ShortLabels, 13),
+        (ShortEquations, 13),
+        (ShortValues, 13),
+        (ShortMarks, 13),
+        (ShortMoves, 12),
+        (Stamp, 12),
+        (Label, 12),
+        (OtherValues, 0),
+    ];
+    for (way, number) in ways {
+        let mut rooms = after_a(&Proved);
+        let needs = Needs::of_session(&rooms.session);
+        damage(way, &mut rooms, needs, &mut Random::new(5));
+        let answer = both(&Proved, Call::Batch(&BACK), &mut rooms).unwrap();
+        assert_eq!((answer.number, answer.told), (number, 0), "{way:?}");
+    }
+}
+
+/// A value 2, a mark 4, a move count over the room and sizes out of range are 12.
+#[test]
+fn numbers_out_of_range_are_12() {
+    let damages: [fn(&mut Rooms); 7] = [
+        |rooms| rooms.values[1] = 2,
+        |rooms| rooms.marks[0] = 4,
+        |rooms| rooms.session[MOVES] = 1_025,
+        |rooms| rooms.session[STAMP] += 1,
+        |rooms| rooms.session[0] = 257,
+        |rooms| rooms.session[0] += 65_536,
+        |rooms| rooms.session[3] += 256,
+    ];
+    for damaged in damages {
+        let mut rooms = after_a(&Proved);
+        damaged(&mut rooms);
+        for call in [Call::Batch(&BACK), Call::Write] {
+            assert_eq!(both(&Proved, call, &mut rooms), Ok(Answer::refused(12, 0)));
+        }
+    }
+}
+
+/// One wrong thing, done to an answer and the rooms after a call; the rooms before it are at hand.
+type Fault = fn(Call, &mut Answer, &Rooms, &mut Rooms);
+
+/// A boundary that makes the proved call and then does one thing wrong.
+struct Wrong(Fault);
+
+impl Boundary for Wrong {
+    fn call(&self, call: Call, rooms: &mut Rooms) -> Answer {
+        let before = rooms.clone();
+        let mut answer = Proved.call(call, rooms);
+        self.0(call, &mut answer, &before, rooms);
+        answer
+    }
+}
+
+/// Changes a place of a room, if it has that place.
+fn touch<T: std::ops::BitXorAssign + From<u8>>(room: &mut [T], at: usize) {
+    if let Some(place) = room.get_mut(at) {
+        *place ^= T::from(1);
+    }
+}
+
+/// Puts the places of the move list that a batch freed back to what they were.
+fn keep_freed(_: Call, _: &mut Answer, before: &Rooms, rooms: &mut Rooms) {
+    let count = |rooms: &Rooms| rooms.session.get(MOVES).map_or(0, |count| *count as usize);
+    for place in count(rooms)..count(before).min(rooms.moves.len()) {
+        rooms.moves[place] = before.moves[place];
+    }
+}
+
+/// Wrong things, each with its name.
+const WRONGS: [(&str, Fault); 9] = [
+    ("a stamp off by one", |_, answer, _, rooms| {
+        touch(
+            &mut rooms.session,
+            if answer.number == 0 { STAMP } else { 99 },
+        )
+    }),
+    (
+        "a place past the last move of a load",
+        |call, _, _, rooms| {
+            let at = rooms.session.get(MOVES).map_or(0, |count| *count as usize);
+            touch(
+                &mut rooms.moves,
+                if call.index() == 0 { at } else { usize::MAX },
+            )
+        },
+    ),
+    ("a value past the pairs", |_, _, _, rooms| {
+        let at = Needs::of_session(&rooms.session).pairs;
+        touch(&mut rooms.values, at)
+    }),
+    ("a refusal's place", |_, answer, _, _| {
+        answer.told += u32::from(answer.number == 4)
+    }),
+    ("the report of a refusal", |_, answer, _, rooms| {
+        touch(&mut rooms.report, if answer.number == 11 { 0 } else { 99 })
+    }),
+    ("a visit too many", |call, answer, _, rooms| {
+        let batched = call.index() == 1 && answer.number == 0;
+        touch(&mut rooms.report, if batched { 1 } else { 99 })
+    }),
+    ("marks left as they were", |call, _, before, rooms| {
+        if call.index() == 1 {
+            rooms.marks.clone_from(&before.marks);
+        }
+    }),
+    ("freed places left as they were", keep_freed),
+    ("a byte past what was written", |call, answer, _, rooms| {
+        let wrote = call.index() == 2 && answer.number == 0;
+        touch(
+            &mut rooms.out,
+            if wrote {
+                answer.told as usize
+            } else {
+                usize::MAX
+            },
+        )
+    }),
+];
+
+/// Each wrong thing is found within a few streams.
+#[test]
+fn what_is_wrong_is_found() {
+    for (name, wrong) in WRONGS {
+        let (_, differed) = compare(&Wrong(wrong), 60, 0);
+        let (_, _, what) = differed.unwrap_or_else(|| panic!("{name} passed"));
+        assert!(!what.contains("stopped"), "{name}: {what}");
+    }
+}
+
+/// A case is the same each time it is run.
+#[test]
+fn a_case_is_the_same_each_time() {
+    let (mut first, mut again) = (Tally::default(), Tally::default());
+    let [case, _] = cases_of(12);
+    run(&Proved, &case, &mut first).unwrap();
+    run(&Proved, &case, &mut again).unwrap();
+    assert_eq!((first.counts, first.signs), (again.counts, again.signs));
+}
+
+/// No stream at all, and one that is nothing but an end, are run too.
+#[test]
+fn streams_of_nothing() {
+    for bytes in [vec![], vec![6], vec![0]] {
+        for plan in 0..20 {
+            let case = Case {
+                bytes: bytes.clone(),
+                plan,
+            };
+            run(&Proved, &case, &mut Tally::default()).unwrap();
+        }
+    }
+}
+
+/// Damage that may leave a model does so now and then, and is refused with 12 now and then.
+#[test]
+fn some_damage_leaves_a_model() {
+    use Damage::*;
+    for way in [EquationByte, Restamped, Size] {
+        let mut numbers = std::collections::BTreeSet::new();
+        for seed in 0..400 {
+            let mut rooms = after_a(&Proved);
+            rooms.out = vec![0; 99];
+            let needs = Needs::of_session(&rooms.session);
+            damage(way, &mut rooms, needs, &mut Random::new(seed));
+            numbers.insert(both(&Proved, Call::Write, &mut rooms).unwrap().number);
+        }
+        assert!(
+            numbers.contains(&0) && numbers.contains(&12),
+            "{way:?}: {numbers:?}"
+        );
+    }
+}
