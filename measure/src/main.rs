@@ -14,7 +14,7 @@ const SPREAD: usize = 32;
 fn row(name: &str, timed: Timed) {
     let ratio = timed.ours / timed.ordinary;
     let (ours, ordinary) = (timed.ours, timed.ordinary);
-    println!("{name:<52} {ours:>10.2} {ordinary:>12.2} {ratio:>8.2}");
+    println!("{name:<52} {ours:>10.3} {ordinary:>12.3} {ratio:>8.2}");
 }
 
 /// Rooms of both versions with a model loaded.

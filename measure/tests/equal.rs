@@ -183,7 +183,7 @@ fn run_meddled(seed: u64, family: Family, meddle: fn(&mut Rooms, &mut Random), s
 #[test]
 fn values_that_solve_nothing_agree() {
     let mut seen = Seen::default();
-    for seed in 0..400 {
+    for seed in 0..250 {
         for family in [Family::Tiny, Family::Small, Family::Medium, Family::Chain] {
             run_meddled(seed, family, scatter, &mut seen);
         }
@@ -194,7 +194,7 @@ fn values_that_solve_nothing_agree() {
 #[test]
 fn spoiled_sessions_agree() {
     let mut seen = Seen::default();
-    for seed in 0..400 {
+    for seed in 0..250 {
         for family in [Family::Tiny, Family::Small, Family::Medium, Family::Full] {
             run_meddled(seed, family, spoil, &mut seen);
         }

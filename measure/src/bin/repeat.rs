@@ -1,8 +1,9 @@
-//! Runs one call of one version so many times, and nothing else worth counting: for a profiler.
+//! Makes one call of one version so many times: for a profiler, which takes the difference of two runs, so that whatever is
+//! done once falls out.
 //!
 //! `repeat ours|ordinary strict|mixed|maximal load|delete|insert|many|write TIMES`
 
-use measure::cases::{grid, maximal, Case, MIXED_RULE, STRICT_RULE};
+use measure::cases::{grid, maximal, Case, ThereAndBack, MIXED_RULE, STRICT_RULE};
 use measure::rooms::Rooms;
 use measure::sides::Side;
 
@@ -16,23 +17,34 @@ fn case_named(name: &str) -> Case {
     }
 }
 
-/// Makes the call of a name on rooms that hold the model. What prepares it is done by the other version, so that a profiler
-/// sees nothing of it.
-fn call(side: Side, other: Side, case: &Case, name: &str, i: usize, rooms: &mut Rooms) {
+/// A call that can be made again and again: the rooms that it starts from, and its bytes.
+struct Call {
+    rooms: Rooms,
+    bytes: Vec<u8>,
+}
+
+/// The calls of a name, one for each of 32 moves.
+fn calls(case: &Case, name: &str) -> Vec<Call> {
+    let mut rooms = Rooms::most();
+    Side::Ours.load(&case.bytes, &mut rooms).unwrap();
     let moves = case.spread(32);
-    let one = case.changes(&[moves[i % 32]], &[]);
     let many = case.changes(&moves, &case.absent(32));
-    match name {
-        "load" => side.load(&case.bytes, rooms).unwrap(),
-        "delete" => drop(side.batch(&one.there, rooms).unwrap()),
-        "insert" => {
-            other.batch(&one.there, rooms).unwrap();
-            side.batch(&one.back, rooms).unwrap();
-        }
-        "many" => drop(side.batch(&many.there, rooms).unwrap()),
-        "write" => drop(side.write(rooms, &mut [0; 9_000]).unwrap()),
-        _ => panic!("load, delete, insert, many or write"),
-    }
+    let singles = moves.iter().map(|m| case.changes(&[*m], &[]));
+    let call = |one: ThereAndBack| {
+        let mut rooms = rooms.clone();
+        let bytes = match name {
+            "load" | "write" => case.bytes.clone(),
+            "delete" => one.there,
+            "insert" => {
+                Side::Ours.batch(&one.there, &mut rooms).unwrap();
+                one.back
+            }
+            "many" => many.there.clone(),
+            _ => panic!("load, delete, insert, many or write"),
+        };
+        Call { rooms, bytes }
+    };
+    singles.map(call).collect()
 }
 
 /// Takes its words from the command line.
@@ -41,14 +53,18 @@ fn main() {
     let [_, side, model, name, times] = &words[..] else {
         panic!("repeat SIDE MODEL CALL TIMES");
     };
-    let (side, other) = match side.as_str() {
-        "ours" => (Side::Ours, Side::Ordinary),
-        _ => (Side::Ordinary, Side::Ours),
+    let side = match side.as_str() {
+        "ours" => Side::Ours,
+        _ => Side::Ordinary,
     };
-    let case = case_named(model);
-    let mut rooms = Rooms::most();
-    other.load(&case.bytes, &mut rooms).unwrap();
+    let calls = calls(&case_named(model), name);
     for i in 0..times.parse().expect("a number") {
-        call(side, other, &case, name, i, &mut rooms.clone());
+        let Call { rooms, bytes } = &calls[i % calls.len()];
+        let mut rooms = rooms.clone();
+        match name.as_str() {
+            "load" => side.load(bytes, &mut rooms).unwrap(),
+            "write" => drop(side.write(&rooms, &mut [0; 9_000]).unwrap()),
+            _ => drop(side.batch(bytes, &mut rooms).unwrap()),
+        }
     }
 }

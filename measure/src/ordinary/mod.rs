@@ -1,5 +1,6 @@
 //! Document 01 in ordinary Rust: safe, quick, and with no more care than a test asks for. It keeps nothing between calls but
-//! the rooms, as the proved library does, so every call checks what it is lent and builds its own indexes.
+//! the rooms, as the proved library does, so every call checks what it is lent and builds its own indexes. Each call stays a
+//! call, as the library's are, however small.
 #![forbid(unsafe_code)]
 
 mod apply;
@@ -21,6 +22,7 @@ use sizes::Sizes;
 use system::System;
 
 /// Reads a model, finds the value of every pair and clears the marks. A refusal leaves the rooms as they were.
+#[inline(never)]
 pub fn load(bytes: &[u8], rooms: &mut Rooms) -> Result<(), Refusal> {
     let model = model::read(bytes, rooms)?;
     model::store(&model, rooms);
@@ -32,6 +34,7 @@ pub fn load(bytes: &[u8], rooms: &mut Rooms) -> Result<(), Refusal> {
 }
 
 /// Applies a batch of inserts and deletes. A refusal leaves the rooms as they were.
+#[inline(never)]
 pub fn batch(bytes: &[u8], rooms: &mut Rooms) -> Result<Report, Refusal> {
     let sizes = session::check(rooms)?;
     let (stamp, changes) = changes::read(bytes, sizes)?;
@@ -45,6 +48,7 @@ pub fn batch(bytes: &[u8], rooms: &mut Rooms) -> Result<Report, Refusal> {
 }
 
 /// Writes the model that the rooms hold into the front of `out`, and answers how many bytes it has.
+#[inline(never)]
 pub fn write(rooms: &Rooms, out: &mut [u8]) -> Result<usize, Refusal> {
     let sizes = session::check(rooms)?;
     let length = write::length(sizes, rooms);
@@ -54,6 +58,7 @@ pub fn write(rooms: &Rooms, out: &mut [u8]) -> Result<usize, Refusal> {
 }
 
 /// The value of one pair. Only the sizes and the one byte are looked at.
+#[inline(never)]
 pub fn ask(rooms: &Rooms, state: u16, variable: u8) -> Result<bool, Refusal> {
     let sizes = Sizes::of(&rooms.session);
     demand(sizes.in_limits(), 12, 0)?;
