@@ -78,10 +78,12 @@ impl Case {
         }
     }
 
-    /// So many of the moves, evenly spread over the table.
+    /// So many of the moves, evenly spread over the table, by turns from even and odd places: on the grid these are the writer's
+    /// and the reader's.
     pub fn spread(&self, count: usize) -> Vec<Move> {
-        let step = |i: usize| i * self.moves.len() / count;
-        (0..count).map(|i| self.moves[step(i)]).collect()
+        let step = self.moves.len() / count;
+        let odd = |i: usize| if step > 1 { i % 2 } else { 0 };
+        (0..count).map(|i| self.moves[i * step + odd(i)]).collect()
     }
 
     /// So many moves that are not in the table, spread over the states and actions.
