@@ -2,7 +2,7 @@
 
 use std::hint::black_box;
 
-use measure::cases::{grid, maximal, Case, ThereAndBack, MIXED_RULE, STRICT_RULE};
+use measure::cases::{grid, maximal, Case, MIXED_RULE, STRICT_RULE};
 use measure::clock::{in_turns, microseconds, middle, worst, Timed};
 use measure::rooms::Rooms;
 use measure::sides::Side;
@@ -42,11 +42,11 @@ impl Loaded {
         }
     }
 
-    /// Times a batch and the one that undoes it.
-    fn there_and_back(&mut self, rounds: usize, batches: &ThereAndBack) -> [Timed; 2] {
+    /// Times N batches, each applied where the one before it left the rooms; the last one leaves them as they were.
+    fn batches<const N: usize>(&mut self, rounds: usize, batches: [&[u8]; N]) -> [Timed; N] {
         let times = in_turns(rounds, |side| {
             let rooms = self.of(side);
-            [&batches.there, &batches.back].map(|bytes| {
+            batches.map(|bytes| {
                 microseconds(|| {
                     let report = side.batch(black_box(bytes), rooms);
                     black_box(report).unwrap();
@@ -71,17 +71,17 @@ fn time_load(case: &Case, rounds: usize) -> Timed {
     timed
 }
 
-/// Deletes and inserts single moves, spread over the table: the figures of the deletes and those of the inserts.
+/// Deletes and inserts single moves, spread over the table: the figures of the deletes and those of the inserts. Every round
+/// goes through all the moves, so that a busy moment of the machine does not fall on one of them alone.
 fn time_single(case: &Case, rounds: usize) -> [Vec<Timed>; 2] {
-    let mut loaded = Loaded::new(case);
-    let mut figures = [Vec::new(), Vec::new()];
-    for m in case.spread(SPREAD) {
-        let batches = case.changes(&[m], &[]);
-        let [deleted, inserted] = loaded.there_and_back(rounds, &batches);
-        figures[0].push(deleted);
-        figures[1].push(inserted);
-    }
-    figures
+    let moves = case.spread(SPREAD);
+    let singles: Vec<_> = moves.iter().map(|m| case.changes(&[*m], &[])).collect();
+    let batches: [&[u8]; 2 * SPREAD] = std::array::from_fn(|i| match i % 2 {
+        0 => &singles[i / 2].there[..],
+        _ => &singles[i / 2].back,
+    });
+    let times = Loaded::new(case).batches(rounds, batches);
+    [0, 1].map(|back| times.iter().skip(back).step_by(2).copied().collect())
 }
 
 /// Load, and single moves, of one model.
@@ -104,7 +104,7 @@ fn rows_of(case: &Case, rounds: usize) {
 /// A batch of 64 changes and its undoing, half of each deletes and half inserts.
 fn row_of_64(case: &Case, rounds: usize) {
     let batches = case.changes(&case.spread(32), &case.absent(32));
-    let times = Loaded::new(case).there_and_back(rounds, &batches);
+    let times = Loaded::new(case).batches(rounds, [&batches.there, &batches.back]);
     row(
         &format!("{}: batch of 64 changes", case.name),
         middle(&times),
