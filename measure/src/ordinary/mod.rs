@@ -1,0 +1,71 @@
+//! Document 01 in ordinary Rust: safe, quick, and with no more care than a test asks for. It keeps nothing between calls but
+//! the rooms, as the proved library does, so every call checks what it is lent and builds its own indexes. Each call stays a
+//! call, as the library's are, however small.
+#![forbid(unsafe_code)]
+
+mod apply;
+mod changes;
+mod equation;
+mod index;
+mod model;
+mod moves;
+mod records;
+mod session;
+mod sizes;
+mod system;
+mod update;
+mod write;
+
+use crate::answers::{demand, Refusal, Report};
+use crate::rooms::Rooms;
+use sizes::Sizes;
+use system::System;
+
+/// Reads a model, finds the value of every pair and clears the marks. A refusal leaves the rooms as they were.
+#[inline(never)]
+pub fn load(bytes: &[u8], rooms: &mut Rooms) -> Result<(), Refusal> {
+    let model = model::read(bytes, rooms)?;
+    model::store(&model, rooms);
+    let pairs = model.sizes.pairs();
+    let system = System::new(model.sizes, &rooms.labels, &rooms.equations, &model.moves);
+    let (values, marks) = (&mut rooms.values[..pairs], &mut rooms.marks[..pairs]);
+    update::solve(&system, values, marks);
+    Ok(())
+}
+
+/// Applies a batch of inserts and deletes. A refusal leaves the rooms as they were.
+#[inline(never)]
+pub fn batch(bytes: &[u8], rooms: &mut Rooms) -> Result<Report, Refusal> {
+    let sizes = session::check(rooms)?;
+    let (stamp, changes) = changes::read(bytes, sizes)?;
+    changes::judge(stamp, &changes, rooms)?;
+    apply::apply(&changes, rooms);
+    let moves = &rooms.moves[..rooms.session[5] as usize];
+    let system = System::new(sizes, &rooms.labels, &rooms.equations, moves);
+    let pairs = sizes.pairs();
+    let (values, marks) = (&mut rooms.values[..pairs], &mut rooms.marks[..pairs]);
+    Ok(update::update(&system, &changes, values, marks))
+}
+
+/// Writes the model that the rooms hold into the front of `out`, and answers how many bytes it has.
+#[inline(never)]
+pub fn write(rooms: &Rooms, out: &mut [u8]) -> Result<usize, Refusal> {
+    let sizes = session::check(rooms)?;
+    let length = write::length(sizes, rooms);
+    demand(length <= out.len(), 13, 0)?;
+    write::spell(sizes, rooms, &mut out[..length]);
+    Ok(length)
+}
+
+/// The value of one pair. Only the sizes and the one byte are looked at.
+#[inline(never)]
+pub fn ask(rooms: &Rooms, state: u16, variable: u8) -> Result<bool, Refusal> {
+    let sizes = Sizes::of(&rooms.session);
+    demand(sizes.in_limits(), 12, 0)?;
+    demand(sizes.pairs() <= rooms.values.len(), 13, 0)?;
+    let (state, variable) = (u32::from(state), u32::from(variable));
+    demand(state < sizes.states && variable < sizes.variables, 4, 0)?;
+    let value = rooms.values[(variable * sizes.states + state) as usize];
+    demand(value <= 1, 12, 0)?;
+    Ok(value == 1)
+}
