@@ -3,18 +3,20 @@ use mathlib.Core.Path.{_≡_, refl, sym, ap, _∙_, subst}
 use mathlib.Core.Logic.{inl, inr}
 use mathlib.Core.Bool.{Bool, true, false, not, cond, _&&_, _||_}
 use mathlib.Core.List.{List, [], _∷_, map, List·Memᴰ·head, List·Memᴰ·tail, List·Memᴰ·not-nil, List·Memᴰ·cases-cons}
-use Prim.Native.Nat.{ℕ, _+_, _*_, _/_, _%_, _≤_, _<_}
+use Prim.Native.Nat.{ℕ, zero, suc, _+_, _*_, _/_, _%_, _≤_, _<_}
 use native.Mathlib.Omega.{arith}
-use lib.ListN.{getD, take}
+use lib.ListN.{getD, take, drop}
+use lib.Arith.{digits-div}
 use lib.Dec.{eqb, ltb}
-use Rattle.lists.specs.Lists.{is, any}
+use Rattle.lists.specs.Lists.{is, any, all}
 use Rattle.lists.specs.Sets.{none}
-use Rattle.lists.specs.Tests.{_∈_, tests, tell, and-is, and-no, or-false, eqb-same, eqb-out, ltb-in, ltb-no}
+use Rattle.lists.specs.Tests.{_∈_, tests, tell, and-in, and-is, and-no, or-false, eqb-same, eqb-out, ltb-is, ltb-in, ltb-no}
 use Rattle.systems.specs.Machine as machine
 use Rattle.rules.specs.Moves.{source, action, target}
-use Rattle.rules.specs.Model.{Model, moveOk}
+use Rattle.rules.specs.Model.{Model, moveOk, movesOk}
 use Rattle.rules.specs.Rooms.{pairsOf}
 use Rattle.rules.specs.Batch.{Change, changesOk, inserts, deletes}
+use Rattle.rules.specs.Session.{unword}
 use Rattle.rules.specs.Calls.{valueAt}
 use Rattle.rules.specs.Values.{Values, Term, constant, step, state, variable, terms, termAt, blockOf, own, targets, leaningsBy, leanings}
 use Rattle.rules.specs.Update.{gains, loses, went, shifts}
@@ -25,6 +27,7 @@ use Rattle.laws.specs.ModelSystem.{frame, leanings-at, pairs-full, pair-below, 
 use Rattle.pairs.specs.Drawn.{tableOf, Drawn}
 use Rattle.pairs.specs.Looks.{changesOf, lookTest}
 use Rattle.pairs.specs.Words.{ReadsAs, wordOf, kindIn, blockIn, pastIn}
+use Rattle.table.specs.OwnMoves.{partOf}
 use Rattle.pairs.specs.Part.{ownMoves}
 use Rattle.pairs.specs.EquationWords.{drawn-sound, block-word}
 use Rattle.pairs.specs.GivesWords.{two, term-read, step-names, targets-read}
@@ -121,6 +124,40 @@ module _ (z : Sizes) (equations values marks : List ℕ) (b : Bool) (i q : ℕ) 
       last : (x : Bool) → (x && true) ≡ x
       last true = refl
       last false = refl
+
+-- What holds of all entries of a list holds of a part of it.
+all-take : (f : ℕ → Bool) (k : ℕ) (l : List ℕ) → all f l ≡ true → all f (take k l) ≡ true
+all-take f zero l h = refl
+all-take f (suc k) [] h = refl
+all-take f (suc k) (q ∷ l) h = let g = simp and-is at h in and-in (g .0) (all-take f k l (g .1))
+
+all-drop : (f : ℕ → Bool) (k : ℕ) (l : List ℕ) → all f l ≡ true → all f (drop k l) ≡ true
+all-drop f zero l h = h
+all-drop f (suc k) [] h = refl
+all-drop f (suc k) (q ∷ l) h = all-drop f k l (simp and-is at h .1)
+
+-- Moves lead to states.
+targets-in : (z : Sizes) (least : ℕ) (l : List ℕ) → movesOk z least l ≡ true → all (λ q. ltb (target q) (z .states)) l ≡ true
+unfolding moveOk
+targets-in z least [] h = refl
+targets-in z least (q ∷ l) h = let g = simp and-is at h in and-in (g .0 .1 .1) (targets-in z (suc q) l (g .1))
+
+-- No move leads to a pair of an earlier block where the variable that is named is of none.
+module _ (z : Sizes) (equations values marks : List ℕ) (b : Bool) (i x : ℕ) (later : i ≤ unword (getD equations x 0) .block) where
+  none-gone : (l : List ℕ) → all (λ q. ltb (target q) (z .states)) l ≡ true → any (leadsGone z equations values marks b i x) l ≡ false
+  unfolding leadsGone
+  none-gone [] h = refl
+  none-gone (q ∷ l) h =
+      let g = simp and-is at h in
+      let t = ltb-is (target q) (z .states) .0 (g .0) in
+      let e = ap (λ (y : ℕ). unword (getD equations y 0) .block) (digits-div x t) in
+      rw (went-later z equations values marks b i (x * z .states + target q) (omega arith)) (none-gone l (g .1))
+
+  pub part-not-gone : (s a : ℕ) (ms : List ℕ) → movesOk z 0 ms ≡ true → any (leadsGone z equations values marks b i x) (ownMoves s a ms) ≡ false
+  part-not-gone s a ms h =
+      none-gone (ownMoves s a ms)
+      (all-drop (λ q. ltb (target q) (z .states)) (partOf s a ms .from) (take (partOf s a ms .end) ms)
+      (all-take (λ q. ltb (target q) (z .states)) (partOf s a ms .end) ms (targets-in z 0 ms h)))
 
 -- The old values, and the look at a pair while its block shifts, where values, marks and changes lie in rooms.
 abbrev pastBy : Model → List ℕ → List ℕ → Values

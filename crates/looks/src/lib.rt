@@ -14,12 +14,12 @@ ghost use lib.Dec.{eqb};
 ghost use Rattle.lists.specs.Lists.{is, any};
 ghost use Rattle.rules.specs.Rooms.{pairsOf};
 ghost use Rattle.rules.specs.Values.{own};
+ghost use Rattle.rules.specs.Model.{movesOk};
 ghost use Rattle.rules.specs.Batch.{changesOk};
 ghost use Rattle.rules.specs.Calls.{valueAt};
 ghost use Rattle.pairs.specs.Drawn.{tableOf, Drawn};
 ghost use Rattle.pairs.specs.Looks.{changesOf, lookTest};
 ghost use Rattle.pairs.specs.Part.{ownMoves};
-ghost use Rattle.table.specs.Ascending.{ascends};
 ghost use Rattle.chains.specs.Chains.{keyOf, headsAt, linksAt};
 ghost use Rattle.chains.specs.ChainLaws.{Chained};
 ghost use Rattle.chains.specs.declared.By.the-variants as By;
@@ -192,7 +192,7 @@ fn touched(
     false
 }
 
-// Do the state's moves with the action lead to a pair of x that went to b?
+// Do the state's moves with the action lead to a pair of x that went to b? None does where x is not of an earlier block.
 fn leans_gone(
     sizes: Sizes,
     equations: &[u32],
@@ -206,9 +206,13 @@ fn leans_gone(
     a: Action,
     x: Variable,
 ) -> bool
-    requires { ⌜ (0 < sizes .states) × ((n ≤ length (now moves)) × (ascends 0 (take n (now moves)) ≡ true)) ⌝ }
+    requires { ⌜ (0 < sizes .states) × ((n ≤ length (now moves)) × (movesOk sizes 0 (take n (now moves)) ≡ true)) ⌝ }
     ensures { λ r. ⌜ r ≡ any (leadsGone sizes (now (equations .entry)) (now (values .entry)) (now (marks .entry)) b block (x .0)) (ownMoves (s .0) (a .0) (take n (now (moves .entry)))) ⌝ }
 {
+    let named = pairs::formula_at(equations, x.0 as usize);
+    if block <= named.block as usize {
+        return false;
+    }
     let part = table::part_of(moves, n, s.0 as u32, a.0 as u32);
     leads_gone(
         sizes,
@@ -262,7 +266,7 @@ fn step_seeds(
     s: State,
     e: Formula,
 ) -> bool
-    requires { ⌜ (0 < sizes .states) × ((n ≤ length (now moves)) × (ascends 0 (take n (now moves)) ≡ true)) ⌝ }
+    requires { ⌜ (0 < sizes .states) × ((n ≤ length (now moves)) × (movesOk sizes 0 (take n (now moves)) ≡ true)) ⌝ }
     requires { ⌜ (count ≤ length (now changes)) × ((s .0 < 256) × (count < 65536)) ⌝ }
     requires { ⌜ Chained (keyOf By.Source) (headsAt By.Source) (linksAt By.Source) (now changes) count (now index) ⌝ }
     ensures { λ r. ⌜ r ≡ (any (touches sizes (now (equations .entry)) (now (values .entry)) (now (marks .entry)) b (is (not b) (eqb (e .operator) 7)) (s .0) (e .first) (e .second)) (take count (now (changes .entry)))

@@ -7,7 +7,6 @@ use lib.ListN.{take}
 use lib.Dec.{eqb}
 use borrow.Author.Needs.{needs}
 use Rattle.lists.specs.Lists.{is}
-use Rattle.table.specs.Ascending.{moves-ascend}
 use Rattle.pairs.specs.DrawnLimits.{limits}
 use Rattle.pairs.specs.EquationWords.{drawn-sound}
 use Rattle.pairs.specs.GivesWords.{some-states}
@@ -88,7 +87,7 @@ step-seeds-requires c κs =
     let lim = limits (a .sizes) (a .labels .now) (a .equations .now) (a .moves .now) (a .n) (s .pre .0) in
     let h = mod-lt (a .p) g in
     let k = s .pre .1 .0 in
-    ((g, (s .pre .0 .long-moves, moves-ascend (a .sizes) 0 (take (a .n) (a .moves .now)) (ok .moves))), ((k .1 .0, (omega arith, k .1 .1)), s .pre .1 .1 .1))
+    ((g, (s .pre .0 .long-moves, ok .moves)), ((k .1 .0, (omega arith, k .1 .1)), s .pre .1 .1 .1))
 
 returns-3 : tie.Need-returns-3
 returns-3 c =
