@@ -2,7 +2,7 @@
 use mathlib.Core.Path.{_≡_, refl, sym, ap, _∙_, subst}
 use mathlib.Core.Bool.{Bool, true, false, cond, _||_}
 use mathlib.Core.List.{List, [], _∷_, _++_}
-use Prim.Native.Nat.{ℕ, zero, suc, _+_, _≤_, _<_}
+use Prim.Native.Nat.{ℕ, zero, suc, _+_, _-_, _≤_, _<_}
 use native.Mathlib.Omega.{arith}
 use lib.ListN.{length, getD, take}
 use lib.Seq.{take-suc}
@@ -10,6 +10,7 @@ use lib.Dec.{eqb}
 use Rattle.lists.specs.Lists.{any}
 use Rattle.lists.specs.Tests.{tell, clash, no-way, or-false, eqb-in, eqb-out}
 use Rattle.chains.specs.Chains.{lastTo}
+use Rattle.chains.specs.ChainLaws.{Chained}
 
 module _ (key : ℕ → ℕ) (ws : List ℕ) (t : ℕ) where
   pub last-le : (k : ℕ) → lastTo key ws t k ≤ k
@@ -55,6 +56,14 @@ module _ (key : ℕ → ℕ) (ws : List ℕ) (t : ℕ) where
   last-skips f n s (suc j) h =
       skip-by f j (eqb (key (getD ws j 0)) t) refl (s j (omega arith)) (last-skips f n s j (omega arith))
 
+-- A step along a chain goes down.
+pub step-falls : (key : ℕ → ℕ) (heads links : ℕ) (ws : List ℕ) (n : ℕ) (r : List ℕ) → Chained key heads links ws n r
+    → (k next : ℕ) → 0 < k → k ≤ n → next ≡ getD r (links + (k - 1)) 0 → next < k
+step-falls key heads links ws n r c k next h l e =
+    let s = c .steps (k - 1) (omega arith) in
+    let f = last-le key ws (key (getD ws (k - 1) 0)) (k - 1) in
+    omega arith
+
 any-snoc : (f : ℕ → Bool) (w : ℕ) (l : List ℕ) → any f (l ++ (w ∷ [])) ≡ (f w || any f l)
 any-snoc f w [] = refl
 any-snoc f w (x ∷ l) = ap (λ (b : Bool). f x || b) (any-snoc f w l) ∙ swap (f x) (f w) (any f l)
@@ -96,19 +105,17 @@ module _ (key : ℕ → ℕ) (ws : List ℕ) (t n : ℕ) (inside : n ≤ length 
       let b = o .below in
       o .same ∙ ap (λ (x : ℕ). any f (take x ws)) e ∙ one-more j (omega arith) ∙ ap (λ (b : Bool). b || any f (take j ws)) y
 
-  pub asking-goes : (k j next : ℕ) → Asking k → k ≡ suc j → f (getD ws j 0) ≡ false → next ≡ lastTo key ws (key (getD ws j 0)) j → (next < k) × Asking next
+  pub asking-goes : (k j next : ℕ) → Asking k → k ≡ suc j → f (getD ws j 0) ≡ false → next ≡ lastTo key ws (key (getD ws j 0)) j → Asking next
   asking-goes k j next o e y g =
       let b = o .below in
       let here = last-at key ws t j (ap (lastTo key ws t) (sym e) ∙ o .stands ∙ e) in
       let is : next ≡ lastTo key ws t j = g ∙ ap (λ (x : ℕ). lastTo key ws x j) here in
-      let low = last-le key ws t j in (
-        omega arith,
-        subst (λ (x : ℕ). Asking x) (sym is) (record {
-          stands = last-again key ws t j;
-          below = omega arith;
-          same = o .same ∙ ap (λ (x : ℕ). any f (take x ws)) e ∙ one-more j (omega arith) ∙ ap (λ (b : Bool). b || any f (take j ws)) y ∙ sym (skipped j (omega arith));
-        }),
-      )
+      let low = last-le key ws t j in
+      subst (λ (x : ℕ). Asking x) (sym is) (record {
+        stands = last-again key ws t j;
+        below = omega arith;
+        same = o .same ∙ ap (λ (x : ℕ). any f (take x ws)) e ∙ one-more j (omega arith) ∙ ap (λ (b : Bool). b || any f (take j ws)) y ∙ sym (skipped j (omega arith));
+      })
 
   pub asking-ends : (k : ℕ) → Asking k → k ≡ 0 → any f (take n ws) ≡ false
   asking-ends k o e = o .same ∙ ap (λ (x : ℕ). any f (take x ws)) e

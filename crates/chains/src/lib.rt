@@ -24,25 +24,29 @@ fn key_of(w: u32, by: By) -> usize
     }
 }
 
-// Where the heads of a kind of chain begin in the room.
-fn heads_at(by: By) -> usize
-    ensures { λ r. ⌜ (r ≡ headsAt by) × (r < 2048) ⌝ }
-{
-    match by {
-        By::Target => 0,
-        By::Source => 1280,
-        By::Block => 1600,
-    }
+// Where a kind of chain lies in the room: its heads, one for each number, and its links, one for each word.
+struct Places {
+    heads: usize,
+    links: usize,
 }
 
-// Where the links of a kind of chain begin in the room.
-fn links_at(by: By) -> usize
-    ensures { λ r. ⌜ (r ≡ linksAt by) × (r < 2048) ⌝ }
+// Where each kind of chain lies.
+fn places_of(by: By) -> Places
+    ensures { λ r. ⌜ ((r .heads ≡ headsAt by) × (r .links ≡ linksAt by)) × ((r .heads < 2048) × (r .links < 2048)) ⌝ }
 {
     match by {
-        By::Target => 256,
-        By::Source => 1536,
-        By::Block => 1632,
+        By::Target => Places {
+            heads: 0,
+            links: 256,
+        },
+        By::Source => Places {
+            heads: 1280,
+            links: 1536,
+        },
+        By::Block => Places {
+            heads: 1600,
+            links: 1632,
+        },
     }
 }
 
@@ -51,7 +55,8 @@ pub fn head(room: &[u16], by: By, key: usize) -> usize
     requires { ⌜ key < 65536 ⌝ }
     ensures { λ r. ⌜ (r ≡ getD (now (room .entry)) (headsAt by + key) 0) × (r < 65536) ⌝ }
 {
-    rooms::half_at(room, heads_at(by) + key) as usize
+    let at = places_of(by);
+    rooms::half_at(room, at.heads + key) as usize
 }
 
 // One more than the place of the word before the one at j with the same number, or 0.
@@ -59,7 +64,8 @@ pub fn before(room: &[u16], by: By, j: usize) -> usize
     requires { ⌜ j < 65536 ⌝ }
     ensures { λ r. ⌜ (r ≡ getD (now (room .entry)) (linksAt by + j) 0) × (r < 65536) ⌝ }
 {
-    rooms::half_at(room, links_at(by) + j) as usize
+    let at = places_of(by);
+    rooms::half_at(room, at.links + j) as usize
 }
 
 // Puts the word at j at the head of its chain.
@@ -68,9 +74,10 @@ fn put_link(words: &[u32], j: usize, by: By, room: &mut [u16])
     ensures { λ _. ⌜ now (room .exit) ≡ link (keyOf by) (headsAt by) (linksAt by) (now (words .entry)) j (now (room .entry)) ⌝ }
 {
     let key = key_of(rooms::word_at(words, j), by);
-    let place = heads_at(by) + key;
+    let at = places_of(by);
+    let place = at.heads + key;
     let last = rooms::half_at(room, place);
-    rooms::set_half(room, links_at(by) + j, last);
+    rooms::set_half(room, at.links + j, last);
     rooms::set_half(room, place, (j + 1) as u16);
 }
 

@@ -89,7 +89,8 @@ map-one : (g : ℕ → ℕ) (b : Bool) (r : ℕ) → map g (cond b (r ∷ []) []
 map-one g true r = refl
 map-one g false r = refl
 
-map-append : (g : ℕ → ℕ) (a b : List ℕ) → map g (a ++ b) ≡ map g a ++ map g b
+-- Two lists joined, and what is made of each.
+pub map-append : (g : ℕ → ℕ) (a b : List ℕ) → map g (a ++ b) ≡ map g a ++ map g b
 map-append g [] b = refl
 map-append g (x ∷ a) b = ap (λ (l : List ℕ). g x ∷ l) (map-append g a b)
 

@@ -10,7 +10,7 @@ use lib.Arith.{digits-div}
 use lib.Dec.{eqb, ltb}
 use Rattle.lists.specs.Lists.{is, any, all}
 use Rattle.lists.specs.Sets.{none}
-use Rattle.lists.specs.Tests.{_∈_, tests, tell, and-in, and-is, and-no, or-false, eqb-same, eqb-out, ltb-is, ltb-in, ltb-no}
+use Rattle.lists.specs.Tests.{_∈_, tests, tell, and-in, and-is, and-no, and-true, or-false, eqb-same, eqb-out, ltb-is, ltb-in, ltb-no}
 use Rattle.systems.specs.Machine as machine
 use Rattle.rules.specs.Moves.{source, action, target}
 use Rattle.rules.specs.Model.{Model, moveOk, movesOk}
@@ -102,6 +102,24 @@ module _ (z : Sizes) (equations values marks : List ℕ) (b gaining : Bool) (s a
       go : (g : Bool) → cond g (addsOwn s a w) (dropsOwn z equations values marks b s a x w) ≡ true → source (w / 2) ≡ s
       go true f = eqb-out (source (w / 2)) s (simp and-is at f .1 .0)
       go false f = eqb-out (source (w / 2)) s (simp and-is at f .1 .0 .0)
+
+  -- What a change comes to, where it is of another state or action, where gaining counts, and where losing does.
+  pub touches-apart : (w : ℕ) → own (state s) (record { 0 = a }) (w / 2) ≡ false → touches z equations values marks b gaining s a x w ≡ false
+  unfolding touches addsOwn dropsOwn
+  touches-apart w e = go gaining
+    where
+      go : (g : Bool) → cond g (addsOwn s a w) (dropsOwn z equations values marks b s a x w) ≡ false
+      go true = and-no (eqb (w % 2) 1) e
+      go false = and-no (not (eqb (w % 2) 1)) (ap (λ (o : Bool). o && is (not b) (pastIn z equations values marks (x * z .states + target (w / 2)))) e)
+
+  pub touches-gain : (w : ℕ) → own (state s) (record { 0 = a }) (w / 2) ≡ true → gaining ≡ true → touches z equations values marks b gaining s a x w ≡ eqb (w % 2) 1
+  unfolding touches addsOwn
+  touches-gain w e g = rw (g, e) (and-true (eqb (w % 2) 1))
+
+  pub touches-drop : (w : ℕ) → own (state s) (record { 0 = a }) (w / 2) ≡ true → gaining ≡ false
+      → touches z equations values marks b gaining s a x w ≡ (not (eqb (w % 2) 1) && is (not b) (pastIn z equations values marks (x * z .states + target (w / 2))))
+  unfolding touches dropsOwn
+  touches-drop w e g = rw (g, e) refl
 
 -- The three ways in which a pair is found to have gone.
 module _ (z : Sizes) (equations values marks : List ℕ) (b : Bool) (i q : ℕ) where

@@ -23,7 +23,7 @@ ghost use Rattle.pairs.specs.Part.{ownMoves};
 ghost use Rattle.chains.specs.Chains.{keyOf, headsAt, linksAt};
 ghost use Rattle.chains.specs.ChainLaws.{Chained};
 ghost use Rattle.chains.specs.declared.By.the-variants as By;
-ghost use Rattle.looks.specs.LookTests.{wentIn, leadsGone, addsOwn, dropsOwn, touches};
+ghost use Rattle.looks.specs.LookTests.{wentIn, leadsGone, touches};
 
 // Did the pair q, of a block before this one, go to b?
 fn went(
@@ -100,43 +100,8 @@ fn owns(q: u32, s: State, a: Action) -> bool
     (table::source_of(q) == s.0 as u32) & (table::action_of(q) == a.0 as u32)
 }
 
-// Is the change an insert of such a move?
-fn adds_own(w: u32, s: State, a: Action) -> bool
-    ensures { λ r. ⌜ r ≡ addsOwn (s .0) (a .0) w ⌝ }
-{
-    if w % 2 == 1 {
-        return owns(w / 2, s, a);
-    }
-    false
-}
-
-// Is the change a delete of such a move, to a pair of x whose old value is not b?
-fn drops_own(
-    sizes: Sizes,
-    equations: &[u32],
-    values: &[u8],
-    marks: &[u8],
-    b: bool,
-    s: State,
-    a: Action,
-    x: Variable,
-    w: u32,
-) -> bool
-    requires { ⌜ 0 < sizes .states ⌝ }
-    ensures { λ r. ⌜ r ≡ dropsOwn sizes (now (equations .entry)) (now (values .entry)) (now (marks .entry)) b (s .0) (a .0) (x .0) w ⌝ }
-{
-    if w % 2 == 1 {
-        return false;
-    }
-    if owns(w / 2, s, a) {
-        let t = (w / 2 % 1024) as u16;
-        let p = limits::pair_of(sizes, State(t), x);
-        return pairs::other(b, pairs::old_value(sizes, equations, values, marks, p));
-    }
-    false
-}
-
-// Does the change insert such a move, where gaining counts, or delete one?
+// Does the change touch the state's moves with the action so that the pair turns: by an insert, where gaining counts, or else by a
+// delete of a move to a pair of x whose old value is not b?
 fn touches_own(
     sizes: Sizes,
     equations: &[u32],
@@ -152,10 +117,16 @@ fn touches_own(
     requires { ⌜ 0 < sizes .states ⌝ }
     ensures { λ r. ⌜ r ≡ touches sizes (now (equations .entry)) (now (values .entry)) (now (marks .entry)) b gaining (s .0) (a .0) (x .0) w ⌝ }
 {
-    if gaining {
-        return adds_own(w, s, a);
+    if !owns(w / 2, s, a) {
+        return false;
     }
-    drops_own(sizes, equations, values, marks, b, s, a, x, w)
+    let t = (w / 2 % 1024) as u16;
+    let p = limits::pair_of(sizes, State(t), x);
+    let off = pairs::other(b, pairs::old_value(sizes, equations, values, marks, p));
+    if gaining {
+        return w % 2 == 1;
+    }
+    (w % 2 != 1) & off
 }
 
 // Does a diamond gain such a move, or a box lose one, where b is true; or the other way round? The changes are walked along the

@@ -143,7 +143,7 @@ fn run_in(
 
 // All that the program prints for its input, written into the front of the output; the answer is how many bytes that is. The
 // rooms of the session are as long as the limits ask.
-pub fn run(input: &[u8], out: &mut [u8]) -> usize
+fn run(input: &[u8], out: &mut [u8]) -> usize
     requires { ⌜ (length (now input) ≤ 65536) × (16 + 16 * length (now input) ≤ length (now out)) ⌝ }
     ensures { λ r. ⌜ now (out .exit) ≡ fill (printed (now (input .entry))) (now (out .entry)) ⌝ }
     ensures { λ r. ⌜ r ≡ length (printed (now (input .entry))) ⌝ }

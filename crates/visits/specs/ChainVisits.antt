@@ -10,7 +10,7 @@ use Rattle.rules.specs.Model.{Model}
 use Rattle.chains.specs.Chains.{lastTo}
 use Rattle.chains.specs.ChainWalks.{last-le, last-at, last-again, last-skips}
 use Rattle.visits.specs.Visits.{Visit, visited}
-use Rattle.visits.specs.VisitLaws.{visited-none, visited-append, visited-top, visited-count}
+use Rattle.visits.specs.VisitLaws.{visited-none, visited-append, visited-top, visited-count, visited-long}
 
 -- What is to visit from the first k words of a chain is `todo k`: the word at j adds `here j`, at most `few` pairs, where it has
 -- the chain's number t, and nothing where it has another.
@@ -45,7 +45,7 @@ module _ (m : Model) (ph : Bool) (vs : List ℕ) (key : ℕ → ℕ) (ws : List 
   })
 
   chain-on : (start : Visit) (j : ℕ) (v w : Visit) (next : ℕ) → Walk start (suc j) v → w ≡ visited m ph vs (here j) v
-      → next ≡ lastTo key ws (key (getD ws j 0)) j → (next < suc j) × Walk start next w
+      → next ≡ lastTo key ws (key (getD ws j 0)) j → Walk start next w
   chain-on start j v w next o e f =
       let b = o .below in
       let at = last-at key ws t j (o .stands) in
@@ -59,27 +59,27 @@ module _ (m : Model) (ph : Bool) (vs : List ℕ) (key : ℕ → ℕ) (ws : List 
       let top = visited-top m ph vs (here j) v in
       let cnt = visited-count m ph vs (here j) v in
       let g = ap (λ (x : Visit). x .pile .top) e in
-      let i = ap (λ (x : Visit). x .visits) e in (
-        omega arith,
-        subst (λ (x : ℕ). Walk start x w) (sym is) (record {
-          stands = last-again key ws t j;
-          below = omega arith;
-          same =
-              ap (λ (l : List ℕ). visited m ph vs l w) (skipped j (omega arith)) ∙ ap (visited m ph vs (todo j)) e
-              ∙ sym (visited-append m ph vs (here j) (todo j) v)
-              ∙ ap (λ (l : List ℕ). visited m ph vs l v) (sym (adds .more j (omega arith) at)) ∙ o .same;
-          high = omega arith;
-          many = omega arith;
-        }),
-      )
+      let i = ap (λ (x : Visit). x .visits) e in
+      subst (λ (x : ℕ). Walk start x w) (sym is) (record {
+        stands = last-again key ws t j;
+        below = omega arith;
+        same =
+            ap (λ (l : List ℕ). visited m ph vs l w) (skipped j (omega arith)) ∙ ap (visited m ph vs (todo j)) e
+            ∙ sym (visited-append m ph vs (here j) (todo j) v)
+            ∙ ap (λ (l : List ℕ). visited m ph vs l v) (sym (adds .more j (omega arith) at)) ∙ o .same;
+        high = omega arith;
+        many = omega arith;
+      })
 
   -- One word further along the chain.
   pub chain-goes : (start : Visit) (k j : ℕ) (v w : Visit) (next : ℕ) → Walk start k v → k ≡ suc j → w ≡ visited m ph vs (here j) v
-      → next ≡ lastTo key ws (key (getD ws j 0)) j → (next < k) × Walk start next w
-  chain-goes start k j v w next o h e f =
-      let s = chain-on start j v w next (subst (λ (x : ℕ). Walk start x v) h o) e f in
-      (omega (arith, s .0), s .1)
+      → next ≡ lastTo key ws (key (getD ws j 0)) j → Walk start next w
+  chain-goes start k j v w next o h e f = chain-on start j v w next (subst (λ (x : ℕ). Walk start x v) h o) e f
 
-  pub chain-ends : (start : Visit) (k : ℕ) (v : Visit) → Walk start k v → k ≡ 0 → v ≡ visited m ph vs (todo n) start
+  -- At its end all is done, and no room has changed its length.
+  pub chain-ends : (start : Visit) (k : ℕ) (v : Visit) → Walk start k v → k ≡ 0
+      → (v ≡ visited m ph vs (todo n) start) × ((length (v .pile .marks) ≡ length (start .pile .marks)) × (length (v .pile .stack) ≡ length (start .pile .stack)))
   chain-ends start k v o e =
-      sym (visited-none m ph vs v) ∙ ap (λ (l : List ℕ). visited m ph vs l v) (sym (ap todo e ∙ adds .none)) ∙ o .same
+      let f = sym (visited-none m ph vs v) ∙ ap (λ (l : List ℕ). visited m ph vs l v) (sym (ap todo e ∙ adds .none)) ∙ o .same in
+      let g = visited-long m ph vs (todo n) start in
+      (f, (ap (λ (x : Visit). length (x .pile .marks)) f ∙ g .0, ap (λ (x : Visit). length (x .pile .stack)) f ∙ g .1))

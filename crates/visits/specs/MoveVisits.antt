@@ -11,13 +11,11 @@ use Rattle.rules.specs.Model.{Model}
 use Rattle.rules.specs.Values.{pair, state, variable}
 use Rattle.rules.specs.declared.Sizes.{Sizes}
 use Rattle.rules.specs.declared.Variable.{Variable}
+use Rattle.laws.specs.ModelLeaners.{map-append}
 use Rattle.visits.specs.Visits.{Visit, visited, sourcesTo, pairsAt}
-use Rattle.visits.specs.ChainVisits.{Adds}
+use Rattle.chains.specs.Chains.{lastTo}
+use Rattle.visits.specs.ChainVisits.{Adds, OnChain, chain-begins, chain-goes, chain-ends}
 use Rattle.visits.specs.SourceLaws.{sources-skip, sources-at}
-
-map-append : {A B : Type 0} (f : A → B) (a b : List A) → map f (a ++ b) ≡ map f a ++ map f b
-map-append f [] b = refl
-map-append {B = B} f (x ∷ a) b = ap (λ (l : List B). f x ∷ l) (map-append f a b)
 
 module _ (z : Sizes) (ms : List ℕ) (n y a t : ℕ) where
   -- The pair of y at the source of the move at j, if the move has the action.
@@ -45,6 +43,24 @@ module _ (z : Sizes) (ms : List ℕ) (n y a t : ℕ) where
         ∙ map-append (λ s. pair z (state s) (variable y)) (cond (eqb (action (getD ms j 0)) a) (source (getD ms j 0) ∷ []) []) (sourcesTo ms a t j);
     small = λ j l. one-source j;
   }
+
+  -- The walk along the chain of t stands at k with v.
+  abbrev pub OnState : Model → Bool → List ℕ → Visit → ℕ → Visit → Type 0
+  OnState m ph vs start k v = OnChain m ph vs target ms n t 1 sourcesUpTo start k v
+
+  -- It begins at the head of t, goes on by a move, and ends with all sources visited.
+  module _ (m : Model) (ph : Bool) (vs : List ℕ) (start : Visit) where
+    pub state-begins : (k : ℕ) → k ≡ lastTo target ms t n → OnState m ph vs start k start
+    state-begins k e = chain-begins m ph vs target ms n t 1 sourcesUpTo sourceAt sources-add start k e
+
+    pub state-goes : (k j : ℕ) (v w : Visit) (next : ℕ) → OnState m ph vs start k v → k ≡ suc j → w ≡ visited m ph vs (sourceAt j) v
+        → next ≡ lastTo target ms (target (getD ms j 0)) j → OnState m ph vs start next w
+    state-goes k j v w next o e f g = chain-goes m ph vs target ms n t 1 sourcesUpTo sourceAt sources-add start k j v w next o e f g
+
+    pub state-ends : (k : ℕ) (v : Visit) → OnState m ph vs start k v → k ≡ 0
+        → (v ≡ visited m ph vs (sourcesUpTo n) start)
+        × ((length (v .pile .marks) ≡ length (start .pile .marks)) × (length (v .pile .stack) ≡ length (start .pile .stack)))
+    state-ends k v o e = chain-ends m ph vs target ms n t 1 sourcesUpTo sourceAt sources-add start k v o e
 
   -- One move, as code visits it: the word q read at j, and the pair r.
   pub source-visited : (m : Model) (ph : Bool) (vs : List ℕ) (j q r : ℕ) (v w : Visit) → q ≡ getD ms j 0 → r ≡ pair z (state (source q)) (variable y)

@@ -4,8 +4,8 @@ use borrow.Author.Needs.{needs}
 use Rattle.chains.proofs.before.Statement.{statement}
 use Rattle.chains.proofs.before.Tie as tie
 
-links-at-requires : tie.Need-links-at-requires
-links-at-requires c κs = search needs
+places-of-requires : tie.Need-places-of-requires
+places-of-requires c κs = search needs
 
 add-half-at : tie.Need-add-half-at
 add-half-at c = search needs
@@ -17,8 +17,8 @@ cast-result : tie.Need-cast-result
 cast-result c = search needs
 
 returns : tie.Need-returns
-returns c = (rw (c .before .links-at .ensures .0) at (c .half-at .ensures), omega arith)
+returns c = (rw (c .before .before .places-of .ensures .0 .1) at (c .half-at .ensures), omega arith)
 
 pub before-spec : {M : Type 1} → statement M
 before-spec =
-    tie.close (tie.spec links-at-requires add-half-at half-at-requires cast-result returns)
+    tie.close (tie.spec places-of-requires add-half-at half-at-requires cast-result returns)

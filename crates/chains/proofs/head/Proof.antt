@@ -4,8 +4,8 @@ use borrow.Author.Needs.{needs}
 use Rattle.chains.proofs.head.Statement.{statement}
 use Rattle.chains.proofs.head.Tie as tie
 
-heads-at-requires : tie.Need-heads-at-requires
-heads-at-requires c κs = search needs
+places-of-requires : tie.Need-places-of-requires
+places-of-requires c κs = search needs
 
 add-half-at : tie.Need-add-half-at
 add-half-at c = search needs
@@ -17,7 +17,8 @@ cast-result : tie.Need-cast-result
 cast-result c = search needs
 
 returns : tie.Need-returns
-returns c = (rw (c .before .heads-at .ensures .0) at (c .half-at .ensures), omega arith)
+returns c = (rw (c .before .before .places-of .ensures .0 .0) at (c .half-at .ensures), omega arith)
 
 pub head-spec : {M : Type 1} → statement M
-head-spec = tie.close (tie.spec heads-at-requires add-half-at half-at-requires cast-result returns)
+head-spec =
+    tie.close (tie.spec places-of-requires add-half-at half-at-requires cast-result returns)

@@ -10,17 +10,14 @@ word-at-requires c κs = search needs
 key-of-requires : tie.Need-key-of-requires
 key-of-requires c κs = search needs
 
-heads-at-requires : tie.Need-heads-at-requires
-heads-at-requires c κs = search needs
+places-of-requires : tie.Need-places-of-requires
+places-of-requires c κs = search needs
 
 add-place : tie.Need-add-place
 add-place c = search needs
 
 half-at-requires : tie.Need-half-at-requires
 half-at-requires c κs = search needs
-
-links-at-requires : tie.Need-links-at-requires
-links-at-requires c κs = search needs
 
 add-set-half : tie.Need-add-set-half
 add-set-half c = search needs
@@ -50,10 +47,9 @@ put-link-spec =
     (tie.spec
     word-at-requires
     key-of-requires
-    heads-at-requires
+    places-of-requires
     add-place
     half-at-requires
-    links-at-requires
     add-set-half
     set-half-requires
     add-set-half-2

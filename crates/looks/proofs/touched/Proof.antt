@@ -7,7 +7,7 @@ use borrow.Author.Needs.{needs}
 use Rattle.lists.specs.Lists.{is}
 use Rattle.rules.specs.Moves.{source}
 use Rattle.chains.specs.Chains.{keyOf, headsAt, linksAt}
-use Rattle.chains.specs.ChainWalks.{AskingAt, asking-begins, asking-yes, asking-goes, asking-ends}
+use Rattle.chains.specs.ChainWalks.{step-falls, AskingAt, asking-begins, asking-yes, asking-goes, asking-ends}
 use Rattle.looks.specs.LookTests.{touches}
 use Rattle.looks.specs.LookWords.{touches-here}
 use Rattle.looks.proofs.touched.Statement.{statement}
@@ -66,20 +66,14 @@ before-requires c κs =
 loop-less : tie.Need-loop-less Inv-loop μ-loop
 unfolding keyOf
 loop-less c =
-    (let s = c .before .before .before .before .before .before .before .before .before .before .before .before .before .before in
-    let a = s .args in
-    let f = touches (a .sizes) (a .equations .now) (a .values .now) (a .marks .now) (a .b) (is (not (a .b)) (a .each)) (a .s .0) (a .a .0) (a .x .0) in
+    let s = c .before .before .before .before .before .before .before .before .before .before .before .before .before .before in
     let l = c .before .before .before .before .before .loop in
-    let h = c .before .before .before .before .loop-test .taken in
-    let z = l .inv .below in
-    asking-goes (λ w. source (w / 2)) (a .changes .now) (a .s .0) (a .count) (s .pre .0 .1 .0) f (touches-here (a .sizes) (a .equations .now) (a .values .now) (a .marks .now) (a .b) (is (not (a .b)) (a .each)) (a .s .0) (a .a .0) (a .x .0)) (l .k) (l .k - 1) (c .before2 .result) (l .inv) (omega (arith, h))
-    (sym (c .before .before .touches-own .ensures ∙ ap (λ (g : Bool). touches (a .sizes) (a .equations .now) (a .values .now) (a .marks .now) (a .b) g (a .s .0) (a .a .0) (a .x .0) (c .before .before .before .word-at .result)) (c .before .before .before .before .before .before .before .before .other .ensures) ∙ ap f (c .before .before .before .word-at .ensures)) ∙ c .before .if1 .left)
-    (c .before2 .ensures .0 ∙ s .pre .1 .steps (l .k - 1) (omega (arith, h)))) .0
+    step-falls (λ w. source (w / 2)) _ _ (s .args .changes .now) (s .args .count) _ (s .pre .1) (l .k) (c .before2 .result) (c .before .before .before .before .loop-test .taken) (l .inv .below) (c .before2 .ensures .0)
 
 loop-again : tie.Need-loop-again Inv-loop μ-loop
 unfolding keyOf
 loop-again c =
-    (let s = c .before .before .before .before .before .before .before .before .before .before .before .before .before .before in
+    let s = c .before .before .before .before .before .before .before .before .before .before .before .before .before .before in
     let a = s .args in
     let f = touches (a .sizes) (a .equations .now) (a .values .now) (a .marks .now) (a .b) (is (not (a .b)) (a .each)) (a .s .0) (a .a .0) (a .x .0) in
     let l = c .before .before .before .before .before .loop in
@@ -87,7 +81,7 @@ loop-again c =
     let z = l .inv .below in
     asking-goes (λ w. source (w / 2)) (a .changes .now) (a .s .0) (a .count) (s .pre .0 .1 .0) f (touches-here (a .sizes) (a .equations .now) (a .values .now) (a .marks .now) (a .b) (is (not (a .b)) (a .each)) (a .s .0) (a .a .0) (a .x .0)) (l .k) (l .k - 1) (c .before2 .result) (l .inv) (omega (arith, h))
     (sym (c .before .before .touches-own .ensures ∙ ap (λ (g : Bool). touches (a .sizes) (a .equations .now) (a .values .now) (a .marks .now) (a .b) g (a .s .0) (a .a .0) (a .x .0) (c .before .before .before .word-at .result)) (c .before .before .before .before .before .before .before .before .other .ensures) ∙ ap f (c .before .before .before .word-at .ensures)) ∙ c .before .if1 .left)
-    (c .before2 .ensures .0 ∙ s .pre .1 .steps (l .k - 1) (omega (arith, h)))) .1
+    (c .before2 .ensures .0 ∙ s .pre .1 .steps (l .k - 1) (omega (arith, h)))
 
 returns-2 : tie.Need-returns-2 Inv-loop μ-loop
 returns-2 c =
