@@ -26,6 +26,14 @@ chained-kept key heads links ws n r q o same c = record {
 }
 
 module _ (key : ℕ → ℕ) (heads links : ℕ) (ws : List ℕ) where
+  -- The head that is found becomes the link of the word at j, and the number one more than j the head.
+  pub link-made : (j : ℕ) (r q p : List ℕ) (k head last : ℕ) → k ≡ key (getD ws j 0) → head ≡ heads + k → last ≡ getD r head 0
+      → q ≡ set r (links + j) last → p ≡ set q head (j + 1) → p ≡ link key heads links ws j r
+  unfolding link
+  link-made j r q p k head last ek eh el eq ep =
+      let at : head ≡ heads + key (getD ws j 0) = eh ∙ ap (λ (x : ℕ). heads + x) ek in
+      rw (sym at) (ep ∙ ap (λ (x : List ℕ). set x head (j + 1)) (eq ∙ ap (set r (links + j)) el))
+
   -- One word more.
   pub linked-more : (j : ℕ) (r q p : List ℕ) → q ≡ linked key heads links ws j r → p ≡ link key heads links ws j q → p ≡ linked key heads links ws (j + 1) r
   unfolding linked

@@ -61,12 +61,13 @@ values-held n v room p h =
     let l = listed-length 0 n (λ p. bit (v p)) in
     ap (λ (x : ℕ). eqb x 1) (filled-at (bits n v) room p (omega arith) ∙ listed-is n (λ p. bit (v p)) p h) ∙ bit-back (v p)
 
+-- A truth value as a number is at most 1.
+pub bit-small : (b : Bool) → bit b ≤ 1
+bit-small true = omega arith
+bit-small false = omega arith
+
 pub bits-small : (n : ℕ) (v : Values) → all (λ x. leb x 1) (bits n v) ≡ true
-bits-small n v = listed-most 0 n (λ p. bit (v p)) 1 (λ p. one (v p))
-  where
-    one : (b : Bool) → bit b ≤ 1
-    one true = omega arith
-    one false = omega arith
+bits-small n v = listed-most 0 n (λ p. bit (v p)) 1 (λ p. bit-small (v p))
 
 pub marks-small : (n : ℕ) (t : Turned) → all (λ x. leb x 3) (marksOf n t) ≡ true
 marks-small n t = listed-most 0 n (λ p. markOf (at (t .shifted) p) (at (t .settled) p)) 3 (λ p. three (at (t .shifted) p) (at (t .settled) p))

@@ -3,21 +3,21 @@
 -- Assumes nothing.
 use mathlib.Core.Path.{_≡_, refl, sym, ap, _∙_, subst}
 use mathlib.Core.Bool.{Bool, true}
-use mathlib.Core.List.{List, [], _∷_}
-use Prim.Native.Nat.{ℕ, _≤_}
+use mathlib.Core.List.{List, [], _∷_, map}
+use Prim.Native.Nat.{ℕ, _≤_, min}
 use native.Mathlib.Omega.{arith}
-use lib.ListN.{length, take, drop, replicate, length-replicate}
+use lib.ListN.{length, take, drop, replicate, length-replicate, length-take}
 use lib.Seq.{take-at}
 use lib.Dec.{leb}
 use Rattle.lists.specs.Lists.{fill}
 use Rattle.lists.specs.Smallest.{at}
-use Rattle.lists.specs.Tests.{and-is, leb-is}
+use Rattle.lists.specs.Tests.{tests, and-is, leb-is}
 use Rattle.rules.specs.Records.{Outcome, refused, accepted}
 use Rattle.rules.specs.Rooms.{Rooms, lengthsOf, pairsOf, roomsOk}
 use Rattle.rules.specs.Spelling.{encode}
 use Rattle.rules.specs.Batch.{Batch}
 use Rattle.rules.specs.Update.{changed}
-use Rattle.rules.specs.Session.{held, sessionOf, sessionDemands}
+use Rattle.rules.specs.Session.{unword, held, sessionOf, sessionDemands}
 use Rattle.rules.specs.Calls.{Left, asked, loadBy, load, judged, batchBy, batch, writeBy, writable, write}
 use Rattle.rules.specs.declared.Session.{Session}
 use Rattle.rules.specs.declared.Report.{Report}
@@ -25,16 +25,67 @@ use Rattle.laws.specs.RecordLaws.{AreBytes}
 use Rattle.laws.specs.SessionHolds.{sessionOk, holds-session}
 use Rattle.laws.specs.Accepted.{asked-in, asked-out, Solved, load-solved, batch-out}
 use Rattle.laws.specs.BatchSolved.{batch-solved}
+use Rattle.laws.specs.BatchEdits.{told-session}
 use Rattle.laws.specs.Refusals.{refusal-keeps}
 use Rattle.laws.specs.LoadSolves.{Solves, solved-solves, loaded-solved, load-accepts}
 
--- The sessions that a load and then any sequence of batches, accepted and refused, lead to.
+-- Other rooms in which the same session lies: as far as it uses them, they hold the same labels, equations, values, marks and
+-- moves. How long they are, and what lies past that, may differ.
+pub record SameHeld (s : Session) (l other : Rooms) : Type 0 where
+  pub labels : take (s .sizes .states) (other .labels) ≡ take (s .sizes .states) (l .labels)
+  pub equations : take (s .sizes .variables) (other .equations) ≡ take (s .sizes .variables) (l .equations)
+  pub values : take (pairsOf (s .sizes)) (other .values) ≡ take (pairsOf (s .sizes)) (l .values)
+  pub marks : take (pairsOf (s .sizes)) (other .marks) ≡ take (pairsOf (s .sizes)) (l .marks)
+  pub moves : take (s .moves) (other .moves) ≡ take (s .moves) (l .moves)
+
+-- The sessions that a load and then any sequence of batches, accepted and refused, lead to. Between two calls the caller may
+-- lend other rooms with the same contents.
 pub data Reached : Session → Rooms → Type 0 where
   loaded : (l : Rooms) (bytes : List ℕ) (s : Session) → AreBytes bytes → load l bytes .answer ≡ accepted s → Reached s (load l bytes .rooms)
   moved : (s : Session) (l : Rooms) (bytes : List ℕ) (r : Report) → Reached s l → AreBytes bytes → batch s l bytes .answer ≡ accepted r
       → Reached (r .session) (batch s l bytes .rooms)
   passed : (s : Session) (l : Rooms) (bytes : List ℕ) (n p : ℕ) → Reached s l → AreBytes bytes → batch s l bytes .answer ≡ refused n p
       → Reached s (batch s l bytes .rooms)
+  lent : (s : Session) (l other : Rooms) → Reached s l → SameHeld s l other → Reached s other
+
+-- A room that begins with the same n places as one of at least n places has at least n.
+long-enough : (n : ℕ) (other room : List ℕ) → take n other ≡ take n room → n ≤ length room → n ≤ length other
+long-enough n other room e h =
+    let a : length (take n other) ≡ length (take n room) = ap (λ (x : List ℕ). length x) e in
+    let b : min n (length other) ≡ min n (length room) = sym (length-take n other) ∙ a ∙ length-take n room in omega arith
+
+-- Rooms lent anew with the same contents hold the same session.
+lent-solved : (s : Session) (l other : Rooms) → Solved s l (held s l) → SameHeld s l other → Solved s other (held s other)
+unfolding roomsOk
+lent-solved s l other h e =
+    let m = held s l in
+    let r = simp tests at (h .holds .rooms) in
+    let q : held s other ≡ m =
+    λ i. record { sizes = s .sizes; labels = e .labels i; equations = map unword (e .equations i); moves = e .moves i } in
+    let count = h .holds .count in
+    let room = h .holds .room in
+    let c1 = long-enough (s .sizes .states) (other .labels) (l .labels) (e .labels) (omega arith) in
+    let c2 = long-enough (s .sizes .variables) (other .equations) (l .equations) (e .equations) (omega arith) in
+    let c3 = long-enough (pairsOf (s .sizes)) (other .values) (l .values) (e .values) (omega arith) in
+    let c4 = long-enough (pairsOf (s .sizes)) (other .marks) (l .marks) (e .marks) (omega arith) in
+    let c5 = long-enough (s .moves) (other .moves) (l .moves) (e .moves) (omega arith) in
+    subst (Solved s other) (sym q) (record {
+      model = h .model;
+      holds = record {
+        sizes = refl;
+        labels = e .labels;
+        equations = e .equations ∙ h .holds .equations;
+        moves = e .moves;
+        count = count;
+        stamp = h .holds .stamp;
+        values = rw (e .values) (h .holds .values);
+        marks = rw (e .marks) (h .holds .marks);
+        rooms = simp tests (((c1, c2), c3), c4);
+        room = omega arith;
+      };
+      small = h .small;
+      values = e .values ∙ h .values;
+    })
 
 batch-moved : (s : Session) (l : Rooms) (bytes : List ℕ) (r : Report) → AreBytes bytes → batch s l bytes .answer ≡ accepted r → Solved s l (held s l)
     → Solved (r .session) (batch s l bytes .rooms) (held (r .session) (batch s l bytes .rooms))
@@ -44,14 +95,11 @@ batch-moved s l bytes r y e h =
     let w = k .1 in
     let n = changed (b .changes) (held s l) in
     let t = batch-solved s l bytes b h w in
-    let q : r .session ≡ sessionOf n = said (sym e ∙ ap (λ (c : Left Report Rooms). c .answer) (w .is)) in
+    let q : r .session ≡ sessionOf n = told-session (sym e ∙ ap (λ (c : Left Report Rooms). c .answer) (w .is)) in
     let rooms : batch s l bytes .rooms ≡ batchBy s l (accepted b) .rooms = ap (λ (c : Left Report Rooms). c .rooms) (w .is) in
     let u : Solved (r .session) (batch s l bytes .rooms) n =
     subst (λ (x : Session). Solved x (batch s l bytes .rooms) n) (sym q) (subst (λ (x : Rooms). Solved (sessionOf n) x n) (sym rooms) t) in
     subst (Solved (r .session) (batch s l bytes .rooms)) (sym (holds-session (r .session) (batch s l bytes .rooms) n (u .model) (u .holds) .0)) u
-  where
-    said : {a b : Report} → accepted a ≡ accepted b → a .session ≡ b .session
-    said {a} {b} e = let f : a ≡ b = cc in ap (λ (x : Report). x .session) f
 
 -- Every session so reached is as a load leaves it, its marks aside.
 pub reached-solved : {s : Session} {l : Rooms} → Reached s l → Solved s l (held s l)
@@ -59,6 +107,7 @@ reached-solved (loaded l bytes s y e) = loaded-solved l bytes s y e .0
 reached-solved (moved s l bytes r h y e) = batch-moved s l bytes r y e (reached-solved h)
 reached-solved (passed s l bytes n p h y e) =
     subst (λ (x : Rooms). Solved s x (held s x)) (sym (refusal-keeps .batch s l bytes n p e)) (reached-solved h)
+reached-solved (lent s l other h e) = lent-solved s l other (reached-solved h) e
 
 -- The values of every session so reached are its model's.
 pub reached-solves : {s : Session} {l : Rooms} → Reached s l → Solves s l

@@ -1,5 +1,5 @@
--- A batch that is accepted in a session as a load leaves it ends in a session as a load leaves it: its values are those of
--- the model with the new moves. Assumes nothing.
+-- An accepted batch leaves rooms that hold the model with the new moves. In a session as a load leaves it, the session that
+-- it ends in is as a load leaves it too: its values are those of that model. Assumes nothing.
 use mathlib.Core.Path.{_≡_, refl, sym, ap, _∙_, subst, fun-ext}
 use mathlib.Core.Bool.{Bool, true, false}
 use mathlib.Core.List.{List}
@@ -24,7 +24,7 @@ use Rattle.rules.specs.Session.{held, sessionOf}
 use Rattle.rules.specs.Calls.{valueAt, bits, marksOf, batchBy}
 use Rattle.rules.specs.declared.Session.{Session}
 use Rattle.laws.specs.Edits.{Judged}
-use Rattle.laws.specs.SessionHolds.{moved-holds}
+use Rattle.laws.specs.SessionHolds.{Holds, moved-holds}
 use Rattle.laws.specs.ModelSystem.{frame, Sound, sound, pairs-full}
 use Rattle.laws.specs.ValuesSolve.{solve-none, solve-same, solve-solves, solution-out}
 use Rattle.laws.specs.UpdateMoves.{fits-old, fits-new, frame-same, update-values}
@@ -61,6 +61,20 @@ update-solves m cs j ok ok′ old e p h =
     (old-solution m cs old ok e) p (pairs-full (changed cs m) ok′ p h)
     ∙ sym (ap (λ (f : Values). f p) (solve-same (changed cs m)))
 
+-- The rooms after an accepted batch hold the model with the new moves, whatever the values were.
+pub batch-holds : (s : Session) (l : Rooms) (bytes : List ℕ) (b : Batch) → Holds s l (held s l) → WasBatch s l bytes b
+    → Holds (sessionOf (changed (b .changes) (held s l))) (batchBy s l (accepted b) .rooms) (changed (b .changes) (held s l))
+batch-holds s l bytes b h w =
+    let m = held s l in
+    let cs = b .changes in
+    let n = pairsOf (s .sizes) in
+    let t = turnAll (changed cs m) cs (valueAt (l .values)) in
+    let vs = bits n (at (t .values)) in
+    let vn : length vs ≡ n = listed-length 0 n (λ p. bit (at (t .values) p)) in
+    let kn : length (marksOf n t) ≡ n = listed-length 0 n (λ p. markOf (at (t .shifted) p) (at (t .settled) p)) in
+    moved-holds s l m (changed cs m) vs (marksOf n t) h refl refl refl vn (bits-small n (at (t .values))) kn (marks-small n t) (w .room)
+
+-- Where the values were the model's, those after an accepted batch are the values of the model with the new moves.
 pub batch-solved : (s : Session) (l : Rooms) (bytes : List ℕ) (b : Batch) → Solved s l (held s l) → WasBatch s l bytes b
     → Solved (sessionOf (changed (b .changes) (held s l))) (batchBy s l (accepted b) .rooms) (changed (b .changes) (held s l))
 batch-solved s l bytes b h w =
@@ -70,12 +84,11 @@ batch-solved s l bytes b h w =
     let t = turnAll (changed cs m) cs (valueAt (l .values)) in
     let vs = bits n (at (t .values)) in
     let vn : length vs ≡ n = listed-length 0 n (λ p. bit (at (t .values) p)) in
-    let kn : length (marksOf n t) ≡ n = listed-length 0 n (λ p. markOf (at (t .shifted) p) (at (t .settled) p)) in
     let e = update-solves m cs (w .good) (sound m (h .model)) (sound (changed cs m) (w .model)) (valueAt (l .values))
     (held-values n (at (solve m)) (l .values) (h .values)) in
     record {
       model = w .model;
-      holds = moved-holds s l m (changed cs m) vs (marksOf n t) (h .holds) refl refl refl vn (bits-small n (at (t .values))) kn (marks-small n t) (w .room);
+      holds = batch-holds s l bytes b (h .holds) w;
       small = refl;
       values =
           take-at vs (drop (length vs) (l .values)) n vn

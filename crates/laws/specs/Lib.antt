@@ -14,8 +14,10 @@ pub mod UpdateMoves
 pub mod Accepted
 pub mod BatchAccepts
 pub mod BatchSolved
+pub mod BatchEdits
 pub mod LoadSolves
 pub mod BatchReload
+pub mod AskSolves
 pub mod BatchTurns
 pub mod Refusals
 pub mod OneOutcome

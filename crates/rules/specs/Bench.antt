@@ -1,11 +1,11 @@
 -- The bench cases A to F, with the box and the diamond of no move, as one table under one claim: from the bytes of a model
 -- and of its batches to the answers and the rooms. Two more rows have an equation that names one variable twice, and one
--- that leans on an earlier block. Assumes nothing.
+-- that leans on an earlier block. Each model is also written, into room enough and into one place too few. Assumes nothing.
 use mathlib.Core.Path.{_≡_, refl}
 use mathlib.Core.List.{List, [], _∷_}
-use Prim.Native.Nat.{ℕ}
+use Prim.Native.Nat.{ℕ, _-_}
 use lib.IntN.{ℤ, pos, negsuc}
-use lib.ListN.{replicate}
+use lib.ListN.{length, replicate}
 use Rattle.lists.specs.Lists.{fill}
 use Rattle.lists.specs.Smallest.{smallest}
 use Rattle.rules.specs.Limits.{sizesOk}
@@ -23,10 +23,10 @@ use Rattle.rules.specs.Calls.{Left, load, judged, batch, writable, write
 use Rattle.rules.specs.declared.Session.{Session}
 use Rattle.rules.specs.declared.Report.{Report}
 
--- What is seen of a load: the values, the stamp, and the bytes that a writing gives back.
--- What is seen of a batch: the values, the marks, the net change, the visits and the stamp.
+-- What is seen of a load: the values, the stamp, and what a writing answers and leaves in an output of 44 places and in one
+-- a place too short. What is seen of a batch: the values, the marks, the net change, the visits and the stamp.
 pub data Seen : Type 0 where
-  loaded : List ℕ → ℕ → List ℕ → Seen
+  loaded : List ℕ → ℕ → Left ℕ (List ℕ) → Left ℕ (List ℕ) → Seen
   moved : List ℕ → List ℕ → ℤ → ℕ → ℕ → ℕ → Seen
   no : ℕ → ℕ → Seen
 
@@ -50,14 +50,15 @@ abbrev batches : Session → Rooms → List (List ℕ) → List Seen
 batches s l [] = []
 batches s l (b ∷ bs) = let c = batch s l b in afterBatch c (c .answer) (λ s′ l′. batches s′ l′ bs)
 
-abbrev afterLoad : Left Session Rooms → Outcome Session → List (List ℕ) → List Seen
-afterLoad c (refused n p) bs = no n p ∷ []
-afterLoad c (accepted s) bs =
-    loaded (c .rooms .values) (s .stamp) (write s (c .rooms) (replicate 44 9) .rooms) ∷ batches s (c .rooms) bs
+abbrev afterLoad : ℕ → Left Session Rooms → Outcome Session → List (List ℕ) → List Seen
+afterLoad short c (refused n p) bs = no n p ∷ []
+afterLoad short c (accepted s) bs =
+    loaded (c .rooms .values) (s .stamp) (write s (c .rooms) (replicate 44 9)) (write s (c .rooms) (replicate short 9))
+    ∷ batches s (c .rooms) bs
 
--- A model loaded, and then its batches.
+-- A model loaded and written, and then its batches.
 abbrev see : List ℕ → List (List ℕ) → List Seen
-see m bs = let c = load lent m in afterLoad c (c .answer) bs
+see m bs = let c = load lent m in afterLoad (length m - 1) c (c .answer) bs
 
 -- Two states, one action, one greatest block, X = o 0 X, no moves. Where o is 6, diamond, this is model G.
 abbrev one : ℕ → List ℕ
@@ -107,6 +108,13 @@ F = 7 ∷ 1 ∷ 0 ∷ 0 ∷ 0 ∷ 6 ∷ []
 abbrev room : ℕ → List ℕ → List ℕ
 room n l = fill l (replicate n 9)
 
+-- The bytes written, with their length for an answer; and an output one place too short, refused with 13 and left alone.
+abbrev wrote : List ℕ → Left ℕ (List ℕ)
+wrote m = record { answer = accepted (length m); rooms = room 44 m }
+
+abbrev short : List ℕ → Left ℕ (List ℕ)
+short m = record { answer = refused 13 0; rooms = replicate (length m - 1) 9 }
+
 abbrev cases : List (List Seen)
 cases =
     see (one 6) (A ∷ B ∷ C ∷ [])
@@ -117,26 +125,26 @@ cases =
     ∷ see later (A ∷ [])
     ∷ []
 
--- Values, stamp and bytes of each load; values, marks, net change, visits and stamp of each batch.
+-- Values, stamp and both writings of each load; values, marks, net change, visits and stamp of each batch.
 pub bench :
     cases
-    ≡ (loaded (room 7 (0 ∷ 0 ∷ [])) 0 (room 44 (one 6))
+    ≡ (loaded (room 7 (0 ∷ 0 ∷ [])) 0 (wrote (one 6)) (short (one 6))
     ∷ moved (room 7 (1 ∷ 0 ∷ [])) (room 7 (1 ∷ 0 ∷ [])) (pos 1) 1 0 1
     ∷ moved (room 7 (1 ∷ 1 ∷ [])) (room 7 (0 ∷ 1 ∷ [])) (pos 1) 0 0 65539
     ∷ moved (room 7 (0 ∷ 0 ∷ [])) (room 7 (3 ∷ 3 ∷ [])) (negsuc 1) 0 1 65538
     ∷ [])
-    ∷ (loaded (room 7 (0 ∷ 0 ∷ [])) 0 (room 44 (one 6))
+    ∷ (loaded (room 7 (0 ∷ 0 ∷ [])) 0 (wrote (one 6)) (short (one 6))
     ∷ moved (room 7 (0 ∷ 0 ∷ [])) (room 7 (2 ∷ 0 ∷ [])) (pos 0) 0 0 258
     ∷ [])
-    ∷ (loaded (room 7 (1 ∷ 1 ∷ 0 ∷ 1 ∷ 1 ∷ 0 ∷ [])) 259 (room 44 e)
+    ∷ (loaded (room 7 (1 ∷ 1 ∷ 0 ∷ 1 ∷ 1 ∷ 0 ∷ [])) 259 (wrote e) (short e)
     ∷ moved (room 7 (0 ∷ 1 ∷ 0 ∷ 1 ∷ 0 ∷ 0 ∷ [])) (room 7 (1 ∷ 0 ∷ 0 ∷ 0 ∷ 1 ∷ 0 ∷ [])) (negsuc 1) 2 0 1
     ∷ moved (room 7 (0 ∷ 1 ∷ 0 ∷ 1 ∷ 0 ∷ 0 ∷ [])) (room 7 (0 ∷ 0 ∷ 0 ∷ 0 ∷ 0 ∷ 0 ∷ [])) (pos 0) 0 0 1
     ∷ [])
-    ∷ (loaded (room 7 (1 ∷ 1 ∷ [])) 0 (room 44 (one 7)) ∷ [])
-    ∷ (loaded (room 7 (0 ∷ 0 ∷ 0 ∷ 0 ∷ [])) 0 (room 44 twice)
+    ∷ (loaded (room 7 (1 ∷ 1 ∷ [])) 0 (wrote (one 7)) (short (one 7)) ∷ [])
+    ∷ (loaded (room 7 (0 ∷ 0 ∷ 0 ∷ 0 ∷ [])) 0 (wrote twice) (short twice)
     ∷ moved (room 7 (1 ∷ 0 ∷ 1 ∷ 0 ∷ [])) (room 7 (1 ∷ 0 ∷ 1 ∷ 0 ∷ [])) (pos 2) 3 0 1
     ∷ [])
-    ∷ (loaded (room 7 (0 ∷ 0 ∷ 0 ∷ 0 ∷ [])) 0 (room 44 later)
+    ∷ (loaded (room 7 (0 ∷ 0 ∷ 0 ∷ 0 ∷ [])) 0 (wrote later) (short later)
     ∷ moved (room 7 (1 ∷ 0 ∷ 1 ∷ 0 ∷ [])) (room 7 (1 ∷ 0 ∷ 1 ∷ 0 ∷ [])) (pos 2) 1 0 1
     ∷ [])
     ∷ []

@@ -1,9 +1,10 @@
 -- The writing of a session that was found good, in the words of the writer's functions. Assumes nothing.
-use mathlib.Core.Path.{_≡_, ap}
-use mathlib.Core.List.{List}
+use mathlib.Core.Path.{_≡_, sym, ap, _∙_}
+use mathlib.Core.List.{List, _++_, append-nil}
 use Prim.Native.Nat.{ℕ, _+_, _*_, _≤_, _<_}
 use native.Mathlib.Omega.{arith}
-use lib.ListN.{length}
+use lib.ListN.{length, take, drop}
+use lib.Seq.{length-take-le, drop-length}
 use Rattle.lists.specs.Lists.{fill}
 use Rattle.rules.specs.Records.{refused, accepted}
 use Rattle.rules.specs.Rooms.{Rooms}
@@ -20,34 +21,41 @@ use Rattle.calls.specs.declared.Checked.the-variants as Found
 use Rattle.writer.specs.Spelled.{rest, Wrote, heldIn}
 use Rattle.writer.specs.SpelledLaws.{rest-take, held-is, wrote-fills}
 
--- A session that was checked: k is what the check found, and it is nothing wrong.
-module _ (s : Session) (l : Rooms) (out : List ℕ) (k : Checked) (h : checkedSays k ≡ checkOf s l) (g : k ≡ Found.Good) where
+-- A session that was checked, and nothing wrong was found.
+module _ (s : Session) (l : Rooms) (out : List ℕ) (found : Checked) (h : checkedSays found ≡ checkOf s l) (g : found ≡ Found.Good) where
   -- The writer's limits are kept.
   pub good-limits : (s .sizes .states ≤ 256) × (s .sizes .variables ≤ 32) × (s .moves ≤ 1024)
-  good-limits = let f = passed-fits s l k h g in (f .states, f .variables, f .moves)
+  good-limits = let f = passed-fits s l found h g in (f .states, f .variables, f .moves)
 
   -- The model written is the one that the session holds.
   good-held : heldIn (s .sizes) (s .moves) (l .labels) (l .equations) (l .moves) ≡ held s l
-  good-held = let f = passed-fits s l k h g in held-is s l (f .labels-room) (f .equations-room) (f .moves-room)
+  good-held = let f = passed-fits s l found h g in held-is s l (f .labels-room) (f .equations-room) (f .moves-room)
 
   -- A number n that was counted as the length.
   module _ (n : ℕ) (e : n ≡ 8 + 7 * labelled (rest (l .labels) 0 (s .sizes .states)) + 3 * s .sizes .blocks + 4 * s .sizes .variables + 6 * s .moves) where
     -- It is the spelling's length.
     counted-is : n ≡ length (encode (held s l))
     counted-is =
-        let f = passed-fits s l k h g in
+        let f = passed-fits s l found h g in
         let t = ap labelled (rest-take (l .labels) (s .sizes .states) (f .labels-room)) in
-        let m = good-length s l out k h g in omega arith
+        let m = good-length s l out found h g in omega arith
 
     -- 13 where the output is shorter, and it stays.
     pub leaves-short : length out < n → wrote (refused 13 0) out ≡ write s l out
-    leaves-short f = write-short s l out k h g n counted-is f
+    leaves-short f = write-short s l out found h g n counted-is f
 
-    -- Where it has room, what the writer left is what the call leaves.
-    pub leaves-written : n ≤ length out → (after : List ℕ) (next : ℕ)
-        → Wrote out 0 (encode (heldIn (s .sizes) (s .moves) (l .labels) (l .equations) (l .moves))) after next
-        → wrote (accepted n) after ≡ write s l out
-    leaves-written f after next w =
+    -- Where it has room, the writer is handed as many places of the output as the spelling needs. What it leaves there, with the
+    -- places past them, is what the call leaves.
+    pub leaves-written : n ≤ length out → (part : List ℕ) (next : ℕ)
+        → Wrote (take n out) 0 (encode (heldIn (s .sizes) (s .moves) (l .labels) (l .equations) (l .moves))) part next
+        → wrote (accepted n) (part ++ drop n out) ≡ write s l out
+    leaves-written f part next w =
+        let bs = encode (held s l) in
         let c = counted-is in
-        let d : after ≡ fill (encode (held s l)) out = wrote-fills (encode (held s l)) out after next (rw good-held at w) (omega arith) .0 in
-        write-good s l out k h g n c f after d
+        let long : length (take n out) ≡ length bs = length-take-le n out f ∙ c in
+        let d : part ≡ fill bs (take n out) = wrote-fills bs (take n out) part next (rw good-held at w) (omega arith) .0 in
+        let whole : fill bs (take n out) ≡ bs =
+        ap (λ (i : ℕ). bs ++ drop i (take n out)) (sym long) ∙ ap (λ (x : List ℕ). bs ++ x) (drop-length (take n out)) ∙ append-nil bs in
+        let e : part ++ drop n out ≡ fill bs out =
+        ap (λ (x : List ℕ). x ++ drop n out) (d ∙ whole) ∙ ap (λ (i : ℕ). bs ++ drop i out) c in
+        write-good s l out found h g n c f (part ++ drop n out) e

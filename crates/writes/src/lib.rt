@@ -32,7 +32,7 @@ pub fn write(
         return Written::Refused(Refusal::ShortRoom, 0);
     }
     writer::write_model(
-        out,
+        &mut out[..n],
         session.sizes,
         session.moves as usize,
         labels,

@@ -1,5 +1,9 @@
 -- The head that is found becomes the link, and the word becomes the head. Assumes nothing.
-use Rattle.chains.specs.Chains.{link}
+use mathlib.Core.Path.{_≡_, sym, ap, _∙_}
+use Prim.Native.Nat.{ℕ, _+_}
+use lib.ListN.{getD}
+use Rattle.chains.specs.Chains.{keyOf, headsAt, linksAt}
+use Rattle.chains.specs.ChainLaws.{link-made}
 use borrow.Author.Needs.{needs}
 use Rattle.chains.proofs.put_link.Statement.{statement}
 use Rattle.chains.proofs.put_link.Tie as tie
@@ -38,8 +42,15 @@ same-length : tie.Need-same-length
 same-length c = search needs
 
 returns : tie.Need-returns
-unfolding link
-returns c = cc
+returns c =
+    let a = c .before .before .before .before .before .before .before .before .before .before .before .before .before .before .before .before .before .args in
+    let at = c .before .before .before .before .before .before .before .before .before .before .before .before in
+    let k : at .before .key-of .result ≡ keyOf (a .by) (getD (a .words .now) (a .j) 0) =
+    at .before .key-of .ensures .0 ∙ ap (keyOf (a .by)) (at .before .before .word-at .ensures) in
+    let h : at .places-of .result .heads + at .before .key-of .result ≡ headsAt (a .by) + at .before .key-of .result = ap (λ (x : ℕ). x + at .before .key-of .result) (at .places-of .ensures .0 .0) in
+    let l : at .places-of .result .links ≡ linksAt (a .by) = at .places-of .ensures .0 .1 in
+    link-made (keyOf (a .by)) (headsAt (a .by)) (linksAt (a .by)) (a .words .now) (a .j) (a .room .now) _ _ _ _ _ k h (c .before .before .before .before .before .before .before .before .before .half-at .ensures)
+    (rw l at (c .before .before .before .before .before .before .set-half .ensures)) (c .before .before .set-half2 .ensures)
 
 pub put-link-spec : {M : Type 1} → statement M
 put-link-spec =

@@ -3,7 +3,6 @@ use Rattle.updates.specs.Reports.{bytes-good, bytes-bad}
 use Rattle.laws.specs.RecordLaws.{are-bytes}
 use Rattle.updates.specs.Reads.{good-read, bad-read}
 use Rattle.updates.specs.Moving.{sane-sizes}
-use Prim.Native.Nat.{ℕ}
 use lib.ListN.{length-replicate}
 use native.Mathlib.Omega.{arith}
 use mathlib.Core.Path.{_∙_}
@@ -33,9 +32,8 @@ judge-on-requires c κs =
     let a = s .args in
     let l = roomsOf (a .labels .now) (a .equations .now) (a .values .now) (a .marks .now) (a .moves .now) in
     let w = good-read (a .session .sizes) (a .bytes .now) (sane-sizes (a .session) l (s .pre)) (are-bytes (a .bytes .now) (λ i. omega (arith, c .before .before .before .before .before .before .before .before .before .before .before .before .before .before .before .shared-slice-known .given i))) _ _ _ _ (c .before .before .before .before .before .before .before .before .read-batch .ensures) (c .before .before .before .before .before .read2 .given .1) in
-    let k = c .before .before .before .before .before .before .before .before .read-batch .kept in
-    let e = length-replicate {A = ℕ} 64 0 in
-    (s .pre, ((w .few, omega (arith, k, e, w .few)), w .in-range))
+    let k = simp length-replicate at (c .before .before .before .before .before .before .before .before .read-batch .kept) in
+    (s .pre, ((w .few, omega (arith, k, w .few)), w .in-range))
 
 returns : tie.Need-returns
 returns c =

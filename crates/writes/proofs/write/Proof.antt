@@ -2,7 +2,9 @@
 use Rattle.sessions.specs.Tested.{roomsOf}
 use Rattle.calls.specs.WriteLaws.{write-stops}
 use Rattle.writes.specs.Leaves.{good-limits, leaves-short, leaves-written}
+use mathlib.Core.Path.{sym}
 use native.Mathlib.Omega.{arith}
+use lib.Seq.{length-take-le}
 use borrow.Author.Needs.{needs}
 use Rattle.writes.proofs.write.Statement.{statement}
 use Rattle.writes.proofs.write.Tie as tie
@@ -30,6 +32,14 @@ returns-2 c =
     let a = c .before .before .before .before .before .before .before .before .before .before .before .args in
     let l = roomsOf (a .labels .now) (a .equations .now) (a .values .now) (a .marks .now) (a .moves .now) in
     leaves-short (a .session) l (a .out .now) (c .before .before .before .before .session-refusal .result) (c .before .before .before .before .session-refusal .ensures) (c .before .before .enum-told .given .1) (c .before .spelled-length .result) (c .before .spelled-length .ensures) (omega arith)
+
+slice-relend-prefix-write-model : tie.Need-slice-relend-prefix-write-model
+slice-relend-prefix-write-model c = search needs
+
+slice-aggregate-write-model : tie.Need-slice-aggregate-write-model
+slice-aggregate-write-model c =
+    let a = c .before .before .before .before .before .before .before .before .before .before .before .before .args in
+    sym (length-take-le _ (a .out .now) (omega arith))
 
 cast-write-model : tie.Need-cast-write-model
 cast-write-model c = search needs
@@ -59,6 +69,8 @@ write-spec =
     enum-told
     spelled-length-requires
     returns-2
+    slice-relend-prefix-write-model
+    slice-aggregate-write-model
     cast-write-model
     write-model-requires
     same-length
