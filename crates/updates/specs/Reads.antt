@@ -1,12 +1,13 @@
--- A batch that was read into a room of 64 places: the first places, taken back as changes, are its changes. Assumes nothing.
+-- A batch that was read into a room of at least 64 places: the first places, taken back as changes, are its changes.
+-- Assumes nothing.
 use mathlib.Core.Path.{_≡_, refl, sym, ap, ap₂, _∙_, subst}
 use mathlib.Core.Bool.{Bool, true, false}
 use mathlib.Core.List.{List, [], _∷_, map}
 use Prim.Native.Nat.{ℕ, suc, _+_, _*_, _/_, _%_, _≤_, _<_}
 use native.Mathlib.Nat.{zero-add}
 use native.Mathlib.Omega.{arith}
-use lib.ListN.{length, getD, take, drop, replicate, length-map}
-use lib.Seq.{sets, sets-eq, take-at}
+use lib.ListN.{length, getD, take, drop, length-map}
+use lib.Seq.{sets, sets-eq, length-sets, take-at}
 use lib.Dec.{eqb}
 use Rattle.lists.specs.Lists.{bit}
 use Rattle.lists.specs.Tests.{and-is, leb-is}
@@ -57,14 +58,15 @@ put-down n new room e h =
 
 module _ (z : Sizes) (bytes : List ℕ) (k : sizesOk z ≡ true) (y : AreBytes bytes) where
   -- Of a batch that was accepted the room holds the changes.
-  accepted-read : (b : Batch) (room : List ℕ) → readBatch z bytes ≡ accepted b → room ≡ sets (replicate 64 0) 0 (codesOf z (parts bytes))
+  accepted-read : (b : Batch) (before room : List ℕ) → readBatch z bytes ≡ accepted b → room ≡ sets before 0 (codesOf z (parts bytes)) → most-changes ≤ length room
       → WasRead z bytes (b .stamp) (length (b .changes)) room
-  accepted-read b room e r =
+  accepted-read b before room e r long =
       let g = simp and-is at (read-batch-spelling z k bytes b y e .0) in
       let n = leb-is (length (b .changes)) most-changes .0 (g .0 .1) in
-      let c : room ≡ sets (replicate 64 0) 0 (map changeCode (b .changes)) = r ∙ ap (sets (replicate 64 0) 0) (codes-accepted z bytes b e) in
+      let same = ap (λ (x : List ℕ). length x) r ∙ length-sets before 0 (codesOf z (parts bytes)) in
+      let c : room ≡ sets before 0 (map changeCode (b .changes)) = r ∙ ap (sets before 0) (codes-accepted z bytes b e) in
       let t : take (length (b .changes)) room ≡ map changeCode (b .changes) =
-      ap (take (length (b .changes))) c ∙ put-down (length (b .changes)) (map changeCode (b .changes)) (replicate 64 0) (length-map (b .changes) changeCode) n in
+      ap (take (length (b .changes))) c ∙ put-down (length (b .changes)) (map changeCode (b .changes)) before (length-map (b .changes) changeCode) (omega arith) in
       let s : changesOf (take (length (b .changes)) room) ≡ b .changes = ap changesOf t ∙ codes-back z (b .changes) k (g .1) in
       record {
         read = e ∙ ap (λ (cs : List Change). accepted (record { stamp = b .stamp; changes = cs })) (sym s);
@@ -73,14 +75,15 @@ module _ (z : Sizes) (bytes : List ℕ) (k : sizesOk z ≡ true) (y : AreBytes b
       }
 
   -- Where the reading says so.
-  pub good-read : (r : ReadBatch) (room : List ℕ) (stamp n : ℕ) → ReadInto z bytes (replicate 64 0) r room → r ≡ B.Good stamp n → WasRead z bytes stamp n room
-  good-read r room stamp n i e = go (readBatch z bytes) refl (sym (ap batchSays e) ∙ i .says)
+  pub good-read : (before : List ℕ) (r : ReadBatch) (room : List ℕ) (stamp n : ℕ) → ReadInto z bytes before r room → most-changes ≤ length room → r ≡ B.Good stamp n
+      → WasRead z bytes stamp n room
+  good-read before r room stamp n i long e = go (readBatch z bytes) refl (sym (ap batchSays e) ∙ i .says)
     where
       go : (o : Outcome Batch) → readBatch z bytes ≡ o → accepted (record { stamp = stamp; changes = n }) ≡ summary o → WasRead z bytes stamp n room
       go (refused w p) q h = absurd (never (sym h))
       go (accepted b) q h =
           let f : _≡_ {A = Summary} (record { stamp = stamp; changes = n }) (record { stamp = b .stamp; changes = length (b .changes) }) = cc in
-          subst (λ (x : Summary). WasRead z bytes (x .stamp) (x .changes) room) (sym f) (accepted-read b room q (i .holds))
+          subst (λ (x : Summary). WasRead z bytes (x .stamp) (x .changes) room) (sym f) (accepted-read b before room q (i .holds) long)
 
 -- A refusal of the code's reading is the rule's.
 pub bad-read : (z : Sizes) (bytes t : List ℕ) (r : ReadBatch) (room : List ℕ) (why : Refusal) (at : ℕ) → ReadInto z bytes t r room → r ≡ B.Refused why at

@@ -27,7 +27,9 @@ load-values-requires c κs =
     let h = c .before .before .before .before .before .before .before .before .before .before .before .before .before .before .read-model .ensures in
     let g = c .before .before .before .before .before .before .found2 .given in
     let f = found l s y _ _ h (g .0 .0) (g .0 .1 .0) (g .1) in
-    (f .drawn, (f .values-room, f .marks-room))
+    let v = f .values-room in
+    let k = f .marks-room in
+    (f .drawn, (omega (arith, v, k), omega (arith, v, k)))
 
 stamp-of-requires : tie.Need-stamp-of-requires
 stamp-of-requires c κs = search needs

@@ -1,8 +1,9 @@
 -- `spell::write_move` meets its contract. Assumes nothing.
 use mathlib.Core.Path.{_≡_}
-use Prim.Native.Nat.{suc, _+_}
+use Prim.Native.Nat.{suc, _+_, _%_}
 use native.Mathlib.Omega.{arith}
 use borrow.Author.Needs.{needs}
+use Rattle.rules.specs.Moves.{action}
 use Rattle.rules.specs.Records.{widths}
 use Rattle.spell.proofs.write_move.Statement.{statement}
 use Rattle.spell.proofs.write_move.Tie as tie
@@ -34,9 +35,15 @@ put2-requires c κs = search needs
 same-length : tie.Need-same-length
 same-length c = search needs
 
+-- The byte of the action is told apart first; the rest is put together from what the callees ensure.
 returns : tie.Need-returns
 unfolding widths
-returns c = let a = c .before .before .before .before .before .before .before .before .before .before .before .before .before .before .args in let e : a .at + 4 ≡ suc (suc (suc (suc (a .at)))) = omega arith in cc
+returns c =
+    let at-action = c .before .before .before .before .before .before .before .before .before in
+    let a = at-action .before .before .before .before .before .args in
+    let third : at-action .low3 .result ≡ action (a .q) % 256 = at-action .low3 .ensures in
+    let e : a .at + 4 ≡ suc (suc (suc (suc (a .at)))) = omega arith in
+    cc
 
 pub write-move-spec : {M : Type 1} → statement M
 write-move-spec =

@@ -3,7 +3,9 @@ use Rattle.updates.specs.Reports.{bytes-good, bytes-bad}
 use Rattle.laws.specs.RecordLaws.{are-bytes}
 use Rattle.updates.specs.Reads.{good-read, bad-read}
 use Rattle.updates.specs.Moving.{sane-sizes}
-use lib.ListN.{length-replicate}
+use Prim.Native.Nat.{_≤_}
+use lib.ListN.{length, length-replicate}
+use Rattle.rules.specs.Limits.{most-changes}
 use native.Mathlib.Omega.{arith}
 use mathlib.Core.Path.{_∙_}
 use Rattle.sessions.specs.Tested.{roomsOf}
@@ -31,8 +33,10 @@ judge-on-requires c κs =
     let s = c .before .before .before .before .before .before .before .before .before .before .before .before .before .before .before .before in
     let a = s .args in
     let l = roomsOf (a .labels .now) (a .equations .now) (a .values .now) (a .marks .now) (a .moves .now) in
-    let w = good-read (a .session .sizes) (a .bytes .now) (sane-sizes (a .session) l (s .pre)) (are-bytes (a .bytes .now) (λ i. omega (arith, c .before .before .before .before .before .before .before .before .before .before .before .before .before .before .before .shared-slice-known .given i))) _ _ _ _ (c .before .before .before .before .before .before .before .before .read-batch .ensures) (c .before .before .before .before .before .read2 .given .1) in
-    let k = simp length-replicate at (c .before .before .before .before .before .before .before .before .read-batch .kept) in
+    let at-read = c .before .before .before .before .before .before .before .before in
+    let k = simp length-replicate at (at-read .read-batch .kept) in
+    let long : most-changes ≤ length (at-read .read-batch .last .1 .1 .0) = omega (arith, k) in
+    let w = good-read (a .session .sizes) (a .bytes .now) (sane-sizes (a .session) l (s .pre)) (are-bytes (a .bytes .now) (λ i. omega (arith, c .before .before .before .before .before .before .before .before .before .before .before .before .before .before .before .shared-slice-known .given i))) _ _ _ _ _ (at-read .read-batch .ensures) long (c .before .before .before .before .before .read2 .given .1) in
     (s .pre, ((w .few, omega (arith, k, w .few)), w .in-range))
 
 returns : tie.Need-returns
@@ -56,7 +60,10 @@ returns-2 c =
     let s = c .before .before .before .before .before .before .before .before .before .before .before .before .before .before .before .before .before .before .before .before .before .before .before in
     let a = s .args in
     let l = roomsOf (a .labels .now) (a .equations .now) (a .values .now) (a .marks .now) (a .moves .now) in
-    let w = good-read (a .session .sizes) (a .bytes .now) (sane-sizes (a .session) l (s .pre)) (are-bytes (a .bytes .now) (λ i. omega (arith, c .before .before .before .before .before .before .before .before .before .before .before .before .before .before .before .before .before .before .before .before .before .before .shared-slice-known .given i))) _ _ _ _ (c .before .before .before .before .before .before .before .before .before .before .before .before .before .before .before .read-batch .ensures) (c .before .before .before .before .before .before .before .before .before .before .before .before .read2 .given .1) in
+    let at-read = c .before .before .before .before .before .before .before .before .before .before .before .before .before .before .before in
+    let k = simp length-replicate at (at-read .read-batch .kept) in
+    let long : most-changes ≤ length (at-read .read-batch .last .1 .1 .0) = omega (arith, k) in
+    let w = good-read (a .session .sizes) (a .bytes .now) (sane-sizes (a .session) l (s .pre)) (are-bytes (a .bytes .now) (λ i. omega (arith, c .before .before .before .before .before .before .before .before .before .before .before .before .before .before .before .before .before .before .before .before .before .before .shared-slice-known .given i))) _ _ _ _ _ (at-read .read-batch .ensures) long (c .before .before .before .before .before .before .before .before .before .before .before .before .read2 .given .1) in
     c .before .before .before .before .before .before .judge-on .ensures ∙ bytes-good (a .session) l (a .bytes .now) _ (w .read)
 
 pub read-on-spec : {M : Type 1} → statement M
