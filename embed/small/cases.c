@@ -1,5 +1,5 @@
-/* The bench cases A to F of document 01 on a 32-bit machine, with rooms that are exactly long enough, and each room once one
-   place too short. Says what is not as it should be, and how much stack each call took; the exit status is 1 where something
+/* The bench cases A to F of document 01 on a 32-bit machine, with rooms that are exactly long enough, and each room but the
+   moves' once one place too short. Says what is not as it should be, and how much stack each call took; the exit status is 1 where something
    is not. */
 #include "rooms.h"
 
