@@ -1,9 +1,15 @@
 /* Huepaxochi for C: a proved checker of modal mu-calculus equations over a table of moves, kept current while moves are
-   inserted and deleted. Link target/native/libhuepaxochi.a, which tools/native builds. It allocates nothing, keeps nothing
-   between calls, and calls nothing but memset and the like of the C library. It takes about 20 kB of stack.
+   inserted and deleted. Link target/native/libhuepaxochi.a, which tools/native builds for this machine; `tools/native TARGET`
+   builds target/native/TARGET/libhuepaxochi.a for another one, such as thumbv7m-none-eabi. It allocates nothing, keeps nothing
+   between calls, and calls nothing but memset and the like of the C library and, on 32-bit machines, the 64-bit division of
+   the compiler's run-time library. Load and batch take at most 22,000 bytes of stack and write and ask at most 1,000, as
+   measured for a Cortex-M3 and 32-bit RISC-V (embed/test32).
 
-   Every room is passed as a pointer and its length in ELEMENTS, not in bytes. A caller owes this, and nothing else:
-   - a pointer is not null and is aligned for its elements, also where the length is 0 (any aligned address will do then);
+   Every room is passed as a pointer and its length in ELEMENTS, not in bytes. A length has 64 bits on every machine, also where
+   size_t has 32, because the compiled code has one width of length for all machines; a size_t that is passed is widened by the
+   declarations below. A caller owes this, and nothing else:
+   - a pointer is not null and is aligned for its elements (the report's to 8 bytes), also where the length is 0 (any aligned
+     address will do then);
    - that many elements are there and were written once, and a room that is not const may be written;
    - a room that is not const overlaps no other room of the same call, and no other thread touches it meanwhile; nothing
      changes a const room meanwhile.
@@ -40,7 +46,6 @@
 #ifndef HUEPAXOCHI_H
 #define HUEPAXOCHI_H
 
-#include <stddef.h>
 #include <stdint.h>
 
 #ifdef __cplusplus
@@ -63,28 +68,28 @@ static inline uint32_t huepaxochi_told(uint64_t answer) { return (uint32_t)(answ
 
 /* Reads a model, finds the value of every pair, clears the marks and writes the session. What the rooms held before does not
    matter. Accepted, the high 32 bits are 0. */
-uint64_t huepaxochi_load(const uint8_t *bytes, size_t bytes_len, uint32_t *session, size_t session_len, uint32_t *labels,
-                         size_t labels_len, uint32_t *equations, size_t equations_len, uint8_t *values, size_t values_len,
-                         uint8_t *marks, size_t marks_len, uint32_t *moves, size_t moves_len);
+uint64_t huepaxochi_load(const uint8_t *bytes, uint64_t bytes_len, uint32_t *session, uint64_t session_len, uint32_t *labels,
+                         uint64_t labels_len, uint32_t *equations, uint64_t equations_len, uint8_t *values,
+                         uint64_t values_len, uint8_t *marks, uint64_t marks_len, uint32_t *moves, uint64_t moves_len);
 
 /* Applies a batch of inserts and deletes: moves, values, marks and session follow. Accepted, the high 32 bits are 0 and the
    report is: shift visits, settle visits, net change in the number of true pairs. */
-uint64_t huepaxochi_batch(uint32_t *session, size_t session_len, const uint8_t *bytes, size_t bytes_len, const uint32_t *labels,
-                          size_t labels_len, const uint32_t *equations, size_t equations_len, uint8_t *values,
-                          size_t values_len, uint8_t *marks, size_t marks_len, uint32_t *moves, size_t moves_len,
-                          int64_t *report, size_t report_len);
+uint64_t huepaxochi_batch(uint32_t *session, uint64_t session_len, const uint8_t *bytes, uint64_t bytes_len,
+                          const uint32_t *labels, uint64_t labels_len, const uint32_t *equations, uint64_t equations_len,
+                          uint8_t *values, uint64_t values_len, uint8_t *marks, uint64_t marks_len, uint32_t *moves,
+                          uint64_t moves_len, int64_t *report, uint64_t report_len);
 
 /* Writes the model that the session holds, as load reads it, into the front of out. Accepted, the high 32 bits are the number
    of bytes written. */
-uint64_t huepaxochi_write(const uint32_t *session, size_t session_len, const uint32_t *labels, size_t labels_len,
-                          const uint32_t *equations, size_t equations_len, const uint8_t *values, size_t values_len,
-                          const uint8_t *marks, size_t marks_len, const uint32_t *moves, size_t moves_len, uint8_t *out,
-                          size_t out_len);
+uint64_t huepaxochi_write(const uint32_t *session, uint64_t session_len, const uint32_t *labels, uint64_t labels_len,
+                          const uint32_t *equations, uint64_t equations_len, const uint8_t *values, uint64_t values_len,
+                          const uint8_t *marks, uint64_t marks_len, const uint32_t *moves, uint64_t moves_len, uint8_t *out,
+                          uint64_t out_len);
 
 /* The value of one pair. Accepted, the high 32 bits are 1 for true and 0 for false. It looks at the sizes and at one byte of
    the values, no more. */
-uint64_t huepaxochi_ask(const uint32_t *session, size_t session_len, const uint8_t *values, size_t values_len, uint16_t state,
-                        uint8_t variable);
+uint64_t huepaxochi_ask(const uint32_t *session, uint64_t session_len, const uint8_t *values, uint64_t values_len,
+                        uint16_t state, uint8_t variable);
 
 #ifdef __cplusplus
 }

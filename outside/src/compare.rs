@@ -8,6 +8,7 @@ use reference::generate::{generate, generate_family, Family};
 
 use crate::boundary::Boundary;
 use crate::case::{run, Case};
+use crate::progress::Progress;
 use crate::tally::Tally;
 
 /// From how many seeds on every answer must have come at least once.
@@ -25,8 +26,8 @@ pub fn cases_of(seed: u64) -> [Case; 2] {
     })
 }
 
-/// Runs the cases of so many seeds from a first one on, on all processors. Gives the counts, and the lowest seed among those
-/// that were found to differ.
+/// Runs the cases of so many seeds from a first one on, on all processors, and tells how far it is. Gives the counts, and the
+/// lowest seed among those that were found to differ.
 pub fn compare(
     boundary: &(dyn Boundary + Sync),
     count: u64,
@@ -34,15 +35,21 @@ pub fn compare(
 ) -> (Tally, Option<Differed>) {
     let (next, total) = (AtomicU64::new(0), Mutex::new(Tally::default()));
     let differed = Mutex::new(None::<Differed>);
+    let progress = Mutex::new(Progress::begin());
     let workers = thread::available_parallelism().map_or(1, usize::from);
     thread::scope(|scope| {
         for _ in 0..workers {
             scope.spawn(|| {
-                let tally = work(boundary, count, first, &next, &differed);
+                let tell = |number| {
+                    let text = || format!("outside: {number} of {count} streams, no difference");
+                    progress.lock().unwrap().tell(text);
+                };
+                let tally = work(boundary, count, first, &next, &differed, &tell);
                 total.lock().unwrap().join(tally);
             });
         }
     });
+    progress.into_inner().unwrap().end();
     (total.into_inner().unwrap(), differed.into_inner().unwrap())
 }
 
@@ -54,6 +61,7 @@ fn work(
     first: u64,
     next: &AtomicU64,
     differed: &Mutex<Option<Differed>>,
+    tell: &dyn Fn(u64),
 ) -> Tally {
     let mut tally = Tally::default();
     while differed.lock().unwrap().is_none() {
@@ -61,6 +69,7 @@ fn work(
         if number >= count {
             break;
         }
+        tell(number);
         let seed = first.wrapping_add(number);
         for case in cases_of(seed) {
             if let Err(what) = run(boundary, &case, &mut tally) {

@@ -8,6 +8,7 @@ use reference::random::Random;
 use crate::boundary::Boundary;
 use crate::case::{run, Case};
 use crate::mutate::mutate;
+use crate::progress::Progress;
 use crate::tally::Tally;
 
 /// How many cases the corpus begins with, and the most that it holds.
@@ -78,7 +79,19 @@ fn change(random: &mut Random, cases: &[Case]) -> Case {
     changed
 }
 
-/// Runs changed cases until the time is over or one differs.
+/// How far a run is.
+fn so_far(found: &Found, taken: Duration, time: Duration) -> String {
+    format!(
+        "fuzz: {:.1} of {:.1} minutes, {} cases, {} calls, {} sorts of calls, no difference",
+        taken.as_secs_f64() / 60.0,
+        time.as_secs_f64() / 60.0,
+        found.cases,
+        found.tally.calls(),
+        found.tally.signs.len()
+    )
+}
+
+/// Runs changed cases until the time is over or one differs, and tells how far it is.
 pub fn fuzz(boundary: &dyn Boundary, time: Duration, seed: u64) -> Found {
     let start = Instant::now();
     let mut random = Random::new(seed);
@@ -91,7 +104,9 @@ pub fn fuzz(boundary: &dyn Boundary, time: Duration, seed: u64) -> Found {
     };
     let mut cases = corpus(seed);
     let mut waiting = cases.clone();
+    let mut progress = Progress::begin();
     while start.elapsed() < time && found.differed.is_none() {
+        progress.tell(|| so_far(&found, start.elapsed(), time));
         let case = waiting.pop().unwrap_or_else(|| change(&mut random, &cases));
         found.tally.fresh = 0;
         found.cases += 1;
@@ -101,6 +116,7 @@ pub fn fuzz(boundary: &dyn Boundary, time: Duration, seed: u64) -> Found {
             cases.push(case);
         }
     }
+    progress.end();
     found.corpus = cases.len();
     found.taken = start.elapsed();
     found

@@ -14,6 +14,7 @@ pub mod fuzz;
 pub mod left;
 pub mod mirror;
 pub mod mutate;
+pub mod progress;
 pub mod proved;
 pub mod rooms;
 pub mod tally;

@@ -19,7 +19,12 @@ const USAGE: &str = "usage: outside compare COUNT [SEED]
 /// Leaves a case behind and says where.
 fn tell(name: &str, case: &Case, what: &str) -> Result<(), String> {
     let left = leave(name, case, what).map_err(|error| error.to_string())?;
-    Err(format!("{name}: {what}\nthe stream is {}", left.display()))
+    Err(format!(
+        "{name}: DIFFERENT: {what}\nthe stream is kept in {}; run it again with: outside replay {} {}",
+        left.display(),
+        left.display(),
+        case.plan
+    ))
 }
 
 /// Compares over the streams of so many seeds.
@@ -36,10 +41,19 @@ fn run_compare(count: u64, seed: u64) -> Result<(), String> {
     Ok(())
 }
 
-/// Fuzzes for so many minutes.
-fn run_fuzz(minutes: f64, seed: u64) -> Result<(), String> {
-    println!("fuzz: {minutes} minutes from seed {seed}");
-    let found = fuzz(&Proved, Duration::from_secs_f64(60.0 * minutes), seed);
+/// The time of so many minutes.
+fn minutes(text: &str) -> Option<Duration> {
+    let minutes: f64 = text.parse().ok()?;
+    Duration::try_from_secs_f64(60.0 * minutes).ok()
+}
+
+/// Fuzzes for some time.
+fn run_fuzz(time: Duration, seed: u64) -> Result<(), String> {
+    println!(
+        "fuzz: {} minutes from seed {seed}",
+        time.as_secs_f64() / 60.0
+    );
+    let found = fuzz(&Proved, time, seed);
     let seconds = found.taken.as_secs_f64();
     println!(
         "fuzz: {} cases, {:.0} calls a second, {} sorts of calls, {} cases kept, in {seconds:.0} seconds: {}",
@@ -51,7 +65,10 @@ fn run_fuzz(minutes: f64, seed: u64) -> Result<(), String> {
     );
     match found.differed {
         Some((case, what)) => tell(&format!("fuzz-{seed}-{}", found.cases), &case, &what),
-        None => Ok(()),
+        None => {
+            println!("fuzz: no difference between the library and the second program");
+            Ok(())
+        }
     }
 }
 
@@ -70,8 +87,8 @@ fn act(arguments: &[&str]) -> Option<Result<(), String>> {
     Some(match arguments {
         ["compare", count] => run_compare(seed(count)?, 0),
         ["compare", count, first] => run_compare(seed(count)?, seed(first)?),
-        ["fuzz", minutes] => run_fuzz(minutes.parse().ok()?, 0),
-        ["fuzz", minutes, first] => run_fuzz(minutes.parse().ok()?, seed(first)?),
+        ["fuzz", time] => run_fuzz(minutes(time)?, 0),
+        ["fuzz", time, first] => run_fuzz(minutes(time)?, seed(first)?),
         ["replay", stream, plan] => replay(stream, seed(plan)?),
         _ => return None,
     })

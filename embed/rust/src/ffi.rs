@@ -4,64 +4,67 @@
 //! What the calls ask of a caller is what a Rust slice is: a pointer that is not null and is aligned, also where the slice is
 //! empty, so many elements behind it, all written, and nobody else at a `&mut` slice. For any such slices each call ends and
 //! its answer and what it leaves are proved, so the functions here have no conditions of their own.
+//!
+//! A length has 64 bits on every machine, also where `usize` has 32, because the compiled code has one width of length for all
+//! machines. `as u64` loses nothing: no `usize` is wider.
 
 mod raw {
     extern "C" {
         pub fn huepaxochi_load(
             bytes: *const u8,
-            bytes_len: usize,
+            bytes_len: u64,
             session: *mut u32,
-            session_len: usize,
+            session_len: u64,
             labels: *mut u32,
-            labels_len: usize,
+            labels_len: u64,
             equations: *mut u32,
-            equations_len: usize,
+            equations_len: u64,
             values: *mut u8,
-            values_len: usize,
+            values_len: u64,
             marks: *mut u8,
-            marks_len: usize,
+            marks_len: u64,
             moves: *mut u32,
-            moves_len: usize,
+            moves_len: u64,
         ) -> u64;
         pub fn huepaxochi_batch(
             session: *mut u32,
-            session_len: usize,
+            session_len: u64,
             bytes: *const u8,
-            bytes_len: usize,
+            bytes_len: u64,
             labels: *const u32,
-            labels_len: usize,
+            labels_len: u64,
             equations: *const u32,
-            equations_len: usize,
+            equations_len: u64,
             values: *mut u8,
-            values_len: usize,
+            values_len: u64,
             marks: *mut u8,
-            marks_len: usize,
+            marks_len: u64,
             moves: *mut u32,
-            moves_len: usize,
+            moves_len: u64,
             report: *mut i64,
-            report_len: usize,
+            report_len: u64,
         ) -> u64;
         pub fn huepaxochi_write(
             session: *const u32,
-            session_len: usize,
+            session_len: u64,
             labels: *const u32,
-            labels_len: usize,
+            labels_len: u64,
             equations: *const u32,
-            equations_len: usize,
+            equations_len: u64,
             values: *const u8,
-            values_len: usize,
+            values_len: u64,
             marks: *const u8,
-            marks_len: usize,
+            marks_len: u64,
             moves: *const u32,
-            moves_len: usize,
+            moves_len: u64,
             out: *mut u8,
-            out_len: usize,
+            out_len: u64,
         ) -> u64;
         pub fn huepaxochi_ask(
             session: *const u32,
-            session_len: usize,
+            session_len: u64,
             values: *const u8,
-            values_len: usize,
+            values_len: u64,
             state: u16,
             variable: u8,
         ) -> u64;
@@ -82,19 +85,19 @@ pub fn load(
     unsafe {
         raw::huepaxochi_load(
             bytes.as_ptr(),
-            bytes.len(),
+            bytes.len() as u64,
             session.as_mut_ptr(),
-            session.len(),
+            session.len() as u64,
             labels.as_mut_ptr(),
-            labels.len(),
+            labels.len() as u64,
             equations.as_mut_ptr(),
-            equations.len(),
+            equations.len() as u64,
             values.as_mut_ptr(),
-            values.len(),
+            values.len() as u64,
             marks.as_mut_ptr(),
-            marks.len(),
+            marks.len() as u64,
             moves.as_mut_ptr(),
-            moves.len(),
+            moves.len() as u64,
         )
     }
 }
@@ -116,21 +119,21 @@ pub fn batch(
     unsafe {
         raw::huepaxochi_batch(
             session.as_mut_ptr(),
-            session.len(),
+            session.len() as u64,
             bytes.as_ptr(),
-            bytes.len(),
+            bytes.len() as u64,
             labels.as_ptr(),
-            labels.len(),
+            labels.len() as u64,
             equations.as_ptr(),
-            equations.len(),
+            equations.len() as u64,
             values.as_mut_ptr(),
-            values.len(),
+            values.len() as u64,
             marks.as_mut_ptr(),
-            marks.len(),
+            marks.len() as u64,
             moves.as_mut_ptr(),
-            moves.len(),
+            moves.len() as u64,
             report.as_mut_ptr(),
-            report.len(),
+            report.len() as u64,
         )
     }
 }
@@ -150,19 +153,19 @@ pub fn write(
     unsafe {
         raw::huepaxochi_write(
             session.as_ptr(),
-            session.len(),
+            session.len() as u64,
             labels.as_ptr(),
-            labels.len(),
+            labels.len() as u64,
             equations.as_ptr(),
-            equations.len(),
+            equations.len() as u64,
             values.as_ptr(),
-            values.len(),
+            values.len() as u64,
             marks.as_ptr(),
-            marks.len(),
+            marks.len() as u64,
             moves.as_ptr(),
-            moves.len(),
+            moves.len() as u64,
             out.as_mut_ptr(),
-            out.len(),
+            out.len() as u64,
         )
     }
 }
@@ -173,9 +176,9 @@ pub fn ask(session: &[u32], values: &[u8], state: u16, variable: u8) -> u64 {
     unsafe {
         raw::huepaxochi_ask(
             session.as_ptr(),
-            session.len(),
+            session.len() as u64,
             values.as_ptr(),
-            values.len(),
+            values.len() as u64,
             state,
             variable,
         )
