@@ -1,5 +1,5 @@
 -- What the code holds of a model half read, as the rules have it. Definitions only.
-use Prim.Native.Nat.{_+_, _≤_}
+use Prim.Native.Nat.{_+_, _*_, _≤_}
 use Rattle.rules.specs.Answers.{numberOf}
 use Rattle.rules.specs.Load.{Sofar, State, inside}
 use Rattle.rules.specs.Records.{Turn, no, next, over}
@@ -23,7 +23,7 @@ judgedSays (J.Refused e) = no (numberOf e)
 judgedSays (J.Next y) = next (inside (sofarOf y))
 judgedSays J.Over = over
 
--- What holds of every state on the way: no number grows past its limit.
+-- What holds of every state on the way: no number grows past its limit, and equations are due only after a block record.
 pub record Kept (x : Sofar) : Type 0 where
   pub states : x .sizes .states ≤ 256
   pub actions : x .sizes .actions ≤ 16
@@ -33,4 +33,5 @@ pub record Kept (x : Sofar) : Type 0 where
   pub count : x .blocks .count ≤ x .sizes .blocks
   pub kind : x .blocks .kind ≤ 1
   pub equations : x .blocks .equations + x .blocks .due ≤ x .sizes .variables
+  pub begun : x .blocks .due ≤ 32 * x .blocks .count
   pub moves : x .moves .count ≤ 1024

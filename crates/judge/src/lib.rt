@@ -80,15 +80,16 @@ fn block_fits(x: Progress, n: u8) -> bool
     (0 < n) & (all <= variables) & (more | (all == variables))
 }
 
-// A block: due where no equation is and blocks are left; its variables fit; its kind is 0 or 1.
+// A block, where no equation is due: due where blocks are left; its variables fit; its kind is 0 or 1.
 fn on_block(x: Progress, k: u8, n: u8) -> Judged
     requires { ⌜ Kept (sofarOf x) ⌝ }
+    requires { ⌜ x .blocks .due ≡ 0 ⌝ }
     ensures { λ r. ⌜ judgedSays r ≡ go (blockDemands (sofarOf x) k n) (afterBlock (sofarOf x) k n) ⌝ }
 {
     let z = x.sizes;
     let blocks = x.blocks;
     let moves = x.moves;
-    if !((blocks.due == 0) & (blocks.count < z.blocks as u32)) {
+    if !(blocks.count < z.blocks as u32) {
         return Judged::Refused(Refusal::NotDue);
     }
     if !block_fits(x, n) {
@@ -110,17 +111,15 @@ fn on_block(x: Progress, k: u8, n: u8) -> Judged
     })
 }
 
-// An equation: due inside a block; its numbers in range; it names no variable of a later block.
+// An equation, where one is due: its numbers in range; it names no variable of a later block.
 fn on_equation(x: Progress, o: u8, a: u8, b: u8) -> Judged
     requires { ⌜ Kept (sofarOf x) ⌝ }
+    requires { ⌜ 0 < x .blocks .due ⌝ }
     ensures { λ r. ⌜ judgedSays r ≡ go (equationDemands (sofarOf x) o a b) (afterEquation (sofarOf x)) ⌝ }
 {
     let z = x.sizes;
     let blocks = x.blocks;
     let moves = x.moves;
-    if !(0 < blocks.due) {
-        return Judged::Refused(Refusal::NotDue);
-    }
     if !limits::operands_ok(z, o, a, b) {
         return Judged::Refused(Refusal::BadNumber);
     }
@@ -143,15 +142,17 @@ fn on_equation(x: Progress, o: u8, a: u8, b: u8) -> Judged
     })
 }
 
-// Whether moves and the end are due: after the last equation.
+// Whether moves and the end are due, where no equation is: after the last block.
 fn moves_due(x: Progress) -> bool
+    requires { ⌜ x .blocks .due ≡ 0 ⌝ }
     ensures { λ r. ⌜ r ≡ movesDue (sofarOf x) ⌝ }
 {
-    (x.blocks.due == 0) & (x.blocks.count == x.sizes.blocks as u32)
+    x.blocks.count == x.sizes.blocks as u32
 }
 
-// A move: due after the last equation; in range; in order; and there is room for it.
+// A move, where no equation is due: due after the last block; in range; in order; and there is room for it.
 fn on_move(l: Lent, x: Progress, m: Move) -> Judged
+    requires { ⌜ x .blocks .due ≡ 0 ⌝ }
     ensures { λ r. ⌜ judgedSays r ≡ go (moveDemands (lengthsBy l) (sofarOf x) (m .source .0) (m .action .0) (m .target .0)) (afterMove (sofarOf x) (pack (m .source .0) (m .action .0) (m .target .0))) ⌝ }
 {
     let z = x.sizes;
@@ -183,6 +184,7 @@ fn on_move(l: Lent, x: Progress, m: Move) -> Judged
 
 // The end: due where moves are.
 fn on_end(x: Progress) -> Judged
+    requires { ⌜ x .blocks .due ≡ 0 ⌝ }
     ensures { λ r. ⌜ judgedSays r ≡ demand (endDemands (sofarOf x)) over ⌝ }
 {
     if !moves_due(x) {
@@ -191,19 +193,33 @@ fn on_end(x: Progress) -> Judged
     Judged::Over
 }
 
-// One record after the sizes. Sizes, stamps, inserts and deletes are never due there.
-pub fn judge_record(l: Lent, x: Progress, rec: Record) -> Judged
+// One record where no equation is due: a label, a block, a move or the end. No other is due there.
+fn on_other(l: Lent, x: Progress, rec: Record) -> Judged
     requires { ⌜ Kept (sofarOf x) ⌝ }
+    requires { ⌜ x .blocks .due ≡ 0 ⌝ }
     ensures { λ r. ⌜ judgedSays r ≡ step (lengthsBy l) (inside (sofarOf x)) (numbersOf rec) ⌝ }
 {
     match rec {
         Record::Label(s, v) => on_label(x, s, v),
         Record::Block(k, n) => on_block(x, k, n),
-        Record::Equation(o, a, b) => on_equation(x, o, a, b),
         Record::Move(m) => on_move(l, x, m),
         Record::End => on_end(x),
         _ => Judged::Refused(Refusal::NotDue),
     }
+}
+
+// One record after the sizes: inside a block an equation and nothing else, elsewhere another.
+pub fn judge_record(l: Lent, x: Progress, rec: Record) -> Judged
+    requires { ⌜ Kept (sofarOf x) ⌝ }
+    ensures { λ r. ⌜ judgedSays r ≡ step (lengthsBy l) (inside (sofarOf x)) (numbersOf rec) ⌝ }
+{
+    if x.blocks.due == 0 {
+        return on_other(l, x, rec);
+    }
+    let Record::Equation(o, a, b) = rec else {
+        return Judged::Refused(Refusal::NotDue);
+    };
+    on_equation(x, o, a, b)
 }
 
 // What reading a model comes to: a refusal with its place, or the sizes and the number of moves.
