@@ -23,11 +23,12 @@ judgedSays (J.Refused e) = no (numberOf e)
 judgedSays (J.Next y) = next (inside (sofarOf y))
 judgedSays J.Over = over
 
--- What holds of every state on the way: no number grows past its limit, and equations are due only after a block record.
+-- What holds of every state on the way: no number grows past its limit, and equations are due only once a block has begun.
 pub record Kept (x : Sofar) : Type 0 where
   pub states : x .sizes .states ≤ 256
   pub actions : x .sizes .actions ≤ 16
   pub variables : x .sizes .variables ≤ 32
+  pub some-blocks : 1 ≤ x .sizes .blocks
   pub most-blocks : x .sizes .blocks ≤ 8
   pub labels : x .labels ≤ x .sizes .states
   pub count : x .blocks .count ≤ x .sizes .blocks

@@ -2,12 +2,12 @@
 use native.Mathlib.Omega.{arith}
 use borrow.Author.Needs.{needs}
 use Rattle.rules.specs.Load.{step}
-use Rattle.judge.specs.Demands.{equation-only}
+use Rattle.judge.specs.Due.{equation-only}
 use Rattle.judge.proofs.judge_record.Statement.{statement}
 use Rattle.judge.proofs.judge_record.Tie as tie
 
-on-other-requires : tie.Need-on-other-requires
-on-other-requires c κs = search needs
+outside-block-requires : tie.Need-outside-block-requires
+outside-block-requires c κs = search needs
 
 returns : tie.Need-returns
 returns c = search needs
@@ -28,4 +28,4 @@ returns-3 c = rw (c .before .before .rec .given .1) (c .on-equation .ensures)
 pub judge-record-spec : {M : Type 1} → statement M
 judge-record-spec =
     tie.close
-    (tie.spec on-other-requires returns enum-known-rec returns-2 on-equation-requires returns-3)
+    (tie.spec outside-block-requires returns enum-known-rec returns-2 on-equation-requires returns-3)

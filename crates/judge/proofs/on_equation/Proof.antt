@@ -1,13 +1,11 @@
 -- `judge::on_equation` meets its contract. Assumes nothing.
-use mathlib.Core.Path.{ap}
-use mathlib.Core.Bool.{not}
 use native.Mathlib.Numerals.{add-one}
-use borrow.Author.Tests.{lt-ltb}
 use borrow.Author.Needs.{needs}
 use Rattle.rules.specs.Records.{next}
 use Rattle.rules.specs.Load.{inside, equationDemands, afterEquation}
 use Rattle.judge.specs.Progress.{sofarOf}
 use Rattle.judge.specs.Demands.{fails, meets}
+use Rattle.judge.specs.Due.{equation-due}
 use Rattle.judge.proofs.on_equation.Statement.{statement}
 use Rattle.judge.proofs.on_equation.Tie as tie
 
@@ -19,7 +17,7 @@ returns c =
     let s = c .before .before .before .before .before in
     let a = s .args in
     let x = sofarOf (a .x) in
-    fails 1 (equationDemands x (a .o) (a .a) (a .b)) (next (inside (afterEquation x))) (ap not (lt-ltb 0 (x .blocks .due) (s .pre .1)), rw (c .before .operands-ok .ensures) at (c .if1 .taken))
+    fails 1 (equationDemands x (a .o) (a .a) (a .b)) (next (inside (afterEquation x))) (equation-due x (s .pre .1), rw (c .before .operands-ok .ensures) at (c .if1 .taken))
 
 add-end : tie.Need-add-end
 add-end c = search needs
@@ -35,7 +33,7 @@ returns-2 c =
     let s = c .before .before .before .before .before .before .before .before in
     let a = s .args in
     let x = sofarOf (a .x) in
-    fails 2 (equationDemands x (a .o) (a .a) (a .b)) (next (inside (afterEquation x))) (ap not (lt-ltb 0 (x .blocks .due) (s .pre .1)), (rw (c .before .before .before .before .operands-ok .ensures) at (c .before .before .before .if1 .left), rw (c .before .names-ok .ensures) at (c .if2 .taken)))
+    fails 2 (equationDemands x (a .o) (a .a) (a .b)) (next (inside (afterEquation x))) (equation-due x (s .pre .1), (rw (c .before .before .before .before .operands-ok .ensures) at (c .before .before .before .if1 .left), rw (c .before .names-ok .ensures) at (c .if2 .taken)))
 
 sub-due : tie.Need-sub-due
 sub-due c = search needs
@@ -48,7 +46,7 @@ returns-3 c =
     let s = c .before .before .before .before .before .before .before .before .before .before in
     let a = s .args in
     let x = sofarOf (a .x) in
-    rw add-one (meets (equationDemands x (a .o) (a .a) (a .b)) (next (inside (afterEquation x))) (ap not (lt-ltb 0 (x .blocks .due) (s .pre .1)), (rw (c .before .before .before .before .before .before .operands-ok .ensures) at (c .before .before .before .before .before .if1 .left), (rw (c .before .before .before .names-ok .ensures) at (c .before .before .if2 .left), tt))))
+    rw add-one (meets (equationDemands x (a .o) (a .a) (a .b)) (next (inside (afterEquation x))) (equation-due x (s .pre .1), (rw (c .before .before .before .before .before .before .operands-ok .ensures) at (c .before .before .before .before .before .if1 .left), (rw (c .before .before .before .names-ok .ensures) at (c .before .before .if2 .left), tt))))
 
 pub on-equation-spec : {M : Type 1} → statement M
 on-equation-spec =
