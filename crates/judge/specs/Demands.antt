@@ -6,16 +6,9 @@ use mathlib.Core.List.{List, [], _∷_}
 use Prim.Native.Nat.{ℕ, zero, suc, min}
 use native.Mathlib.Omega.{arith}
 use lib.Dec.{ltb}
-use types.Run.{OneOf, miss}
-use denote.Enum.Declared.{tagOf}
 use borrow.Author.Tests.{lt-ltb, ltb-true, ltb-false, not-true, not-false}
 use Rattle.lists.specs.Tests.{tell, and-is, and-in, no-way}
-use Rattle.rules.specs.Load.{Sofar, inside, step}
-use Rattle.rules.specs.Records.{Turn, no, demand, numbersOf}
-use Rattle.rules.specs.Rooms.{Lengths}
-use Rattle.rules.specs.declared.Record.{Record}
-use Rattle.rules.specs.declared.Record.the-variants as R
-use Rattle.rules.proofs.Record.{the-type}
+use Rattle.rules.specs.Records.{Turn, no, demand}
 
 -- The demands before number k were met, and k was not.
 abbrev pub Fails : ℕ → List (ℕ × Bool) → Type 0
@@ -54,16 +47,3 @@ below-both a b c =
           let h = ltb-false a (min b c) t in
           no-way _ (λ e. let k = and-is (ltb a b) (ltb a c) .0 e in let p = ltb-true a b (k .0) in let q = ltb-true a c (k .1) in omega arith) ∙ sym t
     ]
-
--- Sizes, stamps, inserts and deletes are not due after the sizes.
-pub not-due : (l : Lengths) (x : Sofar) (r : Record) → OneOf (0 ∷ 6 ∷ 7 ∷ 8 ∷ []) (tagOf the-type r) → no 2 ≡ step l (inside x) (numbersOf r)
-unfolding step
-not-due l x (R.Sizes a) m = refl
-not-due l x (R.Label a b) m = absurd (miss (0 ∷ 6 ∷ 7 ∷ 8 ∷ []) 1 tt m)
-not-due l x (R.Block a b) m = absurd (miss (0 ∷ 6 ∷ 7 ∷ 8 ∷ []) 2 tt m)
-not-due l x (R.Equation a b d) m = absurd (miss (0 ∷ 6 ∷ 7 ∷ 8 ∷ []) 3 tt m)
-not-due l x (R.Move a) m = absurd (miss (0 ∷ 6 ∷ 7 ∷ 8 ∷ []) 4 tt m)
-not-due l x R.End m = absurd (miss (0 ∷ 6 ∷ 7 ∷ 8 ∷ []) 5 tt m)
-not-due l x (R.Stamp a) m = refl
-not-due l x (R.Insert a) m = refl
-not-due l x (R.Delete a) m = refl

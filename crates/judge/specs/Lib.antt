@@ -1,4 +1,5 @@
 pub mod Progress
 pub mod Demands
+pub mod Due
 pub mod Turning
 pub mod TurnLaws

@@ -1,5 +1,5 @@
 -- What the code holds of a model half read, as the rules have it. Definitions only.
-use Prim.Native.Nat.{_+_, _≤_}
+use Prim.Native.Nat.{_+_, _*_, _≤_}
 use Rattle.rules.specs.Answers.{numberOf}
 use Rattle.rules.specs.Load.{Sofar, State, inside}
 use Rattle.rules.specs.Records.{Turn, no, next, over}
@@ -23,14 +23,16 @@ judgedSays (J.Refused e) = no (numberOf e)
 judgedSays (J.Next y) = next (inside (sofarOf y))
 judgedSays J.Over = over
 
--- What holds of every state on the way: no number grows past its limit.
+-- What holds of every state on the way: no number grows past its limit, and equations are due only once a block has begun.
 pub record Kept (x : Sofar) : Type 0 where
   pub states : x .sizes .states ≤ 256
   pub actions : x .sizes .actions ≤ 16
   pub variables : x .sizes .variables ≤ 32
+  pub some-blocks : 1 ≤ x .sizes .blocks
   pub most-blocks : x .sizes .blocks ≤ 8
   pub labels : x .labels ≤ x .sizes .states
   pub count : x .blocks .count ≤ x .sizes .blocks
   pub kind : x .blocks .kind ≤ 1
   pub equations : x .blocks .equations + x .blocks .due ≤ x .sizes .variables
+  pub begun : x .blocks .due ≤ 32 * x .blocks .count
   pub moves : x .moves .count ≤ 1024

@@ -1,9 +1,10 @@
 // A model on the wire, judged record by record.
 ghost use mathlib.Core.Path.{_≡_};
 ghost use Prim.Native.Nat.{_+_, _≤_, _<_};
-ghost use Rattle.rules.specs.Load.{before, inside, started, readModel, go, labelDemands, blockDemands, equationDemands, moveDemands, endDemands, afterLabel, afterBlock, afterEquation, afterMove, step, blockFits, movesDue};
+ghost use Rattle.rules.specs.Load.{before, inside, started, readModel, go, labelDemands, blockDemands, equationDemands, moveDemands, afterLabel, afterBlock, afterEquation, afterMove, step, blockFits};
 ghost use Rattle.rules.specs.Moves.{pack};
-ghost use Rattle.rules.specs.Records.{demand, over, numbersOf};
+ghost use Rattle.rules.specs.Records.{numbersOf};
+ghost use Rattle.rules.specs.Rooms.{Lengths};
 ghost use Rattle.limits.specs.Lent.{lengthsBy};
 ghost use Rattle.judge.specs.Progress.{sofarOf, judgedSays, Kept};
 ghost use Rattle.judge.specs.Turning.{readSays, summary, from, endTurn, Turned};
@@ -45,16 +46,14 @@ pub enum Judged {
     Over,
 }
 
-// A label: due before the first block; a state, a set that is not empty and not too high; in order.
+// A label, where labels are due: a state, a set that is not empty and not too high; in order.
 fn on_label(x: Progress, s: State, v: u32) -> Judged
+    requires { ⌜ x .blocks .count ≡ 0 ⌝ }
     ensures { λ r. ⌜ judgedSays r ≡ go (labelDemands (sofarOf x) (s .0) v) (afterLabel (sofarOf x) (s .0)) ⌝ }
 {
     let z = x.sizes;
     let blocks = x.blocks;
     let moves = x.moves;
-    if !(blocks.count == 0) {
-        return Judged::Refused(Refusal::NotDue);
-    }
     if !((s.0 < z.states) & (0 < v) & limits::label_ok(z, v)) {
         return Judged::Refused(Refusal::BadNumber);
     }
@@ -80,17 +79,15 @@ fn block_fits(x: Progress, n: u8) -> bool
     (0 < n) & (all <= variables) & (more | (all == variables))
 }
 
-// A block: due where no equation is and blocks are left; its variables fit; its kind is 0 or 1.
+// A block, where one is due: its variables fit; its kind is 0 or 1.
 fn on_block(x: Progress, k: u8, n: u8) -> Judged
     requires { ⌜ Kept (sofarOf x) ⌝ }
+    requires { ⌜ (x .blocks .due ≡ 0) × (x .blocks .count < x .sizes .blocks) ⌝ }
     ensures { λ r. ⌜ judgedSays r ≡ go (blockDemands (sofarOf x) k n) (afterBlock (sofarOf x) k n) ⌝ }
 {
     let z = x.sizes;
     let blocks = x.blocks;
     let moves = x.moves;
-    if !((blocks.due == 0) & (blocks.count < z.blocks as u32)) {
-        return Judged::Refused(Refusal::NotDue);
-    }
     if !block_fits(x, n) {
         return Judged::Refused(Refusal::BadSize);
     }
@@ -110,17 +107,15 @@ fn on_block(x: Progress, k: u8, n: u8) -> Judged
     })
 }
 
-// An equation: due inside a block; its numbers in range; it names no variable of a later block.
+// An equation, where one is due: its numbers in range; it names no variable of a later block.
 fn on_equation(x: Progress, o: u8, a: u8, b: u8) -> Judged
     requires { ⌜ Kept (sofarOf x) ⌝ }
+    requires { ⌜ 0 < x .blocks .due ⌝ }
     ensures { λ r. ⌜ judgedSays r ≡ go (equationDemands (sofarOf x) o a b) (afterEquation (sofarOf x)) ⌝ }
 {
     let z = x.sizes;
     let blocks = x.blocks;
     let moves = x.moves;
-    if !(0 < blocks.due) {
-        return Judged::Refused(Refusal::NotDue);
-    }
     if !limits::operands_ok(z, o, a, b) {
         return Judged::Refused(Refusal::BadNumber);
     }
@@ -143,24 +138,15 @@ fn on_equation(x: Progress, o: u8, a: u8, b: u8) -> Judged
     })
 }
 
-// Whether moves and the end are due: after the last equation.
-fn moves_due(x: Progress) -> bool
-    ensures { λ r. ⌜ r ≡ movesDue (sofarOf x) ⌝ }
-{
-    (x.blocks.due == 0) & (x.blocks.count == x.sizes.blocks as u32)
-}
-
-// A move: due after the last equation; in range; in order; and there is room for it.
+// A move, where moves are due: in range; in order; and there is room for it.
 fn on_move(l: Lent, x: Progress, m: Move) -> Judged
+    requires { ⌜ (x .blocks .due ≡ 0) × (x .blocks .count ≡ x .sizes .blocks) ⌝ }
     ensures { λ r. ⌜ judgedSays r ≡ go (moveDemands (lengthsBy l) (sofarOf x) (m .source .0) (m .action .0) (m .target .0)) (afterMove (sofarOf x) (pack (m .source .0) (m .action .0) (m .target .0))) ⌝ }
 {
     let z = x.sizes;
     let blocks = x.blocks;
     let count = x.moves.count as usize;
     let q = limits::packed(m);
-    if !moves_due(x) {
-        return Judged::Refused(Refusal::NotDue);
-    }
     if !limits::move_ok(z, m) {
         return Judged::Refused(Refusal::BadNumber);
     }
@@ -181,29 +167,62 @@ fn on_move(l: Lent, x: Progress, m: Move) -> Judged
     })
 }
 
-// The end: due where moves are.
-fn on_end(x: Progress) -> Judged
-    ensures { λ r. ⌜ judgedSays r ≡ demand (endDemands (sofarOf x)) over ⌝ }
-{
-    if !moves_due(x) {
-        return Judged::Refused(Refusal::NotDue);
-    }
-    Judged::Over
-}
-
-// One record after the sizes. Sizes, stamps, inserts and deletes are never due there.
-pub fn judge_record(l: Lent, x: Progress, rec: Record) -> Judged
+// Before the first block a label or a block is due.
+fn before_blocks(x: Progress, rec: Record) -> Judged
     requires { ⌜ Kept (sofarOf x) ⌝ }
-    ensures { λ r. ⌜ judgedSays r ≡ step (lengthsBy l) (inside (sofarOf x)) (numbersOf rec) ⌝ }
+    requires { ⌜ x .blocks .count ≡ 0 ⌝ }
+    ensures { λ r. ⌜ ((l : Lengths) → judgedSays r ≡ step l (inside (sofarOf x)) (numbersOf rec)) ⌝ }
 {
     match rec {
         Record::Label(s, v) => on_label(x, s, v),
         Record::Block(k, n) => on_block(x, k, n),
-        Record::Equation(o, a, b) => on_equation(x, o, a, b),
-        Record::Move(m) => on_move(l, x, m),
-        Record::End => on_end(x),
         _ => Judged::Refused(Refusal::NotDue),
     }
+}
+
+// After the last block a move or the end is due.
+fn after_blocks(l: Lent, x: Progress, rec: Record) -> Judged
+    requires { ⌜ Kept (sofarOf x) ⌝ }
+    requires { ⌜ (x .blocks .due ≡ 0) × (x .blocks .count ≡ x .sizes .blocks) ⌝ }
+    ensures { λ r. ⌜ judgedSays r ≡ step (lengthsBy l) (inside (sofarOf x)) (numbersOf rec) ⌝ }
+{
+    match rec {
+        Record::Move(m) => on_move(l, x, m),
+        Record::End => Judged::Over,
+        _ => Judged::Refused(Refusal::NotDue),
+    }
+}
+
+// Where no equation is due: between two blocks a block and nothing else.
+fn outside_block(l: Lent, x: Progress, rec: Record) -> Judged
+    requires { ⌜ Kept (sofarOf x) ⌝ }
+    requires { ⌜ x .blocks .due ≡ 0 ⌝ }
+    ensures { λ r. ⌜ judgedSays r ≡ step (lengthsBy l) (inside (sofarOf x)) (numbersOf rec) ⌝ }
+{
+    if x.blocks.count == 0 {
+        return before_blocks(x, rec);
+    }
+    if x.blocks.count == x.sizes.blocks as u32 {
+        return after_blocks(l, x, rec);
+    }
+    let Record::Block(k, n) = rec else {
+        return Judged::Refused(Refusal::NotDue);
+    };
+    on_block(x, k, n)
+}
+
+// One record after the sizes: inside a block an equation and nothing else.
+pub fn judge_record(l: Lent, x: Progress, rec: Record) -> Judged
+    requires { ⌜ Kept (sofarOf x) ⌝ }
+    ensures { λ r. ⌜ judgedSays r ≡ step (lengthsBy l) (inside (sofarOf x)) (numbersOf rec) ⌝ }
+{
+    if x.blocks.due == 0 {
+        return outside_block(l, x, rec);
+    }
+    let Record::Equation(o, a, b) = rec else {
+        return Judged::Refused(Refusal::NotDue);
+    };
+    on_equation(x, o, a, b)
 }
 
 // What reading a model comes to: a refusal with its place, or the sizes and the number of moves.

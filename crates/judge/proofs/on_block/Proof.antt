@@ -5,46 +5,40 @@ use Rattle.rules.specs.Records.{next}
 use Rattle.rules.specs.Load.{inside, blockDemands, afterBlock}
 use Rattle.judge.specs.Progress.{sofarOf}
 use Rattle.judge.specs.Demands.{fails, meets}
+use Rattle.judge.specs.Due.{block-due}
 use Rattle.judge.proofs.on_block.Statement.{statement}
 use Rattle.judge.proofs.on_block.Tie as tie
-
-cast-if1 : tie.Need-cast-if1
-cast-if1 c = search needs
-
-returns : tie.Need-returns
-returns c =
-    let a = c .before .before .before .before .before .before .before .args in
-    let x = sofarOf (a .x) in
-    fails 0 (blockDemands x (a .k) (a .n)) (next (inside (afterBlock x (a .k) (a .n)))) (c .if1 .taken)
 
 block-fits-requires : tie.Need-block-fits-requires
 block-fits-requires c κs = search needs
 
+returns : tie.Need-returns
+returns c =
+    let s = c .before .before .before .before .before in
+    let a = s .args in
+    let x = sofarOf (a .x) in
+    fails 1 (blockDemands x (a .k) (a .n)) (next (inside (afterBlock x (a .k) (a .n)))) (block-due x (s .pre .1), rw (c .before .block-fits .ensures) at (c .if1 .taken))
+
 returns-2 : tie.Need-returns-2
 returns-2 c =
-    let a = c .before .before .before .before .before .before .before .before .before .args in
+    let s = c .before .before .before .before .before .before in
+    let a = s .args in
     let x = sofarOf (a .x) in
-    fails 1 (blockDemands x (a .k) (a .n)) (next (inside (afterBlock x (a .k) (a .n)))) (c .before .before .if1 .left, rw (c .before .block-fits .ensures) at (c .if2 .taken))
+    fails 2 (blockDemands x (a .k) (a .n)) (next (inside (afterBlock x (a .k) (a .n)))) (block-due x (s .pre .1), (rw (c .before .before .block-fits .ensures) at (c .before .if1 .left), c .if2 .taken))
+
+cast-t11 : tie.Need-cast-t11
+cast-t11 c = search needs
+
+add-t12 : tie.Need-add-t12
+add-t12 c = search needs
 
 returns-3 : tie.Need-returns-3
 returns-3 c =
-    let a = c .before .before .before .before .before .before .before .before .before .before .args in
+    let s = c .before .before .before .before .before .before .before .before in
+    let a = s .args in
     let x = sofarOf (a .x) in
-    fails 2 (blockDemands x (a .k) (a .n)) (next (inside (afterBlock x (a .k) (a .n)))) (c .before .before .before .if1 .left, (rw (c .before .before .block-fits .ensures) at (c .before .if2 .left), c .if3 .taken))
-
-cast-t8 : tie.Need-cast-t8
-cast-t8 c = search needs
-
-add-t15 : tie.Need-add-t15
-add-t15 c = search needs
-
-returns-4 : tie.Need-returns-4
-returns-4 c =
-    let a = c .before .before .before .before .before .before .before .before .before .before .before .before .args in
-    let x = sofarOf (a .x) in
-    rw add-one (meets (blockDemands x (a .k) (a .n)) (next (inside (afterBlock x (a .k) (a .n)))) (c .before .before .before .before .before .if1 .left, (rw (c .before .before .before .before .block-fits .ensures) at (c .before .before .before .if2 .left), (c .before .before .if3 .left, tt))))
+    rw add-one (meets (blockDemands x (a .k) (a .n)) (next (inside (afterBlock x (a .k) (a .n)))) (block-due x (s .pre .1), (rw (c .before .before .before .before .block-fits .ensures) at (c .before .before .before .if1 .left), (c .before .before .if2 .left, tt))))
 
 pub on-block-spec : {M : Type 1} → statement M
 on-block-spec =
-    tie.close
-    (tie.spec cast-if1 returns block-fits-requires returns-2 returns-3 cast-t8 add-t15 returns-4)
+    tie.close (tie.spec block-fits-requires returns returns-2 cast-t11 add-t12 returns-3)

@@ -1,4 +1,5 @@
 -- `judge::on_label` meets its contract. Assumes nothing.
+use mathlib.Core.Path.{refl}
 use native.Mathlib.Numerals.{add-one}
 use borrow.Author.Needs.{needs}
 use Rattle.rules.specs.Records.{next}
@@ -8,43 +9,39 @@ use Rattle.judge.specs.Demands.{fails, meets}
 use Rattle.judge.proofs.on_label.Statement.{statement}
 use Rattle.judge.proofs.on_label.Tie as tie
 
-returns : tie.Need-returns
-returns c =
-    let a = c .before .before .before .before .before .args in
-    let x = sofarOf (a .x) in
-    fails 0 (labelDemands x (a .s .0) (a .v)) (next (inside (afterLabel x (a .s .0)))) (c .if1 .taken)
-
 label-ok-requires : tie.Need-label-ok-requires
 label-ok-requires c κs = search needs
 
+returns : tie.Need-returns
+returns c =
+    let s = c .before .before .before .before .before .before .before in
+    let a = s .args in
+    let x = sofarOf (a .x) in
+    fails 1 (labelDemands x (a .s .0) (a .v)) (next (inside (afterLabel x (a .s .0)))) (rw (s .pre) refl, rw (c .before .label-ok .ensures) at (c .if1 .taken))
+
+cast-if2 : tie.Need-cast-if2
+cast-if2 c = search needs
+
 returns-2 : tie.Need-returns-2
 returns-2 c =
-    let a = c .before .before .before .before .before .before .before .before .before .args in
+    let s = c .before .before .before .before .before .before .before .before .before .before in
+    let a = s .args in
     let x = sofarOf (a .x) in
-    fails 1 (labelDemands x (a .s .0) (a .v)) (next (inside (afterLabel x (a .s .0)))) (c .before .before .before .before .if1 .left, rw (c .before .label-ok .ensures) at (c .if2 .taken))
+    fails 2 (labelDemands x (a .s .0) (a .v)) (next (inside (afterLabel x (a .s .0)))) (rw (s .pre) refl, (rw (c .before .before .before .before .label-ok .ensures) at (c .before .before .before .if1 .left), c .if2 .taken))
 
-cast-if3 : tie.Need-cast-if3
-cast-if3 c = search needs
+cast-t14 : tie.Need-cast-t14
+cast-t14 c = search needs
+
+add-t16 : tie.Need-add-t16
+add-t16 c = search needs
 
 returns-3 : tie.Need-returns-3
 returns-3 c =
-    let a = c .before .before .before .before .before .before .before .before .before .before .before .before .args in
+    let s = c .before .before .before .before .before .before .before .before .before .before .before in
+    let a = s .args in
     let x = sofarOf (a .x) in
-    fails 2 (labelDemands x (a .s .0) (a .v)) (next (inside (afterLabel x (a .s .0)))) (c .before .before .before .before .before .before .before .if1 .left, (rw (c .before .before .before .before .label-ok .ensures) at (c .before .before .before .if2 .left), c .if3 .taken))
-
-cast-t15 : tie.Need-cast-t15
-cast-t15 c = search needs
-
-add-t17 : tie.Need-add-t17
-add-t17 c = search needs
-
-returns-4 : tie.Need-returns-4
-returns-4 c =
-    let a = c .before .before .before .before .before .before .before .before .before .before .before .before .before .args in
-    let x = sofarOf (a .x) in
-    rw add-one (meets (labelDemands x (a .s .0) (a .v)) (next (inside (afterLabel x (a .s .0)))) (c .before .before .before .before .before .before .before .before .if1 .left, (rw (c .before .before .before .before .before .label-ok .ensures) at (c .before .before .before .before .if2 .left), (c .before .if3 .left, tt))))
+    rw add-one (meets (labelDemands x (a .s .0) (a .v)) (next (inside (afterLabel x (a .s .0)))) (rw (s .pre) refl, (rw (c .before .before .before .before .before .label-ok .ensures) at (c .before .before .before .before .if1 .left), (c .before .if2 .left, tt))))
 
 pub on-label-spec : {M : Type 1} → statement M
 on-label-spec =
-    tie.close
-    (tie.spec returns label-ok-requires returns-2 cast-if3 returns-3 cast-t15 add-t17 returns-4)
+    tie.close (tie.spec label-ok-requires returns cast-if2 returns-2 cast-t14 add-t16 returns-3)

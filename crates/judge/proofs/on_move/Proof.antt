@@ -12,6 +12,7 @@ use Rattle.rules.specs.Load.{inside, moveDemands, afterMove}
 use Rattle.limits.specs.Lent.{lengthsBy}
 use Rattle.judge.specs.Progress.{sofarOf}
 use Rattle.judge.specs.Demands.{fails, meets, below-both}
+use Rattle.judge.specs.Due.{moves-due}
 use Rattle.judge.proofs.on_move.Statement.{statement}
 use Rattle.judge.proofs.on_move.Tie as tie
 
@@ -21,56 +22,51 @@ cast-count c = search needs
 packed-requires : tie.Need-packed-requires
 packed-requires c κs = search needs
 
-moves-due-requires : tie.Need-moves-due-requires
-moves-due-requires c κs = search needs
-
-returns : tie.Need-returns
-returns c =
-    let a = c .before .before .before .before .before .before .args in
-    let x = sofarOf (a .x) in
-    let q = pack (a .m .source .0) (a .m .action .0) (a .m .target .0) in
-    fails 0 (moveDemands (lengthsBy (a .l)) x (a .m .source .0) (a .m .action .0) (a .m .target .0)) (next (inside (afterMove x q))) (rw (c .before .moves-due .ensures) at (c .if1 .taken))
-
 move-ok-requires : tie.Need-move-ok-requires
 move-ok-requires c κs = search needs
 
-returns-2 : tie.Need-returns-2
-returns-2 c =
-    let a = c .before .before .before .before .before .before .before .before .args in
+returns : tie.Need-returns
+returns c =
+    let s = c .before .before .before .before .before .before in
+    let a = s .args in
     let x = sofarOf (a .x) in
     let q = pack (a .m .source .0) (a .m .action .0) (a .m .target .0) in
-    fails 1 (moveDemands (lengthsBy (a .l)) x (a .m .source .0) (a .m .action .0) (a .m .target .0)) (next (inside (afterMove x q))) (rw (c .before .before .before .moves-due .ensures) at (c .before .before .if1 .left), rw (c .before .move-ok .ensures) at (c .if2 .taken))
+    fails 1 (moveDemands (lengthsBy (a .l)) x (a .m .source .0) (a .m .action .0) (a .m .target .0)) (next (inside (afterMove x q))) (moves-due x (s .pre), rw (c .before .move-ok .ensures) at (c .if1 .taken))
+
+returns-2 : tie.Need-returns-2
+returns-2 c =
+    let s = c .before .before .before .before .before .before .before .before in
+    let a = s .args in
+    let x = sofarOf (a .x) in
+    let q = pack (a .m .source .0) (a .m .action .0) (a .m .target .0) in
+    fails 2 (moveDemands (lengthsBy (a .l)) x (a .m .source .0) (a .m .action .0) (a .m .target .0)) (next (inside (afterMove x q))) (moves-due x (s .pre), (rw (c .before .before .before .move-ok .ensures) at (c .before .before .if1 .left), rw (c .before .before .before .before .packed .ensures .0) at (c .if2 .taken)))
 
 returns-3 : tie.Need-returns-3
 returns-3 c =
-    let a = c .before .before .before .before .before .before .before .before .before .before .args in
+    let s = c .before .before .before .before .before .before .before .before .before .before in
+    let a = s .args in
     let x = sofarOf (a .x) in
     let q = pack (a .m .source .0) (a .m .action .0) (a .m .target .0) in
-    fails 2 (moveDemands (lengthsBy (a .l)) x (a .m .source .0) (a .m .action .0) (a .m .target .0)) (next (inside (afterMove x q))) (rw (c .before .before .before .before .before .moves-due .ensures) at (c .before .before .before .before .if1 .left), (rw (c .before .before .before .move-ok .ensures) at (c .before .before .if2 .left), rw (c .before .before .before .before .before .before .packed .ensures .0) at (c .if3 .taken)))
+    fails 3 (moveDemands (lengthsBy (a .l)) x (a .m .source .0) (a .m .action .0) (a .m .target .0)) (next (inside (afterMove x q))) (moves-due x (s .pre), (rw (c .before .before .before .before .before .move-ok .ensures) at (c .before .before .before .before .if1 .left), (rw (c .before .before .before .before .before .before .packed .ensures .0) at (c .before .before .if2 .left), rw (below-both (a .x .moves .count) 1024 (a .l .moves)) at (c .if3 .taken))))
 
-returns-4 : tie.Need-returns-4
-returns-4 c =
-    let a = c .before .before .before .before .before .before .before .before .before .before .before .before .args in
-    let x = sofarOf (a .x) in
-    let q = pack (a .m .source .0) (a .m .action .0) (a .m .target .0) in
-    fails 3 (moveDemands (lengthsBy (a .l)) x (a .m .source .0) (a .m .action .0) (a .m .target .0)) (next (inside (afterMove x q))) (rw (c .before .before .before .before .before .before .before .moves-due .ensures) at (c .before .before .before .before .before .before .if1 .left), (rw (c .before .before .before .before .before .move-ok .ensures) at (c .before .before .before .before .if2 .left), (rw (c .before .before .before .before .before .before .before .before .packed .ensures .0) at (c .before .before .if3 .left), rw (below-both (a .x .moves .count) 1024 (a .l .moves)) at (c .if4 .taken))))
-
-add-t16 : tie.Need-add-t16
-add-t16 c =
-    let n = c .before .before .before .before .before .before .before .before .before .before .before .before .before .args .x .moves .count in
-    let k = and-is (ltb n 1024) (ltb n (c .before .before .before .before .before .before .before .before .before .before .before .before .before .args .l .moves)) .0 (not-false (ltb n 1024 && ltb n (c .before .before .before .before .before .before .before .before .before .before .before .before .before .args .l .moves)) (c .before .if4 .left)) in
+add-t15 : tie.Need-add-t15
+add-t15 c =
+    let a = c .before .before .before .before .before .before .before .before .before .before .before .args in
+    let n = a .x .moves .count in
+    let k = and-is (ltb n 1024) (ltb n (a .l .moves)) .0 (not-false (ltb n 1024 && ltb n (a .l .moves)) (c .before .if3 .left)) in
     let h = ltb-true n 1024 (k .0) in
     omega arith
 
-add-t17 : tie.Need-add-t17
-add-t17 c = search needs
+add-t16 : tie.Need-add-t16
+add-t16 c = search needs
 
-returns-5 : tie.Need-returns-5
-returns-5 c =
-    let a = c .before .before .before .before .before .before .before .before .before .before .before .before .before .args in
+returns-4 : tie.Need-returns-4
+returns-4 c =
+    let s = c .before .before .before .before .before .before .before .before .before .before .before in
+    let a = s .args in
     let x = sofarOf (a .x) in
     let q = pack (a .m .source .0) (a .m .action .0) (a .m .target .0) in
-    rw (c .before .before .before .before .before .before .before .before .before .packed .ensures .0, add-one, add-one) (meets (moveDemands (lengthsBy (a .l)) x (a .m .source .0) (a .m .action .0) (a .m .target .0)) (next (inside (afterMove x q))) (rw (c .before .before .before .before .before .before .before .before .moves-due .ensures) at (c .before .before .before .before .before .before .before .if1 .left), (rw (c .before .before .before .before .before .before .move-ok .ensures) at (c .before .before .before .before .before .if2 .left), (rw (c .before .before .before .before .before .before .before .before .before .packed .ensures .0) at (c .before .before .before .if3 .left), (rw (below-both (a .x .moves .count) 1024 (a .l .moves)) at (c .before .if4 .left), tt)))))
+    rw (c .before .before .before .before .before .before .before .packed .ensures .0, add-one, add-one) (meets (moveDemands (lengthsBy (a .l)) x (a .m .source .0) (a .m .action .0) (a .m .target .0)) (next (inside (afterMove x q))) (moves-due x (s .pre), (rw (c .before .before .before .before .before .before .move-ok .ensures) at (c .before .before .before .before .before .if1 .left), (rw (c .before .before .before .before .before .before .before .packed .ensures .0) at (c .before .before .before .if2 .left), (rw (below-both (a .x .moves .count) 1024 (a .l .moves)) at (c .before .if3 .left), tt)))))
 
 pub on-move-spec : {M : Type 1} → statement M
 on-move-spec =
@@ -78,12 +74,10 @@ on-move-spec =
     (tie.spec
     cast-count
     packed-requires
-    moves-due-requires
-    returns
     move-ok-requires
+    returns
     returns-2
     returns-3
-    returns-4
+    add-t15
     add-t16
-    add-t17
-    returns-5)
+    returns-4)

@@ -1,0 +1,42 @@
+-- `judge::before_blocks` meets its contract. Assumes nothing.
+use borrow.Author.Needs.{needs}
+use Rattle.rules.specs.Load.{step}
+use Rattle.judge.specs.Progress.{sofarOf}
+use Rattle.judge.specs.Due.{label-or-block}
+use Rattle.judge.proofs.before_blocks.Statement.{statement}
+use Rattle.judge.proofs.before_blocks.Tie as tie
+
+enum-known-rec : tie.Need-enum-known-rec
+enum-known-rec c = search needs
+
+on-label-requires : tie.Need-on-label-requires
+on-label-requires c κs = search needs
+
+enum-known-rec-2 : tie.Need-enum-known-rec-2
+enum-known-rec-2 c = search needs
+
+on-block-requires : tie.Need-on-block-requires
+on-block-requires c κs = search needs
+
+returns : tie.Need-returns
+unfolding step
+returns c l = rw (c .before .before .rec .given .1) (c .on-label .ensures)
+
+returns-2 : tie.Need-returns-2
+unfolding step
+returns-2 c l = rw (c .before .before .rec2 .given .1) (c .on-block .ensures)
+
+returns-3 : tie.Need-returns-3
+returns-3 c l = label-or-block l (sofarOf (c .before .args .x)) (c .before .args .rec) (c .before .pre .0) (c .before .pre .1) (c .match .keys3)
+
+pub before-blocks-spec : {M : Type 1} → statement M
+before-blocks-spec =
+    tie.close
+    (tie.spec
+    enum-known-rec
+    on-label-requires
+    enum-known-rec-2
+    on-block-requires
+    returns
+    returns-2
+    returns-3)

@@ -1,0 +1,92 @@
+-- Which records are due where, and that any other is refusal 2. Assumes nothing.
+use mathlib.Core.Path.{_≡_, refl, ap, _∙_}
+use mathlib.Core.Logic.{inl, inr}
+use mathlib.Core.Bool.{Bool, true, false, cond, not, _&&_, _||_}
+use mathlib.Core.List.{List, [], _∷_}
+use Prim.Native.Nat.{ℕ, _<_}
+use native.Mathlib.Omega.{arith}
+use lib.Dec.{eqb, ltb}
+use types.Run.{OneOf}
+use denote.Enum.Declared.{tagOf}
+use borrow.Author.Tests.{lt-ltb, le-ltb, eq-eqb, ne-eqb, not-true}
+use Rattle.lists.specs.Lists.{all}
+use Rattle.lists.specs.Tests.{and-is, and-in}
+use Rattle.rules.specs.Load.{Sofar, inside, step, movesDue, labelDemands, blockDemands, equationDemands, moveDemands, endDemands, afterLabel, afterBlock, afterEquation, afterMove}
+use Rattle.rules.specs.Moves.{pack}
+use Rattle.rules.specs.Records.{no, next, over, numbersOf}
+use Rattle.rules.specs.Rooms.{Lengths}
+use Rattle.rules.specs.declared.Record.{Record}
+use Rattle.rules.specs.declared.Record.the-variants as R
+use Rattle.rules.proofs.Record.{the-type}
+use Rattle.judge.specs.Demands.{fails}
+use Rattle.judge.specs.Progress.{Kept}
+
+-- Whether a record is due after the sizes, by the number k of its case.
+abbrev dueAt : Sofar → ℕ → Bool
+dueAt x k =
+    cond (eqb k 1) (eqb (x .blocks .count) 0)
+    (cond (eqb k 2) (eqb (x .blocks .due) 0 && ltb (x .blocks .count) (x .sizes .blocks))
+    (cond (eqb k 3) (ltb 0 (x .blocks .due))
+    (cond (eqb k 4 || eqb k 5) (movesDue x)
+    false)))
+
+-- A record that is not due is refused.
+not-due : (l : Lengths) (x : Sofar) (r : Record) → dueAt x (tagOf the-type r) ≡ false → no 2 ≡ step l (inside x) (numbersOf r)
+unfolding step
+not-due l x (R.Sizes z) e = refl
+not-due l x (R.Label s v) e = fails 0 (labelDemands x (s .0) v) (next (inside (afterLabel x (s .0)))) (ap not e)
+not-due l x (R.Block k n) e = fails 0 (blockDemands x k n) (next (inside (afterBlock x k n))) (ap not e)
+not-due l x (R.Equation o a b) e = fails 0 (equationDemands x o a b) (next (inside (afterEquation x))) (ap not e)
+not-due l x (R.Move m) e =
+    fails 0 (moveDemands l x (m .source .0) (m .action .0) (m .target .0)) (next (inside (afterMove x (pack (m .source .0) (m .action .0) (m .target .0))))) (ap not e)
+not-due l x R.End e = fails 0 (endDemands x) over (ap not e)
+not-due l x (R.Stamp n) e = refl
+not-due l x (R.Insert m) e = refl
+not-due l x (R.Delete m) e = refl
+
+-- A test that fails at each number of a list fails at every number that is one of them.
+none-of : (f : ℕ → Bool) (ks : List ℕ) (k : ℕ) → all (λ i. not (f i)) ks ≡ true → OneOf ks k → f k ≡ false
+none-of f [] k h m = absurd m
+none-of f (i ∷ []) k h m = ap f m ∙ not-true (f i) (and-is (not (f i)) true .0 h .0)
+none-of f (i ∷ j ∷ ks) k h (inl e) = ap f e ∙ not-true (f i) (and-is (not (f i)) (all (λ i. not (f i)) (j ∷ ks)) .0 h .0)
+none-of f (i ∷ j ∷ ks) k h (inr m) = none-of f (j ∷ ks) k (and-is (not (f i)) (all (λ i. not (f i)) (j ∷ ks)) .0 h .1) m
+
+-- A record of one of some cases, none of which is due, is refused.
+none-due : (l : Lengths) (x : Sofar) (r : Record) (ks : List ℕ) → all (λ k. not (dueAt x k)) ks ≡ true → OneOf ks (tagOf the-type r)
+    → no 2 ≡ step l (inside x) (numbersOf r)
+none-due l x r ks h m = not-due l x r (none-of (dueAt x) ks (tagOf the-type r) h m)
+
+-- Inside a block nothing but an equation is due.
+pub equation-only : (l : Lengths) (x : Sofar) (r : Record) → Kept x → 0 < x .blocks .due → OneOf (0 ∷ 1 ∷ 2 ∷ 4 ∷ 5 ∷ 6 ∷ 7 ∷ 8 ∷ []) (tagOf the-type r)
+    → no 2 ≡ step l (inside x) (numbersOf r)
+equation-only l x r k h m =
+    none-due l x r (0 ∷ 1 ∷ 2 ∷ 4 ∷ 5 ∷ 6 ∷ 7 ∷ 8 ∷ []) (rw (ne-eqb (x .blocks .count) 0 (λ e. omega arith), ne-eqb (x .blocks .due) 0 (λ e. omega arith)) refl) m
+
+-- Between two blocks nothing but a block is due.
+pub block-only : (l : Lengths) (x : Sofar) (r : Record) → x .blocks .due ≡ 0 → 0 < x .blocks .count → x .blocks .count < x .sizes .blocks
+    → OneOf (0 ∷ 1 ∷ 3 ∷ 4 ∷ 5 ∷ 6 ∷ 7 ∷ 8 ∷ []) (tagOf the-type r) → no 2 ≡ step l (inside x) (numbersOf r)
+block-only l x r d f h m =
+    none-due l x r (0 ∷ 1 ∷ 3 ∷ 4 ∷ 5 ∷ 6 ∷ 7 ∷ 8 ∷ []) (rw (d, ne-eqb (x .blocks .count) 0 (λ e. omega arith), ne-eqb (x .blocks .count) (x .sizes .blocks) (λ e. omega arith)) refl) m
+
+-- Before the first block nothing but a label or a block is due.
+pub label-or-block : (l : Lengths) (x : Sofar) (r : Record) → Kept x → x .blocks .count ≡ 0 → OneOf (0 ∷ 3 ∷ 4 ∷ 5 ∷ 6 ∷ 7 ∷ 8 ∷ []) (tagOf the-type r)
+    → no 2 ≡ step l (inside x) (numbersOf r)
+label-or-block l x r k h m =
+    let d : x .blocks .due ≡ 0 = omega arith in
+    none-due l x r (0 ∷ 3 ∷ 4 ∷ 5 ∷ 6 ∷ 7 ∷ 8 ∷ []) (rw (d, ne-eqb (x .blocks .count) (x .sizes .blocks) (λ e. omega arith)) refl) m
+
+-- After the last block nothing but a move or the end is due.
+pub move-or-end : (l : Lengths) (x : Sofar) (r : Record) → Kept x → x .blocks .due ≡ 0 → x .blocks .count ≡ x .sizes .blocks
+    → OneOf (0 ∷ 1 ∷ 2 ∷ 3 ∷ 6 ∷ 7 ∷ 8 ∷ []) (tagOf the-type r) → no 2 ≡ step l (inside x) (numbersOf r)
+move-or-end l x r k d h m =
+    none-due l x r (0 ∷ 1 ∷ 2 ∷ 3 ∷ 6 ∷ 7 ∷ 8 ∷ []) (rw (d, ne-eqb (x .blocks .count) 0 (λ e. omega arith), le-ltb (x .blocks .count) (x .sizes .blocks) (omega arith)) refl) m
+
+-- The first demands of a block, of an equation and of a move, each where it is due.
+pub block-due : (x : Sofar) → (x .blocks .due ≡ 0) × (x .blocks .count < x .sizes .blocks) → not (eqb (x .blocks .due) 0 && ltb (x .blocks .count) (x .sizes .blocks)) ≡ false
+block-due x h = ap not (and-in (eq-eqb (x .blocks .due) 0 (h .0)) (lt-ltb (x .blocks .count) (x .sizes .blocks) (h .1)))
+
+pub equation-due : (x : Sofar) → 0 < x .blocks .due → not (ltb 0 (x .blocks .due)) ≡ false
+equation-due x h = ap not (lt-ltb 0 (x .blocks .due) h)
+
+pub moves-due : (x : Sofar) → (x .blocks .due ≡ 0) × (x .blocks .count ≡ x .sizes .blocks) → not (movesDue x) ≡ false
+moves-due x h = ap not (and-in (eq-eqb (x .blocks .due) 0 (h .0)) (eq-eqb (x .blocks .count) (x .sizes .blocks) (h .1)))
