@@ -214,7 +214,7 @@ fn read_input(input: &mut [u8]) -> Reading
     while done < input.len() {
         let got = read_more(input, done);
         let Reading::Bytes(more) = got else {
-            return Reading::Failed;
+            return got;
         };
         if more == 0 {
             return Reading::Bytes(done);
