@@ -1,4 +1,4 @@
 // The program, on the example that document 01 prints.
 fn main() {
-    program::check_input();
+    streams::check_input();
 }

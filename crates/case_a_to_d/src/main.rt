@@ -1,4 +1,4 @@
 // The program on bench cases A, B, C and F, and after a way back to model G on D.
 fn main() {
-    program::check_input();
+    streams::check_input();
 }

@@ -1,4 +1,4 @@
 // The program on bench case E.
 fn main() {
-    program::check_input();
+    streams::check_input();
 }

@@ -1,4 +1,4 @@
 // The program on bench cases G2 and H: 1,024 moves load, and a delete makes room for an insert.
 fn main() {
-    program::check_input();
+    streams::check_input();
 }

@@ -1,4 +1,4 @@
 // The program, on the first half of case G1: 256 states load.
 fn main() {
-    program::check_input();
+    streams::check_input();
 }

@@ -1,4 +1,4 @@
 // The program, on the second half of case G1: 257 states give 3.
 fn main() {
-    program::check_input();
+    streams::check_input();
 }

@@ -3,5 +3,3 @@ pub mod ShortLines
 pub mod Steps
 pub mod Running
 pub mod Whole
-pub mod Streams
-pub mod StreamLaws

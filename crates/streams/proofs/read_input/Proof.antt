@@ -5,9 +5,9 @@ use Prim.Native.Nat.{_-_, _≤_}
 use native.Mathlib.Omega.{arith}
 use lib.ListN.{length}
 use borrow.Author.Needs.{needs}
-use Rattle.program.specs.StreamLaws.{counted-within}
-use Rattle.program.proofs.read_input.Statement.{statement}
-use Rattle.program.proofs.read_input.Tie as tie
+use Rattle.streams.specs.StreamLaws.{counted-within}
+use Rattle.streams.proofs.read_input.Statement.{statement}
+use Rattle.streams.proofs.read_input.Tie as tie
 
 abbrev Inv-loop : tie.InvT-loop
 Inv-loop input₀ done₀ input done = (length input ≡ length input₀) × (done ≤ length input)

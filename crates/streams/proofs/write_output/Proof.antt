@@ -2,10 +2,10 @@
 use Prim.Native.Nat.{_-_, _≤_}
 use lib.ListN.{length}
 use borrow.Author.Needs.{needs}
 use Rattle.program.specs.Program.{printed}
-use Rattle.program.specs.StreamLaws.{left-over}
-use Rattle.program.proofs.write_output.Statement.{statement}
-use Rattle.program.proofs.write_output.Tie as tie
+use Rattle.streams.specs.StreamLaws.{left-over}
+use Rattle.streams.proofs.write_output.Statement.{statement}
+use Rattle.streams.proofs.write_output.Tie as tie
 
 abbrev Inv-loop : tie.InvT-loop
 Inv-loop input said done₀ done = done ≤ length said

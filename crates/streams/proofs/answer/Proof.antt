@@ -3,9 +3,9 @@ use mathlib.Core.Path.{refl, sym}
 use native.Mathlib.Omega.{arith}
 use lib.Seq.{length-take-le}
 use borrow.Author.Needs.{needs}
-use Rattle.program.specs.StreamLaws.{counted-within, answered-bytes}
-use Rattle.program.proofs.answer.Statement.{statement}
-use Rattle.program.proofs.answer.Tie as tie
+use Rattle.streams.specs.StreamLaws.{counted-within, answered-bytes}
+use Rattle.streams.proofs.answer.Statement.{statement}
+use Rattle.streams.proofs.answer.Tie as tie
 
 enum-told : tie.Need-enum-told
 enum-told c = search needs

@@ -1,9 +1,9 @@
--- `program::output` meets its contract. Assumes nothing.
+-- `streams::output` meets its contract. Assumes nothing.
 use mathlib.Core.Path.{sym}
 use Prim.Native.Nat.{ℕ}
 use lib.ListN.{length-replicate}
-use Rattle.program.proofs.output.Statement.{statement}
-use Rattle.program.proofs.output.Tie as tie
+use Rattle.streams.proofs.output.Statement.{statement}
+use Rattle.streams.proofs.output.Tie as tie
 
 returns : tie.Need-returns
 returns c = sym (length-replicate {0} {A = ℕ} 1048592 0)

@@ -6,10 +6,10 @@ use lib.Signed.{ltZ}
 use mir.Syntax.{w64}
 use mir.ValLaws.{toZ-ofZ}
 use Rattle.io.specs.Counts.{clamped}
-use Rattle.program.specs.StreamLaws.{reading-failed, reading-counts}
+use Rattle.streams.specs.StreamLaws.{reading-failed, reading-counts}
 use borrow.Author.Needs.{needs}
-use Rattle.program.proofs.reading_of.Statement.{statement}
-use Rattle.program.proofs.reading_of.Tie as tie
+use Rattle.streams.proofs.reading_of.Statement.{statement}
+use Rattle.streams.proofs.reading_of.Tie as tie
 
 returns : tie.Need-returns
 returns c =

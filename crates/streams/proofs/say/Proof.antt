@@ -4,10 +4,10 @@ use mathlib.Core.List.{List}
 use Prim.Native.Nat.{ℕ}
 use lib.ListN.{take}
 use borrow.Author.Needs.{needs}
 use Rattle.program.specs.Program.{printed}
-use Rattle.program.specs.StreamLaws.{front-filled}
-use Rattle.program.proofs.say.Statement.{statement}
-use Rattle.program.proofs.say.Tie as tie
+use Rattle.streams.specs.StreamLaws.{front-filled}
+use Rattle.streams.proofs.say.Statement.{statement}
+use Rattle.streams.proofs.say.Tie as tie
 
 run-requires : tie.Need-run-requires
 run-requires c κs = search needs

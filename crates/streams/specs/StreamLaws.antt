@@ -11,12 +11,12 @@ use lib.Signed.{ltZ}
 use Rattle.io.specs.Counts.{clamped}
 use Rattle.lists.specs.Lists.{fill}
 use Rattle.lists.specs.Tests.{ltb-is}
 use Rattle.program.specs.Program.{printed}
 use Rattle.program.specs.Running.{tail-part}
-use Rattle.program.specs.Streams.{readingOf, Within, Told, Answered}
-use Rattle.program.specs.declared.Reading.{Reading}
-use Rattle.program.specs.declared.Reading.the-variants as R
-use Rattle.program.specs.declared.Ended.{Ended}
+use Rattle.streams.specs.Streams.{readingOf, Within, Told, Answered}
+use Rattle.streams.specs.declared.Reading.{Reading}
+use Rattle.streams.specs.declared.Reading.the-variants as R
+use Rattle.streams.specs.declared.Ended.{Ended}
 
 -- What a reading counts from a place on lies in the room.
 pub counted-within : (at k : ℕ) (r : Reading) (room : List ℕ) → r ≡ R.Bytes k → Within at r room → at + k ≤ length room

@@ -5,11 +5,11 @@ use Prim.Native.Nat.{ℕ, _+_, _≤_, _<_, min}
 use lib.IntN.{ℤ, pos, negsuc}
 use lib.ListN.{length, take}
 use Rattle.lists.specs.Lists.{fill}
 use Rattle.program.specs.Program.{printed}
-use Rattle.program.specs.declared.Reading.{Reading}
-use Rattle.program.specs.declared.Reading.the-variants as R
-use Rattle.program.specs.declared.Ended.{Ended}
-use Rattle.program.specs.declared.Ended.the-variants as E
+use Rattle.streams.specs.declared.Reading.{Reading}
+use Rattle.streams.specs.declared.Reading.the-variants as R
+use Rattle.streams.specs.declared.Ended.{Ended}
+use Rattle.streams.specs.declared.Ended.the-variants as E
 
 -- What C's read says by its answer, in a room for n bytes: it failed where that is negative, and else it is a count of bytes.
 abbrev pub readingOf : ℤ → ℕ → Reading

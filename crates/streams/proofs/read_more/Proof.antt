@@ -5,9 +5,9 @@ use mir.Syntax.{w64}
 use mir.Val.{toZ, ofZ}
 use borrow.Rule.Slice.PartMut.{putMid, take-put}
 use borrow.Author.Needs.{needs}
-use Rattle.program.specs.StreamLaws.{reading-within}
-use Rattle.program.proofs.read_more.Statement.{statement}
-use Rattle.program.proofs.read_more.Tie as tie
+use Rattle.streams.specs.StreamLaws.{reading-within}
+use Rattle.streams.proofs.read_more.Statement.{statement}
+use Rattle.streams.proofs.read_more.Tie as tie
 
 sub-read : tie.Need-sub-read
 sub-read c = search needs
