@@ -1,7 +1,7 @@
 -- The cut, record by record, and what is left after it. Assumes nothing.
-use mathlib.Core.Path.{_≡_, refl, ap}
+use mathlib.Core.Path.{_≡_, refl, sym, ap, _∙_}
 use mathlib.Core.Logic.{inl, inr}
-use mathlib.Core.Bool.{true, false, _&&_}
+use mathlib.Core.Bool.{true, false, cond, _&&_}
 use mathlib.Core.List.{List, [], _∷_}
 use Prim.Native.Nat.{ℕ, zero, suc, _+_, _-_, _≤_, _<_}
 use native.Mathlib.Omega.{arith}
@@ -16,10 +16,9 @@ use Rattle.rules.specs.declared.Record.{Record}
 use Rattle.rules.specs.declared.Record.the-variants as R
 use Rattle.wire.specs.PartsAt.{partsAt, PartsBy, parts-at}
 use Rattle.wire.specs.Places.{recordAt}
+use Rattle.wire.specs.declared.Read.{Read}
 use Rattle.wire.specs.declared.Read.the-variants.{Got, Broken}
 use Rattle.cuts.specs.Cut.{endAfter, cut, pieces, allPieces}
-use Rattle.cuts.specs.declared.Passed.{Passed}
-use Rattle.cuts.specs.declared.Passed.the-variants.{Over, On}
 
 -- Every record but the end record has another kind.
 pub no-end : (r : Record) → OneOf (0 ∷ 1 ∷ 2 ∷ 3 ∷ 4 ∷ 6 ∷ 7 ∷ 8 ∷ []) (tagOf the-type r) → eqb (numbersOf r .kind) 6 ≡ false
@@ -37,42 +36,60 @@ no-end (R.Delete a) m = refl
 unfoldable pub endFrom : List ℕ → ℕ → ℕ
 endFrom s at = endAfter (length s) (partsAt s at)
 
--- What passing one record says: where the part ends, or the place after the record.
-abbrev pub Passes : List ℕ → ℕ → Passed → Type 0
-Passes s at (Over e) = endFrom s at ≡ e
-Passes s at (On n) = (at < n) × (n ≤ length s) × (endFrom s at ≡ endFrom s n)
+-- Where the part goes on after what was read at a place; the place itself where the part ends there.
+unfoldable pub onwardOf : Read → ℕ → ℕ
+onwardOf (Got r n) at = cond (eqb (numbersOf r .kind) 6) at n
+onwardOf Broken at = at
 
--- No record stands there.
-pub passes-broken : (s : List ℕ) (at : ℕ) → recordAt s at ≡ Broken → Passes s at (Over (length s))
-unfolding endFrom endAfter
-passes-broken s at e =
-    let h : PartsBy s at Broken = rw e at (parts-at s at) in
-    elim (tell true (ltb at (length s))) [ inl t ↦ rw (h, t) refl | inr t ↦ rw (h, t) refl ]
+-- Where the part ends whose last record was read at a place.
+unfoldable pub endBy : List ℕ → ℕ → Read → ℕ
+endBy s at (Got r n) = at + 1
+endBy s at Broken = length s
 
--- A record stands there, and it is the end record, or another.
-module _ (s : List ℕ) (at n : ℕ) (r : Record) (e : recordAt s at ≡ Got r n) where
-  -- What stands there, by places.
-  at-record : PartsBy s at (Got r n)
-  at-record = rw e at (parts-at s at)
+-- The same, of the record that stands there.
+abbrev pub lastEnd : List ℕ → ℕ → ℕ
+lastEnd s at = endBy s at (recordAt s at)
 
-  -- The place lies within the bytes.
-  pub at-inside : at < length s
-  at-inside = let h = at-record in omega arith
+-- A place within the bytes, from which the part ends where the whole does.
+abbrev pub Along : List ℕ → ℕ → Type 0
+Along s at = (at ≤ length s) × (endFrom s at ≡ cut s)
 
-  -- The part ends after it.
-  pub passes-end : eqb (numbersOf r .kind) 6 ≡ true → Passes s at (Over (at + 1))
-  unfolding endFrom endAfter
-  passes-end t = let k : suc at ≡ at + 1 = omega arith in rw (at-record .2, t) k
-
-  -- The part goes on after it.
-  pub passes-on : eqb (numbersOf r .kind) 6 ≡ false → Passes s at (On n)
-  unfolding endFrom endAfter
-  passes-on t = (at-record .0, at-record .1, rw (at-record .2, t) refl)
-
--- The walk from the front is the cut.
-pub from-front : (s : List ℕ) → endFrom s 0 ≡ cut s
+-- The walk begins at the front.
+pub along-front : (s : List ℕ) → Along s 0
 unfolding endFrom cut
-from-front s = refl
+along-front s = (omega arith, refl)
+
+-- What was read goes on: further, and along the same part.
+on-by : (s : List ℕ) (at : ℕ) (d : Read) → PartsBy s at d → Along s at → (onwardOf d at ≡ at → ⊥) → (at < onwardOf d at) × Along s (onwardOf d at)
+unfolding endFrom endAfter onwardOf
+on-by s at (Got r n) h a f =
+    elim (tell true (eqb (numbersOf r .kind) 6)) [
+      | inl t ↦ absurd (f (rw t refl))
+      | inr t ↦ rw t (h .0, (h .1, (rw (h .2, t) at (a .1))))
+    ]
+on-by s at Broken h a f = absurd (f refl)
+
+-- The walk goes on.
+pub goes-on : (s : List ℕ) (at n : ℕ) → Along s at → n ≡ onwardOf (recordAt s at) at → (n ≡ at → ⊥) → (at < n) × Along s n
+goes-on s at n a e f = rw e (on-by s at (recordAt s at) (parts-at s at) a (λ k. f (e ∙ k)))
+
+-- What was read ends the part.
+end-by : (s : List ℕ) (at : ℕ) (d : Read) → PartsBy s at d → onwardOf d at ≡ at → endFrom s at ≡ endBy s at d
+unfolding endFrom endAfter onwardOf endBy
+end-by s at (Got r n) h f =
+    elim (tell true (eqb (numbersOf r .kind) 6)) [
+      | inl t ↦ let k : suc at ≡ at + 1 = omega arith in rw (h .2, t) k
+      | inr t ↦ let e : n ≡ at = rw t at f in absurd (omega arith)
+    ]
+end-by s at Broken h f = elim (tell true (ltb at (length s))) [ inl t ↦ rw (h, t) refl | inr t ↦ rw (h, t) refl ]
+
+-- The walk ends, and the end is the cut.
+pub ends-there : (s : List ℕ) (at n m : ℕ) → Along s at → n ≡ onwardOf (recordAt s at) at → n ≡ at → m ≡ lastEnd s at → m ≡ cut s
+ends-there s at n m a e f k = k ∙ sym (end-by s at (recordAt s at) (parts-at s at) (sym e ∙ f)) ∙ a .1
+
+-- A record stands within the bytes.
+pub at-inside : (s : List ℕ) (at n : ℕ) (r : Record) → recordAt s at ≡ Got r n → at < length s
+at-inside s at n r e = let h : PartsBy s at (Got r n) = rw e at (parts-at s at) in omega arith
 
 -- The end of a part lies within the bytes, and past the place where the part is read, where a byte stands there.
 record Inside (n p e : ℕ) (s : List ℕ) : Type 0 where

@@ -3,15 +3,9 @@ ghost use mathlib.Core.Path.{_≡_};
 ghost use lib.Dec.{eqb};
 ghost use Rattle.rules.specs.Records.{numbersOf};
 ghost use Rattle.cuts.specs.Cut.{cut};
-ghost use Rattle.cuts.specs.CutLaws.{Passes};
+ghost use Rattle.cuts.specs.CutLaws.{onwardOf, lastEnd};
 use rules::Record;
 use wire::Read;
-
-// What passing one record comes to: the part ends there, or goes on at a place.
-pub enum Passed {
-    Over(usize),
-    On(usize),
-}
 
 // Whether a record is the end record.
 fn is_end(rec: Record) -> bool
@@ -23,34 +17,42 @@ fn is_end(rec: Record) -> bool
     }
 }
 
-// One record passed. Where none stands, all that is left belongs to the part.
-fn pass(bytes: &[u8], at: usize) -> Passed
-    ensures { λ r. ⌜ Passes (now (bytes .entry)) at r ⌝ }
+// The place after a record, read at a place, that does not end the part; the place itself where the part ends there.
+fn onward(read: Read, at: usize) -> usize
+    ensures { λ r. ⌜ r ≡ onwardOf read at ⌝ }
 {
-    let read = wire::read_record(bytes, at);
     let Read::Got(rec, next) = read else {
-        return Passed::Over(bytes.len());
+        return at;
     };
     if is_end(rec) {
-        return Passed::Over(at + 1);
+        return at;
     }
-    Passed::On(next)
+    next
 }
 
-// The length of the first part of the bytes.
+// The end of the part whose last record stands at a place. Where none stands, all that is left belongs to the part.
+fn end_at(bytes: &[u8], at: usize) -> usize
+    ensures { λ r. ⌜ r ≡ lastEnd (now (bytes .entry)) at ⌝ }
+{
+    let read = wire::read_record(bytes, at);
+    let Read::Got(_, _) = read else {
+        return bytes.len();
+    };
+    at + 1
+}
+
+// The length of the first part of the bytes, read through one reader from record to record.
 pub fn first_part(bytes: &[u8]) -> usize
     ensures { λ r. ⌜ r ≡ cut (now (bytes .entry)) ⌝ }
 {
-    let mut at: usize = 0;
+    let mut r = wire::reader_at(bytes, 0);
     loop {
-        let p = pass(bytes, at);
-        match p {
-            Passed::Over(end) => {
-                return end;
-            }
-            Passed::On(next) => {
-                at = next;
-            }
+        let at = r.at;
+        let n = onward(wire::next(r), at);
+        if n == at {
+            break;
         }
+        r.at = n;
     }
+    end_at(bytes, r.at)
 }

@@ -1,6 +1,6 @@
 // The record that stands at a place of the bytes, as an enum. The bytes are read through a reader that holds them and its
-// place. The borrow checker covers no function over such a struct, so `reader_at`, `next` and `read_record` are proved by
-// hand; the work is left to `record_at`, which takes a plain slice and a place and is covered.
+// place. The borrow checker covers no function over such a struct, so `reader_at`, `next` and `read_record`, and whoever keeps
+// a reader, are proved by hand; the work is left to `record_at`, which takes a plain slice and a place and is covered.
 ghost use mathlib.Core.Path.{_≡_};
 ghost use Prim.Native.Nat.{_+_, _≤_, _<_};
 ghost use lib.ListN.{length};
@@ -20,8 +20,8 @@ pub enum Read {
 
 // The lent bytes and the place in them from which the next record is read.
 pub struct Reader<'a> {
-    bytes: &'a [u8],
-    at: usize,
+    pub bytes: &'a [u8],
+    pub at: usize,
 }
 
 // A byte as a number of two bytes.
@@ -129,20 +129,20 @@ fn record_at(bytes: &[u8], at: usize) -> Read
 }
 
 // A reader of the lent bytes that stands at a place.
-fn reader_at<'a>(bytes: &'a [u8], at: usize) -> Reader<'a>
+pub fn reader_at<'a>(bytes: &'a [u8], at: usize) -> Reader<'a>
     ensures { λ r. ⌜ (r .bytes ≡ bytes .entry) × (r .at ≡ at) ⌝ }
 {
     Reader { bytes, at }
 }
 
 // The record at the reader's place.
-fn next<'a>(r: Reader<'a>) -> Read
+pub fn next<'a>(r: Reader<'a>) -> Read
     ensures { λ x. ⌜ x ≡ recordAt (now (r .entry .bytes)) (r .entry .at) ⌝ }
 {
     record_at(r.bytes, r.at)
 }
 
-// The record at a place of the bytes, through a reader that stands there. Every other crate reads by it.
+// The record at a place of the bytes, through a reader that stands there. Covered functions read by it.
 pub fn read_record(bytes: &[u8], at: usize) -> Read
     ensures { λ r. ⌜ r ≡ recordAt (now (bytes .entry)) at ⌝ }
 {
