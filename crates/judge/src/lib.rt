@@ -1,6 +1,6 @@
 // A model on the wire, judged record by record.
 ghost use mathlib.Core.Path.{_≡_};
-ghost use Prim.Native.Nat.{_+_, _≤_, _<_};
+ghost use Prim.Native.Nat.{_+_, _<_};
 ghost use Rattle.rules.specs.Load.{before, inside, started, readModel, go, labelDemands, blockDemands, equationDemands, moveDemands, afterLabel, afterBlock, afterEquation, afterMove, step, blockFits};
 ghost use Rattle.rules.specs.Moves.{pack};
 ghost use Rattle.rules.specs.Records.{numbersOf};

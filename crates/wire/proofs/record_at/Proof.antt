@@ -1,7 +1,11 @@
 -- `wire::record_at` meets its contract. Assumes nothing.
+use mathlib.Core.Path.{ap, ap₂}
+use Prim.Native.Nat.{ℕ, _+_}
 use borrow.Author.Tests.{le-ltb, lt-ltb, le-leb, lt-leb}
 use borrow.Author.Needs.{needs}
+use Rattle.rules.specs.declared.Record.{Record}
 use Rattle.wire.specs.Places.{recordAt}
+use Rattle.wire.specs.declared.Read.the-variants.{Got}
 use Rattle.wire.proofs.record_at.Statement.{statement}
 use Rattle.wire.proofs.record_at.Tie as tie
 
@@ -49,7 +53,9 @@ returns-4 c =
       le-leb _ _ (rw (c .before .before .before .body-len .ensures) at (c .before .before .if2 .left)),
       le-leb _ _ (rw (c .before .before .before .body-len .ensures) at (c .before .if3 .left)),
     )
-    (cc)
+    (
+    let s = c .before .before .before .before .before .before .before .args in
+    ap₂ (λ (r : Record) (n : ℕ). Got r n) (c .body-at .ensures) (ap (λ (n : ℕ). s .at + 1 + n) (c .before .before .before .body-len .ensures)))
 
 pub record-at-spec : {M : Type 1} → statement M
 record-at-spec =
