@@ -22,14 +22,14 @@ use Rattle.laws.specs.SessionHolds.{Holds, session-holds, holds-session}
 use Rattle.laws.specs.Accepted.{WasBatch, batch-out}
 use Rattle.laws.specs.BatchSolved.{batch-holds}
 
--- The session that an accepted report tells is the one of its batch.
+-- Two reports that make the same answer tell the same session.
 pub told-session : {a b : Report} → accepted a ≡ accepted b → a .session ≡ b .session
 told-session {a} {b} e = let f : a ≡ b = cc in ap (λ (x : Report). x .session) f
 
 -- What the batch b has made of the session: the bytes spell b, its stamp was the table's, it inserts absent moves and deletes
 -- present ones, and the model held is the one before with these changes made: the same sizes, labels and equations, and of
 -- the moves exactly those that were inserted, or were there and were not deleted. The small part is that model's.
-pub record Edits (s : Session) (l : Rooms) (bytes : List ℕ) (r : Report) (b : Batch) : Type 0 where
+pub record EditedBy (s : Session) (l : Rooms) (bytes : List ℕ) (r : Report) (b : Batch) : Type 0 where
   pub spelled : encodeBatch b ≡ bytes
   pub stamp : b .stamp ≡ s .stamp
   pub absent : AllAre false (inserts (b .changes)) (held s l .moves)
@@ -41,7 +41,7 @@ pub record Edits (s : Session) (l : Rooms) (bytes : List ℕ) (r : Report) (b : 
 
 -- After every accepted batch, in any session, what is held is the edited model.
 pub batch-edits : (s : Session) (l : Rooms) (bytes : List ℕ) (r : Report) → AreBytes bytes → batch s l bytes .answer ≡ accepted r
-    → (b : Batch) × Edits s l bytes r b
+    → (b : Batch) × EditedBy s l bytes r b
 unfolding wellFormed
 batch-edits s l bytes r y e =
     let k = batch-out s l bytes r y e in
