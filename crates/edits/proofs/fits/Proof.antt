@@ -1,7 +1,8 @@
 -- Inserts and deletes together are the changes, so no count falls below 0. Assumes nothing.
-use mathlib.Core.Path.{_≡_}
-use Prim.Native.Nat.{_+_, _-_, min}
+use mathlib.Core.Path.{_≡_, ap₂}
+use Prim.Native.Nat.{ℕ, _+_, _-_, min}
 use lib.ListN.{length, take, length-take}
+use lib.Dec.{leb}
 use Rattle.rules.specs.Batch.{inserts, deletes}
 use Rattle.edits.specs.Changes.{changesOf, changes-count}
 use borrow.Author.Needs.{needs}
@@ -39,7 +40,8 @@ returns c = let a = c .before .before .before .before .before .before .args in
     let t = length-take (a .n) (a .moves .now) in
     let cs = changesOf (take (a .count) (a .changes .now)) in
     let e : c .before .least2 .result + c .before .before .before .inserts-in .result ≡ length (take (a .n) (a .moves .now)) + length (inserts cs) = omega arith in
-    let f : c .least3 .result + (c .before .before .least .result - c .before .before .before .inserts-in .result) ≡ min 1024 (a .room) + length (deletes cs) = omega arith in rw (e, f)
+    let f : c .least3 .result + (c .before .before .least .result - c .before .before .before .inserts-in .result) ≡ min 1024 (a .room) + length (deletes cs) = omega arith in
+    ap₂ (λ (x y : ℕ). leb x y) e f
 
 pub fits-spec : {M : Type 1} → statement M
 fits-spec =
