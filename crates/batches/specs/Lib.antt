@@ -1,3 +1,5 @@
 pub mod Reading
+pub mod Going
 pub mod TurnLaws
+pub mod GoingLaws
 pub mod CodedBatch

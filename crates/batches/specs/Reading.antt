@@ -8,7 +8,7 @@ use lib.ListN.{length}
 use lib.Seq.{sets}
 use Rattle.lists.specs.Lists.{bit}
 use Rattle.rules.specs.Answers.{numberOf}
-use Rattle.rules.specs.Batch.{Batch, Change, Place, first, after, stepBatch, putBatch, emptyBatch, readBatch}
+use Rattle.rules.specs.Batch.{Batch, Change, Place, after, stepBatch, putBatch, emptyBatch, readBatch}
 use Rattle.rules.specs.Limits.{most-changes}
 use Rattle.rules.specs.Model.{moveOk}
 use Rattle.rules.specs.Moves.{pack, wrap}
@@ -31,10 +31,10 @@ abbrev pub changeCode : Change → ℕ
 changeCode c = codeOf (c .move) (bit (c .insert))
 
 -- What the turn at a change, and the one at the end record, come to.
-unfoldable pub changeTurn : Sizes → ℕ → Move → ℕ → ℕ → ℕ → ChangeTurn
-changeTurn z n m i at k =
+unfoldable pub changeTurn : Sizes → ℕ → ℕ → Move → ℕ → ℕ → ℕ → ChangeTurn
+changeTurn z stamp n m i at k =
     cond (ltb n most-changes)
-    (cond (moveOk z (m .source .0) (m .action .0) (m .target .0)) (T.Go (codeOf (pack (m .source .0) (m .action .0) (m .target .0)) i) k) (T.Stop (B.Refused Why.BadNumber at)))
+    (cond (moveOk z (m .source .0) (m .action .0) (m .target .0)) (T.Go stamp (n + 1) (codeOf (pack (m .source .0) (m .action .0) (m .target .0)) i) k) (T.Stop (B.Refused Why.BadNumber at)))
     (T.Stop (B.Refused Why.BadSize at))
 
 unfoldable pub endTurn : ℕ → ℕ → ℕ → ℕ → ChangeTurn
@@ -84,16 +84,17 @@ codesOf z (broken p) = []
 codesOf z (part p r t) = cond (eqb (r .kind) 7) (codesFrom z 0 t) []
 
 -- What a turn promises.
-pub record Goes (z : Sizes) (s : List ℕ) (stamp n at code k : ℕ) : Type 0 where
+pub record Goes (z : Sizes) (s : List ℕ) (stamp n at p j code k : ℕ) : Type 0 where
+  pub stamped : p ≡ stamp
+  pub counted : j ≡ n + 1
   pub on : at < k
   pub inside : k ≤ length s
-  pub few : n < most-changes
   pub same : from z s stamp n at ≡ from z s stamp (n + 1) k
   pub codes : codesFrom z n (partsAt s at) ≡ code ∷ codesFrom z (n + 1) (partsAt s k)
 
 abbrev pub Turned : Sizes → List ℕ → ℕ → ℕ → ℕ → ChangeTurn → Type 0
 Turned z s stamp n at (T.Stop a) = (batchSays a ≡ from z s stamp n at) × (codesFrom z n (partsAt s at) ≡ [])
-Turned z s stamp n at (T.Go code k) = Goes z s stamp n at code k
+Turned z s stamp n at (T.Go p j code k) = Goes z s stamp n at p j code k
 
 -- A reading into a room t that answers r and leaves u: it says what the rules' reading comes to, and puts the changes down.
 pub record ReadInto (z : Sizes) (s t : List ℕ) (r : ReadBatch) (u : List ℕ) : Type 0 where

@@ -3,7 +3,7 @@ use mathlib.Core.Path.{_≡_, refl, sym, _∙_}
 use mathlib.Core.Logic.{inl, inr}
 use mathlib.Core.Bool.{true, false, cond}
 use mathlib.Core.List.{List, [], _∷_}
-use Prim.Native.Nat.{ℕ, suc, _+_, _≤_, _<_}
+use Prim.Native.Nat.{ℕ, suc, _+_}
 use native.Mathlib.Omega.{arith}
 use native.Mathlib.Nat.{zero-add}
 use lib.Dec.{eqb, ltb}
@@ -11,8 +11,8 @@ use lib.ListN.{length, set}
 use lib.Seq.{sets}
 use types.Run.{OneOf, miss}
 use denote.Enum.Declared.{tagOf}
-use borrow.Author.Tests.{lt-ltb, le-ltb}
-use Rattle.lists.specs.Tests.{tell, ltb-is}
+use borrow.Author.Tests.{lt-ltb}
+use Rattle.lists.specs.Tests.{tell}
 use Rattle.rules.proofs.Record.{the-type}
 use Rattle.rules.specs.Batch.{Batch, first, after, stepBatch, putBatch, emptyBatch, readBatch}
 use Rattle.rules.specs.Limits.{most-changes}
@@ -30,8 +30,8 @@ use Rattle.wire.specs.PartsAt.{partsAt, PartsBy, parts-at}
 use Rattle.wire.specs.Places.{recordAt}
 use Rattle.wire.specs.declared.Read.{Read}
 use Rattle.wire.specs.declared.Read.the-variants.{Got, Broken}
-use Rattle.batches.specs.Reading.{codeOf, changeTurn, endTurn, summaryAfter, summary, batchSays, readOn, from, codesBy, codesFrom, codesOf, Goes, Turned, ReadInto}
-use Rattle.batches.specs.declared.ReadBatch.{ReadBatch}
+use Rattle.batches.specs.Going.{Stamped, Began}
+use Rattle.batches.specs.Reading.{codeOf, changeTurn, endTurn, summaryAfter, summary, readOn, from, codesBy, codesFrom, codesOf, Goes, Turned}
 use Rattle.batches.specs.declared.ChangeTurn.the-variants as T
 use Rattle.batches.specs.declared.ReadBatch.the-variants as B
 
@@ -44,11 +44,6 @@ turned-broken z s stamp n at e =
       | inl t ↦ let k : partsAt s at ≡ broken at = h ∙ rw t refl in (rw k refl, rw k refl)
       | inr t ↦ let k : partsAt s at ≡ ends at = h ∙ rw t refl in (rw k refl, rw k refl)
     ]
-
--- Past the end there is nothing to read.
-pub past-end : (z : Sizes) (s : List ℕ) (stamp n at : ℕ) → length s ≤ at → Turned z s stamp n at (T.Stop (B.Refused Why.Broken at))
-unfolding recordAt
-past-end z s stamp n at h = turned-broken z s stamp n at (rw (le-ltb at (length s) h) refl)
 
 -- The summary of one change more.
 one-more : (stamp n : ℕ) (r : Rec) (o : Outcome Batch) → summaryAfter stamp n (onto (putBatch (after n) r) o) ≡ summaryAfter stamp (suc n) o
@@ -76,27 +71,27 @@ module _ (z : Sizes) (s : List ℕ) (stamp n at k : ℕ) (r : Record) (got : rec
   turned-no e h = (rw (there .2, h) refl, rw (there .2, h) refl)
 
   -- A change that is taken.
-  goes : (code : ℕ) → stepBatch z (after n) (numbersOf r) ≡ next (after (suc n)) → n < most-changes
-      → ((l : List ℕ) → codesBy l (numbersOf r) (next (after (suc n))) ≡ code ∷ l) → Goes z s stamp n at code k
+  goes : (code : ℕ) → stepBatch z (after n) (numbersOf r) ≡ next (after (suc n))
+      → ((l : List ℕ) → codesBy l (numbersOf r) (next (after (suc n))) ≡ code ∷ l) → Goes z s stamp n at stamp (n + 1) code k
   unfolding readOn run codesFrom
-  goes code h f c =
+  goes code h c =
       let e : n + 1 ≡ suc n = omega arith in
       let a : from z s stamp n at ≡ from z s stamp (suc n) k = rw (there .2, h) (one-more stamp n (numbersOf r) (run (stepBatch z) putBatch emptyBatch (after (suc n)) (partsAt s k))) in
       let b : codesFrom z n (partsAt s at) ≡ code ∷ codesFrom z (suc n) (partsAt s k) = rw (there .2, h) (c (codesFrom z (suc n) (partsAt s k))) in
-      record { on = there .0; inside = there .1; few = f; same = rw e a; codes = rw e b }
+      record { stamped = refl; counted = refl; on = there .0; inside = there .1; same = rw e a; codes = rw e b }
 
   -- A change, by its demands in order.
   turned-change : (m : Move) (i : ℕ)
       → stepBatch z (after n) (numbersOf r) ≡ cond (ltb n most-changes) (cond (moveOk z (m .source .0) (m .action .0) (m .target .0)) (next (after (suc n))) (no 4)) (no 3)
       → ((l : List ℕ) → codesBy l (numbersOf r) (next (after (suc n))) ≡ codeOf (pack (m .source .0) (m .action .0) (m .target .0)) i ∷ l)
-      → Turned z s stamp n at (changeTurn z n m i at k)
+      → Turned z s stamp n at (changeTurn z stamp n m i at k)
   unfolding changeTurn
   turned-change m i h c =
       elim (tell true (ltb n most-changes)) [
         | inr t ↦ rw t (turned-no Why.BadSize (h ∙ rw t refl))
         | inl t ↦ elim (tell true (moveOk z (m .source .0) (m .action .0) (m .target .0))) [
           | inr u ↦ rw (t, u) (turned-no Why.BadNumber (h ∙ rw (t, u) refl))
-          | inl u ↦ rw (t, u) (goes (codeOf (pack (m .source .0) (m .action .0) (m .target .0)) i) (h ∙ rw (t, u) refl) (ltb-is n most-changes .0 t) c)
+          | inl u ↦ rw (t, u) (goes (codeOf (pack (m .source .0) (m .action .0) (m .target .0)) i) (h ∙ rw (t, u) refl) c)
         ]
       ]
 
@@ -125,11 +120,11 @@ no-stamp (R.Insert a) m = refl
 no-stamp (R.Delete a) m = refl
 
 -- An insert, a delete, the end, and any other record.
-pub turned-insert : (z : Sizes) (s : List ℕ) (stamp n at k : ℕ) (r : Record) (m : Move) → recordAt s at ≡ Got r k → r ≡ R.Insert m → Turned z s stamp n at (changeTurn z n m 1 at k)
+pub turned-insert : (z : Sizes) (s : List ℕ) (stamp n at k : ℕ) (r : Record) (m : Move) → recordAt s at ≡ Got r k → r ≡ R.Insert m → Turned z s stamp n at (changeTurn z stamp n m 1 at k)
 unfolding stepBatch
 turned-insert z s stamp n at k r m got e = turned-change z s stamp n at k (R.Insert m) (rw (← e) got) m 1 refl (λ l. refl)
 
-pub turned-delete : (z : Sizes) (s : List ℕ) (stamp n at k : ℕ) (r : Record) (m : Move) → recordAt s at ≡ Got r k → r ≡ R.Delete m → Turned z s stamp n at (changeTurn z n m 0 at k)
+pub turned-delete : (z : Sizes) (s : List ℕ) (stamp n at k : ℕ) (r : Record) (m : Move) → recordAt s at ≡ Got r k → r ≡ R.Delete m → Turned z s stamp n at (changeTurn z stamp n m 0 at k)
 unfolding stepBatch
 turned-delete z s stamp n at k r m got e = turned-change z s stamp n at k (R.Delete m) (rw (← e) got) m 0 refl (λ l. refl)
 
@@ -148,9 +143,9 @@ pub turned-other : (z : Sizes) (s : List ℕ) (stamp n at k : ℕ) (r : Record) 
 turned-other z s stamp n at k r got m = turned-no z s stamp n at k r got Why.NotDue (not-due z n r m)
 
 -- One change put down.
-pub put-code : (z : Sizes) (s : List ℕ) (stamp n at code k : ℕ) (u v : List ℕ) → Goes z s stamp n at code k → v ≡ set u n code
+pub put-code : (z : Sizes) (s : List ℕ) (stamp n at p j code k : ℕ) (u v : List ℕ) → Goes z s stamp n at p j code k → v ≡ set u n code
     → sets v (n + 1) (codesFrom z (n + 1) (partsAt s k)) ≡ sets u n (codesFrom z n (partsAt s at))
-put-code z s stamp n at code k u v g e = let f : n + 1 ≡ suc n = omega arith in rw (g .codes, e, f) refl
+put-code z s stamp n at p j code k u v g e = let f : n + 1 ≡ suc n = omega arith in rw (g .codes, e, f) refl
 
 -- The first record.
 stamped : (p : ℕ) (o : Outcome Batch) → summaryAfter p 0 o ≡ summary (onto (putBatch first (numbersOf (R.Stamp p))) o)
@@ -158,26 +153,31 @@ unfolding putBatch
 stamped p (refused k q) = refl
 stamped p (accepted b) = rw zero-add refl
 
-pub first-stamp : (z : Sizes) (s t u : List ℕ) (p k : ℕ) (r : Record) (a : ReadBatch) → recordAt s 0 ≡ Got r k → r ≡ R.Stamp p
-    → batchSays a ≡ from z s p 0 k → u ≡ sets t 0 (codesFrom z 0 (partsAt s k)) → ReadInto z s t a u
+pub first-stamp : (z : Sizes) (s : List ℕ) (p k : ℕ) (r : Record) → recordAt s 0 ≡ Got r k → r ≡ R.Stamp p → Stamped z s p 0 k
 unfolding readBatch readOn run stepBatch codesOf
-first-stamp z s t u p k r a got q h e =
+first-stamp z s p k r got q =
     let w = there z s p 0 0 k (R.Stamp p) (rw (← q) got) in
-    record { says = h ∙ stamped p (run (stepBatch z) putBatch emptyBatch (after 0) (partsAt s k)) ∙ sym (rw (w .2) refl); holds = e ∙ sym (rw (w .2) refl) }
+    record {
+      none = refl;
+      begun = w .0;
+      inside = w .1;
+      same = stamped p (run (stepBatch z) putBatch emptyBatch (after 0) (partsAt s k)) ∙ sym (rw (w .2) refl);
+      codes = sym (rw (w .2) refl);
+    }
 
-pub first-broken : (z : Sizes) (s t : List ℕ) → recordAt s 0 ≡ Broken → ReadInto z s t (B.Refused Why.Broken 0) t
+pub first-broken : (z : Sizes) (s : List ℕ) → recordAt s 0 ≡ Broken → Began z s (T.Stop (B.Refused Why.Broken 0))
 unfolding readBatch run codesOf
-first-broken z s t e =
+first-broken z s e =
     let h : partsAt s 0 ≡ cond (ltb 0 (length s)) (broken 0) (ends 0) = rw e at (parts-at s 0) in
     elim (tell true (ltb 0 (length s))) [
-      | inl b ↦ let k : partsAt s 0 ≡ broken 0 = h ∙ rw b refl in record { says = rw k refl; holds = rw k refl }
-      | inr b ↦ let k : partsAt s 0 ≡ ends 0 = h ∙ rw b refl in record { says = rw k refl; holds = rw k refl }
+      | inl b ↦ let k : partsAt s 0 ≡ broken 0 = h ∙ rw b refl in (rw k refl, rw k refl)
+      | inr b ↦ let k : partsAt s 0 ≡ ends 0 = h ∙ rw b refl in (rw k refl, rw k refl)
     ]
 
-pub first-other : (z : Sizes) (s t : List ℕ) (k : ℕ) (r : Record) → recordAt s 0 ≡ Got r k → OneOf (0 ∷ 1 ∷ 2 ∷ 3 ∷ 4 ∷ 5 ∷ 7 ∷ 8 ∷ []) (tagOf the-type r)
-    → ReadInto z s t (B.Refused Why.NotDue 0) t
+pub first-other : (z : Sizes) (s : List ℕ) (k : ℕ) (r : Record) → recordAt s 0 ≡ Got r k → OneOf (0 ∷ 1 ∷ 2 ∷ 3 ∷ 4 ∷ 5 ∷ 7 ∷ 8 ∷ []) (tagOf the-type r)
+    → Began z s (T.Stop (B.Refused Why.NotDue 0))
 unfolding readBatch run stepBatch codesOf
-first-other z s t k r got m =
+first-other z s k r got m =
     let w = there z s 0 0 0 k r got in
     let e = no-stamp r m in
-    record { says = sym (rw (w .2, e) refl); holds = sym (rw (w .2, e) refl) }
+    (sym (rw (w .2, e) refl), sym (rw (w .2, e) refl))

@@ -1,10 +1,9 @@
 // A batch on the wire, read and judged up to refusal 4.
 ghost use mathlib.Core.Path.{_≡_};
-ghost use Prim.Native.Nat.{ℕ, _+_, _*_, _≤_, _<_};
+ghost use Prim.Native.Nat.{_+_, _*_};
 ghost use Rattle.rules.specs.Moves.{pack, wrap};
-ghost use Rattle.batches.specs.Reading.{changeTurn, endTurn, batchSays, Turned, from, codesFrom, ReadInto};
-ghost use Rattle.wire.specs.PartsAt.{partsAt};
-ghost use lib.Seq.{sets};
+ghost use Rattle.batches.specs.Reading.{changeTurn, endTurn, ReadInto};
+ghost use Rattle.batches.specs.Going.{placeOf, answerOf, putChange, Begins, Follows};
 use rules::Move;
 use rules::Record;
 use rules::Refusal;
@@ -17,10 +16,11 @@ pub enum ReadBatch {
     Good(u32, usize),
 }
 
-// One record of a batch: the end of the reading, or a change and the next place.
+// One record of a batch: the end of the reading; or the stamp, how many changes there are with this record, the change and
+// the next place.
 pub enum ChangeTurn {
     Stop(ReadBatch),
-    Go(u32, usize),
+    Go(u32, usize, u32, usize),
 }
 
 // A change as one number: twice the move, and 1 for an insert.
@@ -30,9 +30,17 @@ fn coded(m: Move, insert: u8) -> u32
     ((2 * limits::packed(m) + insert as u64) % 4294967296) as u32
 }
 
-// A change: not the 65th, and in range.
-fn change_turn(z: Sizes, n: usize, m: Move, insert: u8, at: usize, next: usize) -> ChangeTurn
-    ensures { λ r. ⌜ r ≡ changeTurn z n m insert at next ⌝ }
+// A change after n others: not the 65th, and in range.
+fn change_turn(
+    z: Sizes,
+    stamp: u32,
+    n: usize,
+    m: Move,
+    insert: u8,
+    at: usize,
+    next: usize,
+) -> ChangeTurn
+    ensures { λ r. ⌜ r ≡ changeTurn z stamp n m insert at next ⌝ }
 {
     if !(n < limits::MOST_CHANGES) {
         return ChangeTurn::Stop(ReadBatch::Refused(Refusal::BadSize, at));
@@ -40,7 +48,7 @@ fn change_turn(z: Sizes, n: usize, m: Move, insert: u8, at: usize, next: usize) 
     if !limits::move_ok(z, m) {
         return ChangeTurn::Stop(ReadBatch::Refused(Refusal::BadNumber, at));
     }
-    ChangeTurn::Go(coded(m, insert), next)
+    ChangeTurn::Go(stamp, n + 1, coded(m, insert), next)
 }
 
 // After the end record: any byte is not due.
@@ -53,54 +61,85 @@ fn end_turn(stamp: u32, n: usize, next: usize, len: usize) -> ChangeTurn
     ChangeTurn::Stop(ReadBatch::Good(stamp, n))
 }
 
-// The record at a place after the stamp.
-fn turn(bytes: &[u8], z: Sizes, stamp: u32, n: usize, at: usize) -> ChangeTurn
-    ensures { λ r. ⌜ Turned z (now (bytes .entry)) stamp n at r ⌝ }
+// What was read at the place of the turn before, judged: the turn after it. A reading that is over stays as it is.
+fn turn(read: Read, z: Sizes, t: ChangeTurn, len: usize) -> ChangeTurn
+    ensures { λ r. ⌜ Follows z read t len r ⌝ }
 {
-    let read = wire::read_record(bytes, at);
+    let ChangeTurn::Go(stamp, n, _, at) = t else {
+        return t;
+    };
     let Read::Got(rec, next) = read else {
         return ChangeTurn::Stop(ReadBatch::Refused(Refusal::Broken, at));
     };
     match rec {
-        Record::Insert(m) => change_turn(z, n, m, 1, at, next),
-        Record::Delete(m) => change_turn(z, n, m, 0, at, next),
-        Record::End => end_turn(stamp, n, next, bytes.len()),
+        Record::Insert(m) => change_turn(z, stamp, n, m, 1, at, next),
+        Record::Delete(m) => change_turn(z, stamp, n, m, 0, at, next),
+        Record::End => end_turn(stamp, n, next, len),
         _ => ChangeTurn::Stop(ReadBatch::Refused(Refusal::NotDue, at)),
     }
 }
 
-// The records after the stamp, the changes put down in order.
-fn read_rest(bytes: &[u8], z: Sizes, stamp: u32, start: usize, changes: &mut [u32]) -> ReadBatch
-    ensures { λ r. ⌜ (batchSays r ≡ from z (now (bytes .entry)) stamp 0 start) × (now (changes .exit) ≡ sets (now (changes .entry)) 0 (codesFrom z 0 (partsAt (now (bytes .entry)) start))) ⌝ }
+// The first record: the stamp.
+fn first_turn(read: Read) -> ChangeTurn
+    ensures { λ r. ⌜ ((z : Sizes) → Begins z read r) ⌝ }
 {
-    let mut n: usize = 0;
-    let mut at = start;
-    while at < bytes.len() {
-        let t = turn(bytes, z, stamp, n, at);
-        match t {
-            ChangeTurn::Stop(a) => {
-                return a;
-            }
-            ChangeTurn::Go(code, next) => {
-                rooms::set_word(changes, n, code);
-                n = n + 1;
-                at = next;
-            }
-        }
-    }
-    ReadBatch::Refused(Refusal::Broken, at)
+    let Read::Got(rec, next) = read else {
+        return ChangeTurn::Stop(ReadBatch::Refused(Refusal::Broken, 0));
+    };
+    let Record::Stamp(stamp) = rec else {
+        return ChangeTurn::Stop(ReadBatch::Refused(Refusal::NotDue, 0));
+    };
+    ChangeTurn::Go(stamp, 0, 0, next)
 }
 
-// The whole batch: the stamp, then the changes.
+// Where the next record stands; 0 where the reading is over.
+fn place_of(t: ChangeTurn) -> usize
+    ensures { λ r. ⌜ r ≡ placeOf t ⌝ }
+{
+    let ChangeTurn::Go(_, _, _, next) = t else {
+        return 0;
+    };
+    next
+}
+
+// What a reading that is over came to.
+fn answer_of(t: ChangeTurn) -> ReadBatch
+    ensures { λ r. ⌜ r ≡ answerOf t ⌝ }
+{
+    match t {
+        ChangeTurn::Stop(a) => a,
+        ChangeTurn::Go(_, _, _, next) => ReadBatch::Refused(Refusal::Broken, next),
+    }
+}
+
+// The change of a turn, put down after those of the turn before it.
+fn put_change(changes: &mut [u32], t: ChangeTurn, u: ChangeTurn)
+    ensures { λ _. ⌜ now (changes .exit) ≡ putChange t u (now (changes .entry)) ⌝ }
+{
+    let ChangeTurn::Go(_, n, _, _) = t else {
+        return;
+    };
+    let ChangeTurn::Go(_, _, code, _) = u else {
+        return;
+    };
+    rooms::set_word(changes, n, code);
+}
+
+// The whole batch, read through one reader from record to record: the stamp, then the changes, put down in order.
 pub fn read_batch(bytes: &[u8], z: Sizes, changes: &mut [u32]) -> ReadBatch
     ensures { λ r. ⌜ ReadInto z (now (bytes .entry)) (now (changes .entry)) r (now (changes .exit)) ⌝ }
 {
-    let read = wire::read_record(bytes, 0);
-    let Read::Got(rec, next) = read else {
-        return ReadBatch::Refused(Refusal::Broken, 0);
-    };
-    let Record::Stamp(stamp) = rec else {
-        return ReadBatch::Refused(Refusal::NotDue, 0);
-    };
-    read_rest(bytes, z, stamp, next, changes)
+    let mut r = wire::reader_at(bytes, 0);
+    let mut t = first_turn(wire::next(r));
+    loop {
+        let at = place_of(t);
+        if at == 0 {
+            break;
+        }
+        r.at = at;
+        let u = turn(wire::next(r), z, t, bytes.len());
+        put_change(changes, t, u);
+        t = u;
+    }
+    answer_of(t)
 }

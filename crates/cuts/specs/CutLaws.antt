@@ -11,7 +11,7 @@ use lib.Dec.{eqb, ltb, leb}
 use lib.ListN.{length, take, drop, length-drop}
 use Rattle.lists.specs.Tests.{tell}
 use Rattle.rules.proofs.Record.{the-type}
-use Rattle.rules.specs.Records.{ends, part, partsFrom, parts, numbersOf, known, bodyOf, widths}
+use Rattle.rules.specs.Records.{partsFrom, numbersOf, known, bodyOf, widths}
 use Rattle.rules.specs.declared.Record.{Record}
 use Rattle.rules.specs.declared.Record.the-variants as R
 use Rattle.wire.specs.PartsAt.{partsAt, PartsBy, parts-at}
@@ -41,14 +41,15 @@ unfoldable pub onwardOf : Read → ℕ → ℕ
 onwardOf (Got r n) at = cond (eqb (numbersOf r .kind) 6) at n
 onwardOf Broken at = at
 
--- Where the part ends whose last record was read at a place.
-unfoldable pub endBy : List ℕ → ℕ → Read → ℕ
-endBy s at (Got r n) = at + 1
-endBy s at Broken = length s
+-- Where the part ends whose last record was read at a place of bytes of a length.
+unfoldable pub endBy : Read → ℕ → ℕ → ℕ
+endBy (Got r n) at len = at + 1
+endBy Broken at len = len
 
--- The same, of the record that stands there.
-abbrev pub lastEnd : List ℕ → ℕ → ℕ
-lastEnd s at = endBy s at (recordAt s at)
+-- A record that was read at a place stands within the bytes.
+abbrev pub Stands : Read → ℕ → ℕ → Type 0
+Stands (Got r n) at len = at < len
+Stands Broken at len = Unit {0}
 
 -- A place within the bytes, from which the part ends where the whole does.
 abbrev pub Along : List ℕ → ℕ → Type 0
@@ -74,7 +75,7 @@ pub goes-on : (s : List ℕ) (at n : ℕ) → Along s at → n ≡ onwardOf (rec
 goes-on s at n a e f = rw e (on-by s at (recordAt s at) (parts-at s at) a (λ k. f (e ∙ k)))
 
 -- What was read ends the part.
-end-by : (s : List ℕ) (at : ℕ) (d : Read) → PartsBy s at d → onwardOf d at ≡ at → endFrom s at ≡ endBy s at d
+end-by : (s : List ℕ) (at : ℕ) (d : Read) → PartsBy s at d → onwardOf d at ≡ at → endFrom s at ≡ endBy d at (length s)
 unfolding endFrom endAfter onwardOf endBy
 end-by s at (Got r n) h f =
     elim (tell true (eqb (numbersOf r .kind) 6)) [
@@ -84,12 +85,16 @@ end-by s at (Got r n) h f =
 end-by s at Broken h f = elim (tell true (ltb at (length s))) [ inl t ↦ rw (h, t) refl | inr t ↦ rw (h, t) refl ]
 
 -- The walk ends, and the end is the cut.
-pub ends-there : (s : List ℕ) (at n m : ℕ) → Along s at → n ≡ onwardOf (recordAt s at) at → n ≡ at → m ≡ lastEnd s at → m ≡ cut s
+pub ends-there : (s : List ℕ) (at n m : ℕ) → Along s at → n ≡ onwardOf (recordAt s at) at → n ≡ at → m ≡ endBy (recordAt s at) at (length s) → m ≡ cut s
 ends-there s at n m a e f k = k ∙ sym (end-by s at (recordAt s at) (parts-at s at) (sym e ∙ f)) ∙ a .1
 
--- A record stands within the bytes.
-pub at-inside : (s : List ℕ) (at n : ℕ) (r : Record) → recordAt s at ≡ Got r n → at < length s
-at-inside s at n r e = let h : PartsBy s at (Got r n) = rw e at (parts-at s at) in omega arith
+-- What was read there stands within the bytes.
+stands-by : (s : List ℕ) (at : ℕ) (d : Read) → PartsBy s at d → Stands d at (length s)
+stands-by s at (Got r n) h = omega arith
+stands-by s at Broken h = tt
+
+pub stands-at : (s : List ℕ) (at : ℕ) (d : Read) → d ≡ recordAt s at → Stands d at (length s)
+stands-at s at d e = rw e (stands-by s at (recordAt s at) (parts-at s at))
 
 -- The end of a part lies within the bytes, and past the place where the part is read, where a byte stands there.
 record Inside (n p e : ℕ) (s : List ℕ) : Type 0 where

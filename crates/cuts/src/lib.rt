@@ -3,7 +3,7 @@ ghost use mathlib.Core.Path.{_≡_};
 ghost use lib.Dec.{eqb};
 ghost use Rattle.rules.specs.Records.{numbersOf};
 ghost use Rattle.cuts.specs.Cut.{cut};
-ghost use Rattle.cuts.specs.CutLaws.{onwardOf, lastEnd};
+ghost use Rattle.cuts.specs.CutLaws.{onwardOf, endBy, Stands};
 use rules::Record;
 use wire::Read;
 
@@ -30,13 +30,13 @@ fn onward(read: Read, at: usize) -> usize
     next
 }
 
-// The end of the part whose last record stands at a place. Where none stands, all that is left belongs to the part.
-fn end_at(bytes: &[u8], at: usize) -> usize
-    ensures { λ r. ⌜ r ≡ lastEnd (now (bytes .entry)) at ⌝ }
+// The end of the part whose last record was read at a place. Where none was, all that is left belongs to the part.
+fn end_at(read: Read, at: usize, len: usize) -> usize
+    requires { ⌜ Stands read at len ⌝ }
+    ensures { λ r. ⌜ r ≡ endBy read at len ⌝ }
 {
-    let read = wire::read_record(bytes, at);
     let Read::Got(_, _) = read else {
-        return bytes.len();
+        return len;
     };
     at + 1
 }
@@ -54,5 +54,5 @@ pub fn first_part(bytes: &[u8]) -> usize
         }
         r.at = n;
     }
-    end_at(bytes, r.at)
+    end_at(wire::next(r), r.at, bytes.len())
 }

@@ -3,11 +3,11 @@ use mathlib.Core.Path.{_≡_, refl, sym, _∙_}
 use mathlib.Core.Logic.{inl, inr}
 use mathlib.Core.Bool.{Bool, true, cond}
 use mathlib.Core.List.{List, [], _∷_}
-use Prim.Native.Nat.{ℕ, suc, _+_, _≤_, min}
+use Prim.Native.Nat.{ℕ, suc, _+_, min}
 use native.Mathlib.Omega.{arith}
 use lib.Dec.{ltb}
 use lib.ListN.{length}
-use borrow.Author.Tests.{lt-ltb, le-ltb}
+use borrow.Author.Tests.{lt-ltb}
 use types.Run.{OneOf, miss}
 use denote.Enum.Declared.{tagOf}
 use Rattle.rules.proofs.Record.{the-type}
@@ -34,7 +34,7 @@ use Rattle.wire.specs.declared.Read.{Read}
 use Rattle.wire.specs.declared.Read.the-variants.{Got, Broken}
 use Rattle.judge.specs.Demands.{Fails, Meets, raised, fails, meets}
 use Rattle.judge.specs.Progress.{sofarOf, Kept}
-use Rattle.judge.specs.Turning.{summaryAfter, readSays, readOn, from, endTurn, Goes, Stops, Turned}
+use Rattle.judge.specs.Turning.{summaryAfter, readOn, from, endTurn, Goes, Stops, Turned}
 use Rattle.judge.specs.declared.Progress.{Progress}
 use Rattle.judge.specs.declared.ReadModel.the-variants as M
 use Rattle.judge.specs.declared.OneTurn.the-variants as T
@@ -114,11 +114,6 @@ turned-broken l s st at e =
       | inl t ↦ let k : partsAt s at ≡ broken at = h ∙ rw t refl in (rw k refl, λ p r u st′ w z. let b : _≡_ {A = ℕ} 0 1 = cc in absurd (omega arith))
       | inr t ↦ let k : partsAt s at ≡ ends at = h ∙ rw t refl in (rw k refl, λ p r u st′ w z. let b : _≡_ {A = ℕ} 0 1 = cc in absurd (omega arith))
     ]
-
--- Past the end there is nothing to read.
-pub past-end : (l : Lengths) (s : List ℕ) (st : State) (at : ℕ) → length s ≤ at → readSays (M.Refused Why.Broken at) ≡ from l s st at
-unfolding readOn run recordAt
-past-end l s st at h = turned-broken l s st at (rw (le-ltb at (length s) h) refl) .0
 
 module _ (l : Lengths) (s : List ℕ) (st : State) (at n : ℕ) (r : Record) (got : recordAt s at ≡ Got r n) where
   there : PartsBy s at (Got r n)

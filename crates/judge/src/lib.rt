@@ -1,13 +1,14 @@
 // A model on the wire, judged record by record.
 ghost use mathlib.Core.Path.{_≡_};
 ghost use Prim.Native.Nat.{_+_, _<_};
-ghost use Rattle.rules.specs.Load.{before, inside, started, readModel, go, labelDemands, blockDemands, equationDemands, moveDemands, afterLabel, afterBlock, afterEquation, afterMove, step, blockFits};
+ghost use Rattle.rules.specs.Load.{inside, started, readModel, go, labelDemands, blockDemands, equationDemands, moveDemands, afterLabel, afterBlock, afterEquation, afterMove, step, blockFits};
 ghost use Rattle.rules.specs.Moves.{pack};
 ghost use Rattle.rules.specs.Records.{numbersOf};
 ghost use Rattle.rules.specs.Rooms.{Lengths};
 ghost use Rattle.limits.specs.Lent.{lengthsBy};
 ghost use Rattle.judge.specs.Progress.{sofarOf, judgedSays, Kept};
-ghost use Rattle.judge.specs.Turning.{readSays, summary, from, endTurn, Turned};
+ghost use Rattle.judge.specs.Turning.{readSays, summary, endTurn};
+ghost use Rattle.judge.specs.Going.{placeOf, answerOf, KeptTurn, Begins, Follows};
 use limits::Lent;
 use rules::Move;
 use rules::Record;
@@ -248,12 +249,14 @@ fn at_end(x: Progress, next: usize, len: usize) -> OneTurn
     OneTurn::Stop(ReadModel::Good(z, x.moves.count))
 }
 
-// The record at a place, read and judged.
-pub fn turn(bytes: &[u8], l: Lent, x: Progress, at: usize) -> OneTurn
-    requires { ⌜ Kept (sofarOf x) ⌝ }
-    ensures { λ r. ⌜ Turned (lengthsBy l) (now (bytes .entry)) (inside (sofarOf x)) at r ⌝ }
+// What was read at the place of the turn before, judged: the turn after it. A reading that is over stays as it is.
+pub fn turn(read: Read, l: Lent, t: OneTurn, len: usize) -> OneTurn
+    requires { ⌜ KeptTurn t ⌝ }
+    ensures { λ r. ⌜ Follows (lengthsBy l) read t len r ⌝ }
 {
-    let read = wire::read_record(bytes, at);
+    let OneTurn::Go(_, x, at) = t else {
+        return t;
+    };
     let Read::Got(rec, next) = read else {
         return OneTurn::Stop(ReadModel::Refused(Refusal::Broken, at));
     };
@@ -261,7 +264,7 @@ pub fn turn(bytes: &[u8], l: Lent, x: Progress, at: usize) -> OneTurn
     match judged {
         Judged::Refused(e) => OneTurn::Stop(ReadModel::Refused(e, at)),
         Judged::Next(y) => OneTurn::Go(rec, y, next),
-        Judged::Over => at_end(x, next, bytes.len()),
+        Judged::Over => at_end(x, next, len),
     }
 }
 
@@ -283,10 +286,9 @@ fn started_with(z: Sizes) -> Progress
 }
 
 // The first record: the sizes, inside their limits, and no room shorter than they need.
-pub fn first_turn(bytes: &[u8], l: Lent) -> OneTurn
-    ensures { λ r. ⌜ Turned (lengthsBy l) (now (bytes .entry)) before 0 r ⌝ }
+pub fn first_turn(read: Read, l: Lent) -> OneTurn
+    ensures { λ r. ⌜ Begins (lengthsBy l) read r ⌝ }
 {
-    let read = wire::read_record(bytes, 0);
     let Read::Got(rec, next) = read else {
         return OneTurn::Stop(ReadModel::Refused(Refusal::Broken, 0));
     };
@@ -302,35 +304,39 @@ pub fn first_turn(bytes: &[u8], l: Lent) -> OneTurn
     OneTurn::Go(rec, started_with(z), next)
 }
 
-// The records after the sizes.
-fn judge_rest(bytes: &[u8], l: Lent, x: Progress, start: usize) -> ReadModel
-    requires { ⌜ Kept (sofarOf x) ⌝ }
-    ensures { λ r. ⌜ readSays r ≡ from (lengthsBy l) (now (bytes .entry)) (inside (sofarOf x)) start ⌝ }
+// Where the next record stands; 0 where the reading is over.
+pub fn place_of(t: OneTurn) -> usize
+    ensures { λ r. ⌜ r ≡ placeOf t ⌝ }
 {
-    let mut p = x;
-    let mut at = start;
-    while at < bytes.len() {
-        let t = turn(bytes, l, p, at);
-        match t {
-            OneTurn::Stop(a) => {
-                return a;
-            }
-            OneTurn::Go(_, y, n) => {
-                p = y;
-                at = n;
-            }
-        }
-    }
-    ReadModel::Refused(Refusal::Broken, at)
+    let OneTurn::Go(_, _, n) = t else {
+        return 0;
+    };
+    n
 }
 
-// The whole model: what loading it would say, before anything is stored.
+// What a reading that is over came to.
+fn answer_of(t: OneTurn) -> ReadModel
+    ensures { λ r. ⌜ r ≡ answerOf t ⌝ }
+{
+    match t {
+        OneTurn::Stop(a) => a,
+        OneTurn::Go(_, _, n) => ReadModel::Refused(Refusal::Broken, n),
+    }
+}
+
+// The whole model, read through one reader from record to record: what loading it would say, before anything is stored.
 pub fn judge_model(bytes: &[u8], l: Lent) -> ReadModel
     ensures { λ r. ⌜ readSays r ≡ summary (readModel (lengthsBy l) (now (bytes .entry))) ⌝ }
 {
-    let t = first_turn(bytes, l);
-    match t {
-        OneTurn::Stop(a) => a,
-        OneTurn::Go(_, y, n) => judge_rest(bytes, l, y, n),
+    let mut r = wire::reader_at(bytes, 0);
+    let mut t = first_turn(wire::next(r), l);
+    loop {
+        let at = place_of(t);
+        if at == 0 {
+            break;
+        }
+        r.at = at;
+        t = turn(wire::next(r), l, t, bytes.len());
     }
+    answer_of(t)
 }

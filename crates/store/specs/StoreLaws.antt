@@ -2,10 +2,10 @@
 use mathlib.Core.Path.{_≡_, refl, sym, ap, _∙_}
 use mathlib.Core.Logic.{inl, inr}
 use mathlib.Core.List.{List, [], _∷_, append-assoc, map}
-use Prim.Native.Nat.{ℕ, zero, suc, _+_, _-_, _≤_, _<_}
+use Prim.Native.Nat.{ℕ, suc, _+_, _-_, _≤_, _<_}
 use native.Mathlib.Nat.{zero-add}
 use native.Mathlib.Omega.{arith}
-use lib.ListN.{length, getD, set, replicate, length-replicate, length-map}
+use lib.ListN.{length, set, replicate, length-replicate, length-map}
 use lib.Seq.{sets, sets-eq}
 use types.Run.{OneOf, miss}
 use denote.Enum.Declared.{tagOf}
@@ -24,17 +24,23 @@ use Rattle.laws.specs.RecordLaws.{AreBytes, judged, un-onto, never}
 use Rattle.laws.specs.ReadSpells.{read-spelling}
 use Rattle.laws.specs.Walks.{eq-count}
 use Rattle.wire.specs.PartsAt.{partsAt}
+use Rattle.wire.specs.Places.{recordAt}
+use Rattle.wire.specs.declared.Read.{Read}
 use Rattle.spell.specs.Written.{sets-append}
 use Rattle.judge.specs.Progress.{sofarOf, Kept}
-use Rattle.judge.specs.Turning.{readOn, readSays, Summary, summary, Goes, Stops}
+use Rattle.judge.specs.Going.{placeOf, Follows, Going, left}
+use Rattle.judge.specs.GoingLaws.{going-first, going-next}
+use Rattle.judge.specs.Turning.{readOn, readSays, Summary, summary, Goes, Stops, Turned}
+use Rattle.judge.specs.declared.OneTurn.{OneTurn}
+use Rattle.judge.specs.declared.OneTurn.the-variants as T
 use Rattle.judge.specs.declared.ReadModel.{ReadModel}
 use Rattle.judge.specs.declared.ReadModel.the-variants as M
 use Rattle.rules.specs.Answers.{numberOf}
 use Rattle.rules.specs.declared.Refusal.{Refusal}
 use Rattle.rules.specs.declared.Sizes.{Sizes}
-use Rattle.judge.specs.TurnLaws.{Stepped, label, block, equation, move, stepped, past-end}
+use Rattle.judge.specs.TurnLaws.{Stepped, label, block, equation, move, stepped}
 use Rattle.judge.specs.declared.Progress.{Progress}
-use Rattle.store.specs.Stored.{Stored, putRooms, laid, storedBy, lengthsWith, ReadInto}
+use Rattle.store.specs.Stored.{Stored, putRooms, putTurn, laid, storedBy, lengthsWith, ReadInto}
 
 -- One zero of a run of zeros.
 pub zeros-step : (room : List ℕ) (i to : ℕ) → i < to → sets room i (replicate (to - i) 0) ≡ sets (set room i 0) (i + 1) (replicate (to - (i + 1)) 0)
@@ -66,54 +72,103 @@ laid-by l x y r m t k (move v d) =
     rw e refl
 
 -- Where the reading stands: if the whole is accepted, so is the rest, and storing the rest gives the whole.
-abbrev pub Here : Lengths → List ℕ → Sofar → ℕ → Stored → Sofar → ℕ → Stored → Type 0
-Here l s x₀ at₀ t₀ x at t =
-    (m : Model) → readOn l s (inside x₀) at₀ ≡ accepted m → (n : Model) × (readOn l s (inside x) at ≡ accepted n) × (laid x n t ≡ laid x₀ m t₀)
+abbrev pub Here : Lengths → List ℕ → Stored → Sofar → ℕ → Stored → Type 0
+Here l s t₀ x at t =
+    (m : Model) → readModel l s ≡ accepted m → (n : Model) × (readOn l s (inside x) at ≡ accepted n) × (laid x n t ≡ laid (started (m .sizes)) m t₀)
 
-module _ (l : Lengths) (s : List ℕ) (x₀ : Sofar) (at₀ : ℕ) (t₀ : Stored) where
+-- Where no record goes on, nothing is left to store.
+last-by : (l : Lengths) (st : State) (q : Parts) (n : Model) → Stops l st q → run (step l) put last st q ≡ accepted n → n ≡ last st
+unfolding run
+last-by l st (ends p) n f e = absurd (never e)
+last-by l st (broken p) n f e = absurd (never e)
+last-by l st (part p r q) n f e = go (step l st r) refl e
+  where
+    at : (q : Parts) → atEnd (step l) put last st q ≡ accepted n → n ≡ last st
+    at (ends k) e = cc
+    at (broken k) e = absurd (never e)
+    at (part k r q) e = absurd (never e)
+
+    go : (t : Turn State) → step l st r ≡ t → onTurn (step l) put last (λ st′. run (step l) put last st′ q) st p r q t ≡ accepted n → n ≡ last st
+    go (no k) w e = absurd (never e)
+    go (next st′) w e = absurd (f p r q st′ refl w)
+    go over w e = at q e
+
+module _ (l : Lengths) (s : List ℕ) (t₀ : Stored) where
+  -- After the sizes.
+  here-first : (y : Progress) (n : ℕ) (r : Record) → Goes l s before 0 r y n → Here l s t₀ (sofarOf y) n t₀
+  unfolding readModel readOn run put laid step
+  here-first y n r g m e =
+      let c : onto (λ (b : Model). b) (run (step l) put last (inside (sofarOf y)) (partsAt s n)) ≡ accepted m = rw (g .stands, g .steps) at e in
+      let d = un-onto (step l) put last (λ (b : Model). b) (run (step l) put last (inside (sofarOf y)) (partsAt s n)) m c in
+      elim (judged (sizesDemands l (numbersOf r)) (next (inside (started (sizesOf (numbersOf r)))))) [
+        | inl k ↦
+            let w : sofarOf y ≡ started (sizesOf (numbersOf r)) = cc in
+            (m, rw (d .2) (d .1), ap (λ (x : Sofar). laid x m t₀) w)
+        | inr k ↦ let z : _≡_ {A = ℕ} 0 1 = cc in absurd (omega arith)
+      ]
+
   -- One record further.
-  pub here-goes : (p y : Progress) (at n : ℕ) (r : Record) (t u : Stored) → Here l s x₀ at₀ t₀ (sofarOf p) at t → Kept (sofarOf p)
-      → Goes l s (inside (sofarOf p)) at r y n → u ≡ putRooms (sofarOf p) r t → Here l s x₀ at₀ t₀ (sofarOf y) n u
+  here-goes : (p y : Progress) (at n : ℕ) (r : Record) (t : Stored) → Here l s t₀ (sofarOf p) at t → Kept (sofarOf p)
+      → Goes l s (inside (sofarOf p)) at r y n → Here l s t₀ (sofarOf y) n (putRooms (sofarOf p) r t)
   unfolding readOn run
-  here-goes p y at n r t u h k g e m a =
+  here-goes p y at n r t h k g m a =
       let b = h m a in
       let c : onto (put (inside (sofarOf p)) (numbersOf r)) (run (step l) put last (inside (sofarOf y)) (partsAt s n)) ≡ accepted (b .0) = rw (g .stands, g .steps) at (b .1) in
       let d = un-onto (step l) put last (put (inside (sofarOf p)) (numbersOf r)) _ (b .0) c in
       let w = laid-by l (sofarOf p) (sofarOf y) r (d .0) t k (rw (g .steps) at (stepped l (sofarOf p) r)) in
-      (d .0, d .1, ap (laid (sofarOf y) (d .0)) e ∙ w ∙ ap (λ (v : Model). laid (sofarOf p) v t) (sym (d .2)) ∙ b .2)
+      (d .0, d .1, w ∙ ap (λ (v : Model). laid (sofarOf p) v t) (sym (d .2)) ∙ b .2)
 
-  -- Where no record goes on, nothing is left to store.
-  last-by : (st : State) (q : Parts) (n : Model) → Stops l st q → run (step l) put last st q ≡ accepted n → n ≡ last st
-  unfolding run
-  last-by st (ends p) n f e = absurd (never e)
-  last-by st (broken p) n f e = absurd (never e)
-  last-by st (part p r q) n f e = go (step l st r) refl e
-    where
-      at : (q : Parts) → atEnd (step l) put last st q ≡ accepted n → n ≡ last st
-      at (ends k) e = cc
-      at (broken k) e = absurd (never e)
-      at (part k r q) e = absurd (never e)
-
-      go : (t : Turn State) → step l st r ≡ t → onTurn (step l) put last (λ st′. run (step l) put last st′ q) st p r q t ≡ accepted n → n ≡ last st
-      go (no k) w e = absurd (never e)
-      go (next st′) w e = absurd (f p r q st′ refl w)
-      go over w e = at q e
-
-  pub here-stops : (x : Sofar) (at : ℕ) (t : Stored) → Here l s x₀ at₀ t₀ x at t → Stops l (inside x) (partsAt s at)
-      → (m : Model) → readOn l s (inside x₀) at₀ ≡ accepted m → t ≡ laid x₀ m t₀
+  -- Where the reading stops.
+  here-stops : (x : Sofar) (at : ℕ) (t : Stored) → Here l s t₀ x at t → Stops l (inside x) (partsAt s at)
+      → (m : Model) → readModel l s ≡ accepted m → t ≡ laid (started (m .sizes)) m t₀
   unfolding readOn laid last
   here-stops x at t h f m a =
       let b = h m a in
-      let e = last-by (inside x) (partsAt s at) (b .0) f (b .1) in
+      let e = last-by l (inside x) (partsAt s at) (b .0) f (b .1) in
       sym (ap (λ (v : Model). laid x v t) e) ∙ b .2
 
-  -- Past the end nothing is accepted.
-  pub here-past : (x : Sofar) (at : ℕ) (t : Stored) → Here l s x₀ at₀ t₀ x at t → length s ≤ at
-      → (m : Model) → readOn l s (inside x₀) at₀ ≡ accepted m → t ≡ laid x₀ m t₀
-  here-past x at t h k m a =
-      let b = h m a in
-      let c = past-end l s (inside x) at k in
-      let z : _≡_ {A = ℕ} 0 1 = cc in absurd (omega arith)
+  here-none : Stops l before (partsAt s 0) → (m : Model) → readModel l s ≡ accepted m → t₀ ≡ laid (started (m .sizes)) m t₀
+  unfolding readModel last laid
+  here-none f m e = let w = last-by l before (partsAt s 0) m f e in rw w refl
+
+  -- Between two turns: what was stored so far, and where the reading is over, the whole.
+  abbrev Holds : OneTurn → Stored → Type 0
+  Holds (T.Stop a) t = (m : Model) → readModel l s ≡ accepted m → t ≡ laid (started (m .sizes)) m t₀
+  Holds (T.Go r x n) t = Here l s t₀ (sofarOf x) n t
+
+  pub record Storing (u : OneTurn) (t : Stored) : Type 0 where
+    pub going : Going l s u
+    pub holds : Holds u t
+
+  -- The first turn, which stores nothing.
+  holds-first : (u : OneTurn) → Turned l s before 0 u → Holds u t₀
+  holds-first (T.Stop a) w = here-none (w .1)
+  holds-first (T.Go r y n) w = here-first y n r w
+
+  pub storing-first : (u : OneTurn) → Turned l s before 0 u → Storing u t₀
+  storing-first u w = record { going = going-first l s u w; holds = holds-first u w }
+
+  -- A turn that follows one that goes on.
+  holds-on : (r : Record) (x : Progress) (n : ℕ) (u : OneTurn) (t : Stored) → Kept (sofarOf x) → Here l s t₀ (sofarOf x) n t → Turned l s (inside (sofarOf x)) n u → Holds u (putTurn (T.Go r x n) u t)
+  holds-on r x n (T.Stop a) t k h w = here-stops (sofarOf x) n t h (w .1)
+  holds-on r x n (T.Go q y j) t k h w = here-goes x y n j q t h k w
+
+  holds-next : (x u : OneTurn) (t : Stored) (read : Read) → Storing x t → (placeOf x ≡ 0 → ⊥) → read ≡ recordAt s (placeOf x) → Follows l read x (length s) u → Holds u (putTurn x u t)
+  holds-next (T.Stop a) u t read g f e w = absurd (f refl)
+  holds-next (T.Go r x n) u t read g f e w = holds-on r x n u t (g .going .kept) (g .holds) (w s e refl)
+
+  -- A turn that is not over has a place, and one follows it.
+  pub storing-next : (x u : OneTurn) (t : Stored) (read : Read) → Storing x t → (placeOf x ≡ 0 → ⊥) → read ≡ recordAt s (placeOf x) → Follows l read x (length s) u
+      → Storing u (putTurn x u t) × (left s u < left s x)
+  storing-next x u t read g f e w = let n = going-next l s x u read (g .going) f e w in (record { going = n .0; holds = holds-next x u t read g f e w }, n .1)
+
+  -- Where it is over, the whole is stored.
+  over-by : (x : OneTurn) (t : Stored) → Going l s x → Holds x t → placeOf x ≡ 0 → (m : Model) → readModel l s ≡ accepted m → t ≡ laid (started (m .sizes)) m t₀
+  over-by (T.Stop a) t g h e = h
+  over-by (T.Go r x n) t g h e = let k = g .begun in absurd (omega arith)
+
+  pub storing-over : (x : OneTurn) (t : Stored) → Storing x t → placeOf x ≡ 0 → (m : Model) → readModel l s ≡ accepted m → t ≡ laid (started (m .sizes)) m t₀
+  storing-over x t g e = over-by x t (g .going) (g .holds) e
 
 -- Other records store nothing.
 pub puts-nothing : (x : Sofar) (r : Record) (t : Stored) → OneOf (0 ∷ 5 ∷ 6 ∷ 7 ∷ 8 ∷ []) (tagOf the-type r) → t ≡ putRooms x r t
@@ -127,26 +182,6 @@ puts-nothing x R.End t m = refl
 puts-nothing x (R.Stamp a) t m = refl
 puts-nothing x (R.Insert a) t m = refl
 puts-nothing x (R.Delete a) t m = refl
-
--- The first record of a reading that is accepted: what is stored starts at the front of each room.
-pub stored-first : (l : Lengths) (s : List ℕ) (y : Progress) (n : ℕ) (r : Record) (t u : Stored) → Goes l s before 0 r y n
-    → ((m : Model) → readOn l s (inside (sofarOf y)) n ≡ accepted m → u ≡ laid (sofarOf y) m t)
-    → (m : Model) → readModel l s ≡ accepted m → u ≡ laid (started (m .sizes)) m t
-unfolding readModel readOn run put laid step
-stored-first l s y n r t u g f m e =
-    let c : onto (λ (b : Model). b) (run (step l) put last (inside (sofarOf y)) (partsAt s n)) ≡ accepted m = rw (g .stands, g .steps) at e in
-    let d = un-onto (step l) put last (λ (b : Model). b) (run (step l) put last (inside (sofarOf y)) (partsAt s n)) m c in
-    elim (judged (sizesDemands l (numbersOf r)) (next (inside (started (sizesOf (numbersOf r)))))) [
-      | inl k ↦
-          let w : sofarOf y ≡ started (sizesOf (numbersOf r)) = cc in
-          let v : laid (sofarOf y) m t ≡ laid (started (m .sizes)) m t = ap (λ (x : Sofar). laid x m t) w in
-          f m (rw (d .2) (d .1)) ∙ v
-      | inr k ↦ let z : _≡_ {A = ℕ} 0 1 = cc in absurd (omega arith)
-    ]
-
-pub stored-none : (l : Lengths) (s : List ℕ) (t : Stored) → Stops l before (partsAt s 0) → (m : Model) → readModel l s ≡ accepted m → t ≡ laid (started (m .sizes)) m t
-unfolding readModel last laid
-stored-none l s t f m e = let w = last-by l s (started (m .sizes)) 0 t before (partsAt s 0) m f e in rw w refl
 
 -- Stored from the front on, where there is room, is the room filled.
 sets-fill : (new room : List ℕ) → length new ≤ length room → sets room 0 new ≡ fill new room

@@ -7,7 +7,10 @@ use lib.Seq.{sets}
 use Rattle.lists.specs.Lists.{fill}
 use Rattle.rules.specs.Load.{Sofar, equationOf, readModel}
 use Rattle.rules.specs.Rooms.{Lengths}
+use Rattle.judge.specs.Progress.{sofarOf}
 use Rattle.judge.specs.Turning.{readSays, summary}
+use Rattle.judge.specs.declared.OneTurn.{OneTurn}
+use Rattle.judge.specs.declared.OneTurn.the-variants as T
 use Rattle.judge.specs.declared.ReadModel.{ReadModel}
 use Rattle.rules.specs.Model.{Model}
 use Rattle.rules.specs.Moves.{pack, wrap}
@@ -41,6 +44,12 @@ putRooms x R.End t = t
 putRooms x (R.Stamp n) t = t
 putRooms x (R.Insert m) t = t
 putRooms x (R.Delete m) t = t
+
+-- What the record of a turn does to them, after what the turn before it had read.
+abbrev pub putTurn : OneTurn → OneTurn → Stored → Stored
+putTurn (T.Stop a) u t = t
+putTurn (T.Go r x n) (T.Stop a) t = t
+putTurn (T.Go r x n) (T.Go q y k) t = putRooms (sofarOf x) q t
 
 -- What is still to come, written from where the reading stands on.
 unfoldable pub laid : Sofar → Model → Stored → Stored

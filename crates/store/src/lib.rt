@@ -1,17 +1,17 @@
 // A model that was judged good, stored into the rooms lent for it.
 ghost use mathlib.Core.Path.{_≡_};
-ghost use Prim.Native.Nat.{ℕ, _-_, _≤_, _<_};
+ghost use Prim.Native.Nat.{_-_};
 ghost use lib.ListN.{set, replicate};
 ghost use lib.Seq.{sets};
-ghost use Rattle.rules.specs.Load.{inside, started, readModel, equationOf};
+ghost use Rattle.rules.specs.Load.{started, readModel, equationOf};
 ghost use Rattle.rules.specs.Model.{Model};
 ghost use Rattle.rules.specs.Moves.{pack, wrap};
 ghost use Rattle.rules.specs.Records.{accepted};
 ghost use Rattle.rules.specs.Session.{word};
 ghost use Rattle.limits.specs.Lent.{lengthsBy};
 ghost use Rattle.judge.specs.Progress.{sofarOf, Kept};
-ghost use Rattle.judge.specs.Turning.{readOn, readSays, summary};
-ghost use Rattle.store.specs.Stored.{Stored, putRooms, laid, ReadInto};
+ghost use Rattle.judge.specs.Going.{KeptTurn};
+ghost use Rattle.store.specs.Stored.{Stored, putRooms, putTurn, laid, ReadInto};
 use judge::OneTurn;
 use judge::Progress;
 use judge::ReadModel;
@@ -86,45 +86,36 @@ fn put_record(labels: &mut [u32], equations: &mut [u32], moves: &mut [u32], x: P
     }
 }
 
-// The records after the sizes, stored one by one.
-fn store_rest(
-    bytes: &[u8],
-    l: Lent,
-    x: Progress,
-    start: usize,
-    labels: &mut [u32],
-    equations: &mut [u32],
-    moves: &mut [u32],
-)
-    requires { ⌜ Kept (sofarOf x) ⌝ }
-    ensures { λ _. ⌜ ((m : Model) → readOn (lengthsBy l) (now (bytes .entry)) (inside (sofarOf x)) start ≡ accepted m → _≡_ {A = Stored} (record { labels = now (labels .exit); equations = now (equations .exit); moves = now (moves .exit) }) (laid (sofarOf x) m (record { labels = now (labels .entry); equations = now (equations .entry); moves = now (moves .entry) }))) ⌝ }
+// What a turn's record says, stored after what the turn before it had read.
+fn put_turn(labels: &mut [u32], equations: &mut [u32], moves: &mut [u32], t: OneTurn, u: OneTurn)
+    requires { ⌜ KeptTurn t ⌝ }
+    ensures { λ _. ⌜ _≡_ {A = Stored} (record { labels = now (labels .exit); equations = now (equations .exit); moves = now (moves .exit) }) (putTurn t u (record { labels = now (labels .entry); equations = now (equations .entry); moves = now (moves .entry) })) ⌝ }
 {
-    let mut p = x;
-    let mut at = start;
-    while at < bytes.len() {
-        let t = judge::turn(bytes, l, p, at);
-        match t {
-            OneTurn::Stop(_) => {
-                return;
-            }
-            OneTurn::Go(r, y, n) => {
-                put_record(labels, equations, moves, p, r);
-                p = y;
-                at = n;
-            }
-        }
-    }
+    let OneTurn::Go(_, x, _) = t else {
+        return;
+    };
+    let OneTurn::Go(rec, _, _) = u else {
+        return;
+    };
+    put_record(labels, equations, moves, x, rec);
 }
 
-// The whole model, stored.
+// The whole model, read through one reader from record to record, and stored.
 fn store_model(bytes: &[u8], l: Lent, labels: &mut [u32], equations: &mut [u32], moves: &mut [u32])
     ensures { λ _. ⌜ ((m : Model) → readModel (lengthsBy l) (now (bytes .entry)) ≡ accepted m → _≡_ {A = Stored} (record { labels = now (labels .exit); equations = now (equations .exit); moves = now (moves .exit) }) (laid (started (m .sizes)) m (record { labels = now (labels .entry); equations = now (equations .entry); moves = now (moves .entry) }))) ⌝ }
 {
-    let t = judge::first_turn(bytes, l);
-    let OneTurn::Go(_, y, n) = t else {
-        return;
-    };
-    store_rest(bytes, l, y, n, labels, equations, moves);
+    let mut r = wire::reader_at(bytes, 0);
+    let mut t = judge::first_turn(wire::next(r), l);
+    loop {
+        let at = judge::place_of(t);
+        if at == 0 {
+            break;
+        }
+        r.at = at;
+        let u = judge::turn(wire::next(r), l, t, bytes.len());
+        put_turn(labels, equations, moves, t, u);
+        t = u;
+    }
 }
 
 // A model read: judged first, and stored only where it is good.

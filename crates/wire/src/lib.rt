@@ -1,6 +1,6 @@
 // The record that stands at a place of the bytes, as an enum. The bytes are read through a reader that holds them and its
-// place. The borrow checker covers no function over such a struct, so `reader_at`, `next` and `read_record`, and whoever keeps
-// a reader, are proved by hand; the work is left to `record_at`, which takes a plain slice and a place and is covered.
+// place. The borrow checker covers no function over such a struct, so `reader_at` and `next`, and whoever keeps a reader, are
+// proved by hand; the work is left to `record_at`, which takes a plain slice and a place and is covered.
 ghost use mathlib.Core.Path.{_≡_};
 ghost use Prim.Native.Nat.{_+_, _≤_, _<_};
 ghost use lib.ListN.{length};
@@ -140,11 +140,4 @@ pub fn next<'a>(r: Reader<'a>) -> Read
     ensures { λ x. ⌜ x ≡ recordAt (now (r .entry .bytes)) (r .entry .at) ⌝ }
 {
     record_at(r.bytes, r.at)
-}
-
-// The record at a place of the bytes, through a reader that stands there. Covered functions read by it.
-pub fn read_record(bytes: &[u8], at: usize) -> Read
-    ensures { λ r. ⌜ r ≡ recordAt (now (bytes .entry)) at ⌝ }
-{
-    next(reader_at(bytes, at))
 }

@@ -1,5 +1,5 @@
 -- `judge::turn` meets its contract. Assumes nothing.
-use mathlib.Core.Path.{sym, ap, _∙_}
+use mathlib.Core.Path.{refl, sym, ap, _∙_}
 use borrow.Author.Needs.{needs}
 use Rattle.rules.specs.Load.{inside}
 use Rattle.limits.specs.Lent.{lengthsBy}
@@ -8,20 +8,29 @@ use Rattle.judge.specs.Progress.{sofarOf, judgedSays}
 use Rattle.judge.proofs.turn.Statement.{statement}
 use Rattle.judge.proofs.turn.Tie as tie
 
-read-record-requires : tie.Need-read-record-requires
-read-record-requires c κs = search needs
-
-enum-known-read : tie.Need-enum-known-read
-enum-known-read c = search needs
+enum-known-t : tie.Need-enum-known-t
+enum-known-t c = search needs
 
 enum-told : tie.Need-enum-told
 enum-told c = search needs
 
 returns : tie.Need-returns
-returns c = turned-broken (lengthsBy (c .before .before .before .before .args .l)) (c .before .before .before .before .args .bytes .now) (inside (sofarOf (c .before .before .before .before .args .x))) (c .before .before .before .before .args .at) (sym (c .before .before .read-record .ensures) ∙ c .enum-told .given .1)
+returns c = rw (c .enum-told .given .1) refl
+
+enum-known-read : tie.Need-enum-known-read
+enum-known-read c = search needs
+
+enum-told-2 : tie.Need-enum-told-2
+enum-told-2 c = search needs
+
+returns-2 : tie.Need-returns-2
+returns-2 c =
+    let a = c .before .before .before .before .before .args in
+    let t = c .before .before .before .t .given in
+    rw (t .1) (λ s e n. turned-broken (lengthsBy (a .l)) s (inside (sofarOf (t .0 .1 .0))) (t .0 .1 .1 .0) (sym e ∙ c .enum-told2 .given .1))
 
 judge-record-requires : tie.Need-judge-record-requires
-judge-record-requires c κs = search needs
+judge-record-requires c κs = rw (c .before .before .before .before .t .given .1) at (c .before .before .before .before .before .before .pre)
 
 enum-known-judged : tie.Need-enum-known-judged
 enum-known-judged c = search needs
@@ -29,56 +38,55 @@ enum-known-judged c = search needs
 enum-known-judged-2 : tie.Need-enum-known-judged-2
 enum-known-judged-2 c = search needs
 
-enum-told-2 : tie.Need-enum-told-2
-enum-told-2 c = search needs
+enum-told-3 : tie.Need-enum-told-3
+enum-told-3 c = search needs
 
 at-end-requires : tie.Need-at-end-requires
 at-end-requires c κs = search needs
 
-returns-2 : tie.Need-returns-2
-returns-2 c =
-    let a = c .before .before .before .before .before .before .before .before .before .args in
-    let l = lengthsBy (a .l) in
-    let s = a .bytes .now in
-    let st = inside (sofarOf (a .x)) in
-    let g = c .before .before .before .before .before .read .given in
-    let got = sym (c .before .before .before .before .before .before .before .read-record .ensures) ∙ g .1 in
-    turned-no l s st (a .at) (g .0 .1 .0) (g .0 .0) got (c .before .judged .given .0 .0) (sym (c .before .before .before .judge-record .ensures) ∙ ap judgedSays (c .before .judged .given .1))
-
 returns-3 : tie.Need-returns-3
 returns-3 c =
-    let a = c .before .before .before .before .before .before .before .before .before .args in
-    let l = lengthsBy (a .l) in
-    let s = a .bytes .now in
-    let st = inside (sofarOf (a .x)) in
+    let a = c .before .before .before .before .before .before .before .before .before .before .args in
+    let t = c .before .before .before .before .before .before .before .before .t .given in
     let g = c .before .before .before .before .before .read .given in
-    let got = sym (c .before .before .before .before .before .before .before .read-record .ensures) ∙ g .1 in
-    let y = c .before .judged2 .given .0 .0 in
-    let h = sym (c .before .before .before .judge-record .ensures) ∙ ap judgedSays (c .before .judged2 .given .1) in
-    turned-next l s st (a .at) (g .0 .1 .0) (g .0 .0) got y h (step-kept l (sofarOf (a .x)) (sofarOf y) (g .0 .0) (c .before .before .before .before .before .before .before .before .before .pre) h)
+    let h = sym (c .before .before .before .judge-record .ensures) ∙ ap judgedSays (c .before .judged .given .1) in
+    rw (t .1) (λ s e n. turned-no (lengthsBy (a .l)) s (inside (sofarOf (t .0 .1 .0))) (t .0 .1 .1 .0) (g .0 .1 .0) (g .0 .0) (sym e ∙ g .1) (c .before .judged .given .0 .0) h)
 
 returns-4 : tie.Need-returns-4
 returns-4 c =
-    let a = c .before .before .before .before .before .before .before .before .before .args in
+    let a = c .before .before .before .before .before .before .before .before .before .before .args in
     let l = lengthsBy (a .l) in
-    let s = a .bytes .now in
+    let t = c .before .before .before .before .before .before .before .before .t .given in
+    let x = t .0 .1 .0 in
     let g = c .before .before .before .before .before .read .given in
-    let got = sym (c .before .before .before .before .before .before .before .read-record .ensures) ∙ g .1 in
-    rw (c .at-end .ensures) (turned-over l s (a .x) (a .at) (g .0 .1 .0) (g .0 .0) got (sym (c .before .before .before .judge-record .ensures) ∙ ap judgedSays (c .before .enum-told2 .given .1)))
+    let y = c .before .judged2 .given .0 .0 in
+    let h = sym (c .before .before .before .judge-record .ensures) ∙ ap judgedSays (c .before .judged2 .given .1) in
+    let k = step-kept l (sofarOf x) (sofarOf y) (g .0 .0) (rw (t .1) at (c .before .before .before .before .before .before .before .before .before .before .pre)) h in
+    rw (t .1) (λ s e n. turned-next l s (inside (sofarOf x)) (t .0 .1 .1 .0) (g .0 .1 .0) (g .0 .0) (sym e ∙ g .1) y h k)
+
+returns-5 : tie.Need-returns-5
+returns-5 c =
+    let a = c .before .before .before .before .before .before .before .before .before .before .args in
+    let t = c .before .before .before .before .before .before .before .before .t .given in
+    let g = c .before .before .before .before .before .read .given in
+    let h = sym (c .before .before .before .judge-record .ensures) ∙ ap judgedSays (c .before .enum-told3 .given .1) in
+    rw (t .1, c .at-end .ensures) (λ s e n. rw n (turned-over (lengthsBy (a .l)) s (t .0 .1 .0) (t .0 .1 .1 .0) (g .0 .1 .0) (g .0 .0) (sym e ∙ g .1) h))
 
 pub turn-spec : {M : Type 1} → statement M
 turn-spec =
     tie.close
     (tie.spec
-    read-record-requires
-    enum-known-read
+    enum-known-t
     enum-told
     returns
+    enum-known-read
+    enum-told-2
+    returns-2
     judge-record-requires
     enum-known-judged
     enum-known-judged-2
-    enum-told-2
+    enum-told-3
     at-end-requires
-    returns-2
     returns-3
-    returns-4)
+    returns-4
+    returns-5)
