@@ -8,7 +8,7 @@ use Rattle.limits.proofs.label_ok.Statement.{statement}
 use Rattle.limits.proofs.label_ok.Tie as tie
 
 sub-result : tie.Need-sub-result
-sub-result c = leading-le 32 (c .args .v)
+sub-result c = let h = leading-le 32 (c .args .v) in omega arith
 
 cast-result : tie.Need-cast-result
 cast-result c = search needs
