@@ -1,9 +1,10 @@
 -- `judge::on_label` meets its contract. Assumes nothing.
-use mathlib.Core.Path.{refl}
-use native.Mathlib.Numerals.{add-one}
+use mathlib.Core.Path.{refl, ap, _∙_}
+use Prim.Native.Nat.{ℕ}
+use native.Mathlib.Omega.{arith}
 use borrow.Author.Needs.{needs}
-use Rattle.rules.specs.Records.{next}
-use Rattle.rules.specs.Load.{inside, labelDemands, afterLabel}
+use Rattle.rules.specs.Records.{Turn, next}
+use Rattle.rules.specs.Load.{State, inside, labelDemands, afterLabel}
 use Rattle.judge.specs.Progress.{sofarOf}
 use Rattle.judge.specs.Demands.{fails, meets}
 use Rattle.judge.proofs.on_label.Statement.{statement}
@@ -40,7 +41,8 @@ returns-3 c =
     let s = c .before .before .before .before .before .before .before .before .before .before .before in
     let a = s .args in
     let x = sofarOf (a .x) in
-    rw add-one (meets (labelDemands x (a .s .0) (a .v)) (next (inside (afterLabel x (a .s .0)))) (rw (s .pre) refl, (rw (c .before .before .before .before .before .label-ok .ensures) at (c .before .before .before .before .if1 .left), (c .before .if2 .left, tt))))
+    let says : ℕ → Turn State = λ n. next (inside (record { sizes = x .sizes; labels = n; blocks = x .blocks; moves = x .moves })) in
+    ap says (omega arith) ∙ meets (labelDemands x (a .s .0) (a .v)) (next (inside (afterLabel x (a .s .0)))) (rw (s .pre) refl, (rw (c .before .before .before .before .before .label-ok .ensures) at (c .before .before .before .before .if1 .left), (c .before .if2 .left, tt)))
 
 pub on-label-spec : {M : Type 1} → statement M
 on-label-spec =
