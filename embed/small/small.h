@@ -1,5 +1,5 @@
-/* What the programs of this folder have in place of a C library: start.c, for 32-bit Arm (Thumb) and RISC-V under Linux's
-   system calls, which the emulators qemu-arm and qemu-riscv32 answer. */
+/* What the programs of this folder have in place of a C library: start.c, for 32-bit Arm (Thumb), 32-bit RISC-V and x86-64 under
+   Linux's system calls, which the emulators qemu-arm, qemu-riscv32 and qemu-x86_64 answer. */
 #ifndef SMALL_H
 #define SMALL_H
 

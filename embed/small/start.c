@@ -36,11 +36,19 @@ static long call(long number, long a, const void *b, size_t c) {
 }
 
 #define CONTINUE_ON(top) __asm__ volatile("mv sp, %0\n\tcall begin" : : "r"(top) : "memory")
-#else
-#error "32-bit Arm (Thumb) or RISC-V"
-#endif
+#elif defined(__x86_64__)
+enum { EXIT = 60, READ = 0, WRITE = 1 };
 
-_Static_assert(sizeof(size_t) == 4 && sizeof(void *) == 4, "a 32-bit machine");
+static long call(long number, long a, const void *b, size_t c) {
+    long answer;
+    __asm__ volatile("syscall" : "=a"(answer) : "a"(number), "D"(a), "S"(b), "d"(c) : "rcx", "r11", "memory");
+    return answer;
+}
+
+#define CONTINUE_ON(top) __asm__ volatile("mov %0, %%rsp\n\tcall begin" : : "r"(top) : "memory")
+#else
+#error "32-bit Arm (Thumb), 32-bit RISC-V or x86-64"
+#endif
 
 __attribute__((noreturn, used)) void begin(void) {
     call(EXIT, run(), NULL, 0);
