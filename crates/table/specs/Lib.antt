@@ -2,6 +2,8 @@ pub mod Ascending
 pub mod Fronts
 pub mod Stamps
 pub mod Leading
+pub mod Halving
+pub mod Searching
 pub mod OwnMoves
-pub mod PartWalk
+pub mod PartEnds
 pub mod Members

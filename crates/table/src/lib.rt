@@ -1,11 +1,13 @@
 // The sorted list of packed moves: its stamp, which part of it belongs to a state and an action, and what stands in it.
 ghost use mathlib.Core.Path.{_≡_};
-ghost use mathlib.Core.Bool.{true};
+ghost use mathlib.Core.Bool.{true, cond};
 ghost use Prim.Native.Nat.{_+_, _-_, _<_, min};
-ghost use lib.ListN.{take, drop};
+ghost use lib.ListN.{length, getD, take, drop};
+ghost use lib.Dec.{ltb};
 ghost use Rattle.lists.specs.Lists.{elem};
 ghost use Rattle.rules.specs.Moves.{source, action, target, weight, wrap, stampOf};
 ghost use Rattle.table.specs.Ascending.{ascends, below, leading};
+ghost use Rattle.table.specs.Halving.{testsFor};
 ghost use Rattle.table.specs.OwnMoves.{partOf};
 use rules::Action;
 use rules::Move;
@@ -98,7 +100,7 @@ pub fn stamp_of(moves: &[u32], n: usize) -> u32
     stamp
 }
 
-// The place of the first of the n moves, from `from` on, that does not lie below the key.
+// The place of the first of the n moves, from `from` on, that does not lie below the key, in any list: a walk.
 pub fn passed(moves: &[u32], n: usize, from: usize, key: u64) -> usize
     ensures { λ r. ⌜ r ≡ from + leading key (drop from (take n (now (moves .entry)))) ⌝ }
 {
@@ -110,12 +112,52 @@ pub fn passed(moves: &[u32], n: usize, from: usize, key: u64) -> usize
     at
 }
 
+// What a search has found: the place, and how many tests it took.
+struct Found {
+    at: usize,
+    tests: usize,
+}
+
+// Where a search goes on after one test: past the place that is tested, where the move there lies below the key.
+fn tested(moves: &[u32], at: usize, middle: usize, key: u64) -> usize
+    requires { ⌜ middle < length (now moves) ⌝ }
+    ensures { λ r. ⌜ r ≡ cond (ltb (getD (now (moves .entry)) middle 0) key) (middle + 1) at ⌝ }
+{
+    if (moves[middle] as u64) < key {
+        return middle + 1;
+    }
+    at
+}
+
+// The same place as `passed` finds, in an ascending list, found by halving: each test leaves half of the places.
+fn search(moves: &[u32], n: usize, from: usize, key: u64) -> Found
+    requires { ⌜ ascends 0 (take n (now moves)) ≡ true ⌝ }
+    ensures { λ r. ⌜ (r .at ≡ from + leading key (drop from (take n (now (moves .entry)))))
+        × (r .tests ≡ testsFor (length (drop from (take n (now (moves .entry)))))) ⌝ }
+{
+    let end = least(n, moves.len());
+    let mut at = from;
+    let mut left = end - least(from, end);
+    let mut tests: usize = 0;
+    while 0 < left {
+        let before = (left - 1) / 2;
+        at = tested(moves, at, at + before, key);
+        left = left - before - 1;
+        tests = tests + 1;
+    }
+    Found {
+        at: at,
+        tests: tests,
+    }
+}
+
 // The place of the first of the n moves that is not below q.
 pub fn place_of(moves: &[u32], n: usize, q: u32) -> usize
     requires { ⌜ ascends 0 (take n (now moves)) ≡ true ⌝ }
     ensures { λ r. ⌜ r ≡ below q (take n (now (moves .entry))) ⌝ }
 {
-    passed(moves, n, 0, q as u64)
+    let found = search(moves, n, 0, q as u64);
+    found.at
 }
 
 // Whether q is one of the first n moves: the one at its place tells.
@@ -127,16 +169,16 @@ pub fn holds_move(moves: &[u32], n: usize, q: u32) -> bool
     (at < least(n, moves.len())) & (rooms::word_at(moves, at) == q)
 }
 
-// Which part of the first n moves belongs to a state and an action, walked from the front.
+// Which part of the first n moves belongs to a state and an action: two searches find its ends.
 pub fn part_of(moves: &[u32], n: usize, source: u32, action: u32) -> Part
     requires { ⌜ ascends 0 (take n (now moves)) ≡ true ⌝ }
     ensures { λ r. ⌜ r ≡ partOf source action (take n (now (moves .entry))) ⌝ }
 {
     let first = 65536 * (source as u64) + 1024 * (action as u64);
-    let from = passed(moves, n, 0, first);
-    let end = passed(moves, n, from, first + 1024);
+    let from = search(moves, n, 0, first);
+    let end = search(moves, n, from.at, first + 1024);
     Part {
-        from: from,
-        end: end,
+        from: from.at,
+        end: end.at,
     }
 }

@@ -1,8 +1,7 @@
--- In an ascending list the two walks pass exactly what lies below the two keys. Assumes nothing.
-use mathlib.Core.Path.{refl}
-use Prim.Native.Nat.{_+_, _*_}
+-- What the two searches find is what lies below the two keys. Assumes nothing.
+use native.Mathlib.Omega.{arith}
 use lib.ListN.{take}
-use Rattle.table.specs.PartWalk.{two-walks}
+use Rattle.table.specs.PartEnds.{two-ends}
 use borrow.Author.Needs.{needs}
 use Rattle.table.proofs.part_of.Statement.{statement}
 use Rattle.table.proofs.part_of.Tie as tie
@@ -16,21 +15,24 @@ mul-first-2 c = search needs
 add-first : tie.Need-add-first
 add-first c = search needs
 
-passed-requires : tie.Need-passed-requires
-passed-requires c κs = search needs
+search-requires : tie.Need-search-requires
+search-requires c κs = search needs
 
-add-passed : tie.Need-add-passed
-add-passed c = search needs
+add-search : tie.Need-add-search
+add-search c = search needs
 
-passed-requires-2 : tie.Need-passed-requires-2
-passed-requires-2 c κs = search needs
+search-requires-2 : tie.Need-search-requires-2
+search-requires-2 c κs = search needs
 
 returns : tie.Need-returns
-returns c = let a = c .before .before .before .args in
-    two-walks (a .source) (a .action) (65536 * a .source + 1024 * a .action) (c .before .passed .result) (c .passed2 .result) (take (a .n) (a .moves .now)) (c .before .before .before .pre) refl
-    (c .before .passed .ensures) (c .passed2 .ensures)
+returns c =
+    let after-search = c .before in
+    let at-start = after-search .before .before in
+    let a = at-start .args in
+    two-ends (a .source) (a .action) _ _ (after-search .search .result .at) (c .search2 .result .at) (take (a .n) (a .moves .now)) (at-start .pre)
+    (after-search .search .ensures .0) (c .search2 .ensures .0) (omega arith) (omega arith)
 
 pub part-of-spec : {M : Type 1} → statement M
 part-of-spec =
     tie.close
-    (tie.spec mul-first mul-first-2 add-first passed-requires add-passed passed-requires-2 returns)
+    (tie.spec mul-first mul-first-2 add-first search-requires add-search search-requires-2 returns)
