@@ -4,8 +4,12 @@ use mathlib.Core.List.{List, [], _∷_}
 use Prim.Native.Nat.{ℕ, _+_, _-_, _≤_, _<_, min}
 use native.Mathlib.Numerals.{add-one}
 use native.Mathlib.Omega.{arith}
-use lib.ListN.{length, getD, take, drop, length-take, drop-of-length-le}
+use lib.ListN.{length, getD, take, drop, length-take, length-drop, drop-of-length-le}
 use lib.Seq.{drop-cons, getD-take}
+
+-- How many there are.
+pub rest-length : (l : List ℕ) (n i : ℕ) → length (drop i (take n l)) ≡ min n (length l) - i
+rest-length l n i = length-drop i (take n l) ∙ ap (λ (k : ℕ). k - i) (length-take n l)
 
 -- The next entry, and the rest.
 pub rest-more : (l : List ℕ) (n i : ℕ) → i < min n (length l) → drop i (take n l) ≡ getD l i 0 ∷ drop (i + 1) (take n l)

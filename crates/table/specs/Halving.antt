@@ -1,19 +1,22 @@
 -- How many tests it takes to find a place by halving, and how few that is. Assumes nothing.
-use mathlib.Core.Path.{_≡_, refl, ap, _∙_}
+use mathlib.Core.Path.{_≡_, refl, ap}
 use mathlib.Core.Logic.{inl, inr}
 use mathlib.Core.Bool.{true, cond}
+use mathlib.Core.List.{List}
 use Prim.Native.Nat.{ℕ, zero, suc, _/_, _^_, _≤_, _<_}
 use native.Mathlib.Omega.{arith}
+use lib.ListN.{length, take, drop}
 use lib.Dec.{ltb}
 use Rattle.lists.specs.Tests.{tell, ltb-is, ltb-in, ltb-no}
 use Rattle.rules.specs.Limits.{most-moves}
+use Rattle.table.specs.Fronts.{rest-length}
 
 -- The tests made of n places where each leaves half of them, counted up to k.
 abbrev halvings : ℕ → ℕ → ℕ
 halvings zero n = 0
 halvings (suc k) n = cond (ltb 0 n) (suc (halvings k (n / 2))) 0
 
--- The tests made of n places until none is left, where each test leaves half of them. There are no more tests than places.
+-- The tests made of n places until none is left, where each test leaves half of them.
 unfoldable pub testsFor : ℕ → ℕ
 testsFor n = halvings n n
 
@@ -61,10 +64,14 @@ few-tests (suc k) n h =
       | inr t ↦ let e : n ≡ 0 = omega (arith, ltb-no 0 n .0 t) in rw (e, none-to-test) (omega arith)
     ]
 
--- As many places as a model has moves take at most 11 tests.
-pub eleven-tests : (n : ℕ) → n ≤ most-moves → testsFor n ≤ 11
-eleven-tests n h = few-tests 11 n (omega arith)
+-- So it is of the first n entries of a list, from some place on: what a search is made of.
+pub search-tests : (k n from : ℕ) (l : List ℕ) → n < 2 ^ k → testsFor (length (drop from (take n l))) ≤ k
+search-tests k n from l h = let e = rest-length l n from in few-tests k (length (drop from (take n l))) (omega arith)
 
--- Four times as many take at most 13.
-pub thirteen-tests : (n : ℕ) → n ≤ 4096 → testsFor n ≤ 13
-thirteen-tests n h = few-tests 13 n (omega arith)
+-- A search among as many moves as a model may have takes at most 11 tests.
+pub eleven-tests : (n from : ℕ) (l : List ℕ) → n ≤ most-moves → testsFor (length (drop from (take n l))) ≤ 11
+eleven-tests n from l h = search-tests 11 n from l (omega arith)
+
+-- Among four times as many it takes at most 13.
+pub thirteen-tests : (n from : ℕ) (l : List ℕ) → n ≤ 4096 → testsFor (length (drop from (take n l))) ≤ 13
+thirteen-tests n from l h = search-tests 13 n from l (omega arith)

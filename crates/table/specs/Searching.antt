@@ -1,16 +1,17 @@
 -- Halving the places among which the first entry that is not below the key stands. Assumes nothing.
-use mathlib.Core.Path.{_≡_, sym, ap, _∙_}
+use mathlib.Core.Path.{_≡_, ap, _∙_}
 use mathlib.Core.Logic.{inl, inr}
 use mathlib.Core.Bool.{true, cond}
 use mathlib.Core.List.{List, [], _∷_}
 use Prim.Native.Nat.{ℕ, zero, suc, _+_, _-_, _/_, _≤_, _<_, min}
 use native.Mathlib.Nat.{zero-add}
 use native.Mathlib.Omega.{arith}
-use lib.ListN.{length, getD, take, drop, length-take, length-drop}
+use lib.ListN.{length, getD, take, drop}
 use lib.Seq.{getD-take, getD-drop}
 use lib.Dec.{ltb}
 use Rattle.lists.specs.Tests.{tell, and-is, leb-is, ltb-is, ltb-no}
 use Rattle.table.specs.Ascending.{ascends, leading}
+use Rattle.table.specs.Fronts.{rest-length}
 use Rattle.table.specs.Halving.{testsFor, none-to-test, test-more, tests-places}
 
 -- What is left of an ascending list ascends.
@@ -69,7 +70,7 @@ module _ (key : ℕ) (l : List ℕ) (n from : ℕ) where
   abbrev first : ℕ
   first = from + leading key (drop from (take n l))
 
-  -- It lies at `at` or one of the `left` places after it, and so many tests are made that those still to make complete them.
+  -- It is `at` or one of the `left` places after it, and the tests made and those still to make are all that there are.
   abbrev pub Narrowed : ℕ → ℕ → ℕ → Type 0
   Narrowed at left made = (((from ≤ at) × (at + left ≤ from + places)) × ((at ≤ first) × (first ≤ at + left))) × (made + testsFor left ≡ testsFor places)
 
@@ -78,8 +79,7 @@ module _ (key : ℕ) (l : List ℕ) (n from : ℕ) where
       → (getD l p 0 < key → p < first) × (key ≤ getD l p 0 → first ≤ p)
   entry-tells h p a b =
       let k = rest-ascends from 0 (take n l) h in
-      let w : places ≡ length (take n l) - from = length-drop from (take n l) in
-      let m : length (take n l) ≡ min n (length l) = length-take n l in
+      let w = rest-length l n from in
       let u : from + (p - from) ≡ p = omega arith in
       let e : getD (drop from (take n l)) (p - from) 0 ≡ getD l p 0 =
       getD-drop from (take n l) (p - from) 0 ∙ ap (λ (x : ℕ). getD (take n l) x 0) u ∙ getD-take n l p 0 (omega arith) in (
@@ -87,19 +87,17 @@ module _ (key : ℕ) (l : List ℕ) (n from : ℕ) where
         λ y. let r = follows key (p - from) (drop from (take n l)) (omega arith) (rw e y) in omega arith,
       )
 
-  -- At the start nothing is known.
+  -- At the start it may be any of the places.
   pub wide : (left : ℕ) → left ≡ min n (length l) - min from (min n (length l)) → Narrowed from left 0
   wide left e =
-      let w : places ≡ length (take n l) - from = length-drop from (take n l) in
-      let m : length (take n l) ≡ min n (length l) = length-take n l in
+      let w = rest-length l n from in
       let k = leading-fit key (drop from (take n l)) in
       let f : left ≡ places = omega arith in (omega arith, rw f (zero-add (testsFor places)))
 
   -- The places left are places of the list, and there are fewer tests made than places.
   pub inside : (at left made : ℕ) → Narrowed at left made → 0 < left → (at + left ≤ length l) × (made < length l)
   inside at left made w k =
-      let d : places ≡ length (take n l) - from = length-drop from (take n l) in
-      let m : length (take n l) ≡ min n (length l) = length-take n l in
+      let d = rest-length l n from in
       let c = test-more left k in
       let p = tests-places places in (omega arith, omega arith)
 

@@ -129,7 +129,8 @@ fn tested(moves: &[u32], at: usize, middle: usize, key: u64) -> usize
     at
 }
 
-// The same place as `passed` finds, in an ascending list, found by halving: each test leaves half of the places.
+// The same place as `passed` finds, in an ascending list, found by halving: it is `at` or one of the `left` places after it, and
+// each test, made in the middle of these, leaves half of them.
 fn search(moves: &[u32], n: usize, from: usize, key: u64) -> Found
     requires { ⌜ ascends 0 (take n (now moves)) ≡ true ⌝ }
     ensures { λ r. ⌜ (r .at ≡ from + leading key (drop from (take n (now (moves .entry)))))
