@@ -10,7 +10,7 @@ use lib.ListN.{length, getD, take, length-take}
 use lib.Seq.{getD-take}
 use lib.Dec.{eqb, ltb}
 use Rattle.lists.specs.Lists.{elem}
-use Rattle.lists.specs.Tests.{tell, and-is, and-no, leb-is, ltb-is, ltb-in, ltb-no, eqb-in, eqb-no}
+use Rattle.lists.specs.Tests.{tell, and-is, leb-is, ltb-is, ltb-in, ltb-no, eqb-in, eqb-no}
 use Rattle.table.specs.Ascending.{ascends, below, leading, leading-below}
 
 -- Nothing below where the list starts is in it.

@@ -9,8 +9,9 @@ use native.Mathlib.Omega.{arith}
 use lib.ListN.{length, getD, take, drop}
 use lib.Seq.{getD-take, getD-drop}
 use lib.Dec.{ltb}
+use Rattle.lists.specs.Counts.{count-le}
 use Rattle.lists.specs.Tests.{tell, and-is, leb-is, ltb-is, ltb-no}
-use Rattle.table.specs.Ascending.{ascends, leading}
+use Rattle.table.specs.Ascending.{ascends, leading, leading-below}
 use Rattle.table.specs.Fronts.{rest-length}
 use Rattle.table.specs.Halving.{testsFor, none-to-test, test-more, tests-places}
 
@@ -50,16 +51,6 @@ follows key (suc i) (q ∷ l) k y =
       | inr t ↦ rw t (omega arith)
     ]
 
--- No more entries lead than there are.
-leading-fit : (key : ℕ) (l : List ℕ) → leading key l ≤ length l
-leading-fit key [] = omega arith
-leading-fit key (q ∷ l) =
-    let ih = leading-fit key l in
-    elim (tell true (ltb q key)) [
-      | inl t ↦ rw t (omega arith)
-      | inr t ↦ rw t (omega arith)
-    ]
-
 -- The search in the first n entries of l, from place `from` on.
 module _ (key : ℕ) (l : List ℕ) (n from : ℕ) where
   -- The places to search.
@@ -88,10 +79,12 @@ module _ (key : ℕ) (l : List ℕ) (n from : ℕ) where
       )
 
   -- At the start it may be any of the places.
-  pub wide : (left : ℕ) → left ≡ min n (length l) - min from (min n (length l)) → Narrowed from left 0
-  wide left e =
+  pub wide : (left : ℕ) → ascends 0 (take n l) ≡ true → left ≡ min n (length l) - min from (min n (length l)) → Narrowed from left 0
+  wide left h e =
       let w = rest-length l n from in
-      let k = leading-fit key (drop from (take n l)) in
+      let k = rest-ascends from 0 (take n l) h in
+      let b = leading-below key (k .0) (drop from (take n l)) (k .1) in
+      let c = count-le (λ q. ltb q key) (drop from (take n l)) in
       let f : left ≡ places = omega arith in (omega arith, rw f (zero-add (testsFor places)))
 
   -- The places left are places of the list, and there are fewer tests made than places.
@@ -102,19 +95,19 @@ module _ (key : ℕ) (l : List ℕ) (n from : ℕ) where
       let p = tests-places places in (omega arith, omega arith)
 
   -- One test leaves half of the places: those past the one tested, or as many from `at` on.
-  pub narrower : (at left made middle rest next : ℕ) → ascends 0 (take n l) ≡ true → Narrowed at left made → 0 < left
-      → next ≡ cond (ltb (getD l middle 0) key) (middle + 1) at → middle + 1 + rest ≡ at + left → rest ≡ left / 2 → Narrowed next rest (made + 1)
-  narrower at left made middle rest next h w k e m d =
+  pub narrower : (at left made middle rest next more : ℕ) → ascends 0 (take n l) ≡ true → Narrowed at left made → 0 < left
+      → (next ≡ cond (ltb (getD l middle 0) key) (middle + 1) at) × (more ≡ made + 1) → middle + 1 + rest ≡ at + left → rest ≡ left / 2 → Narrowed next rest more
+  narrower at left made middle rest next more h w k e m d =
       let t = entry-tells h middle (omega arith) (omega arith) in
       let c = test-more left k in
-      let g : made + 1 + testsFor rest ≡ testsFor places = rw d (omega arith) in
+      let g : more + testsFor rest ≡ testsFor places = rw d (omega arith) in
       elim (tell true (ltb (getD l middle 0) key)) [
         | inl y ↦
             let x = t .0 (ltb-is _ _ .0 y) in
-            let z : next ≡ middle + 1 = rw y at e in (omega arith, g)
+            let z : next ≡ middle + 1 = rw y at (e .0) in (omega arith, g)
         | inr y ↦
             let x = t .1 (ltb-no _ _ .0 y) in
-            let z : next ≡ at = rw y at e in (omega arith, g)
+            let z : next ≡ at = rw y at (e .0) in (omega arith, g)
       ]
 
   -- Where no place is left, the place is found, and all tests are made.

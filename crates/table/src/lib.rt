@@ -112,44 +112,46 @@ pub fn passed(moves: &[u32], n: usize, from: usize, key: u64) -> usize
     at
 }
 
-// What a search has found: the place, and how many tests it took.
+// How far a search is: the place that it goes on from, and how many tests it took.
 struct Found {
     at: usize,
     tests: usize,
 }
 
-// Where a search goes on after one test: past the place that is tested, where the move there lies below the key.
-fn tested(moves: &[u32], at: usize, middle: usize, key: u64) -> usize
-    requires { ⌜ middle < length (now moves) ⌝ }
-    ensures { λ r. ⌜ r ≡ cond (ltb (getD (now (moves .entry)) middle 0) key) (middle + 1) at ⌝ }
+// One test more: where the move in the middle lies below the key, the search goes on past it.
+fn tested(moves: &[u32], found: Found, middle: usize, key: u64) -> Found
+    requires { ⌜ (middle < length (now moves)) × (found .tests < length (now moves)) ⌝ }
+    ensures { λ r. ⌜ (r .at ≡ cond (ltb (getD (now (moves .entry)) middle 0) key) (middle + 1) (found .at)) × (r .tests ≡ found .tests + 1) ⌝ }
 {
+    let tests = found.tests + 1;
     if (moves[middle] as u64) < key {
-        return middle + 1;
+        return Found {
+            at: middle + 1,
+            tests: tests,
+        };
     }
-    at
+    Found {
+        at: found.at,
+        tests: tests,
+    }
 }
 
-// The same place as `passed` finds, in an ascending list, found by halving: it is `at` or one of the `left` places after it, and
-// each test, made in the middle of these, leaves half of them.
+// The same place as `passed` finds, in an ascending list, found by halving: it is where the search is or one of the `left` places
+// after it, and each test, made in the middle of these, leaves half of them.
 fn search(moves: &[u32], n: usize, from: usize, key: u64) -> Found
     requires { ⌜ ascends 0 (take n (now moves)) ≡ true ⌝ }
     ensures { λ r. ⌜ (r .at ≡ from + leading key (drop from (take n (now (moves .entry)))))
         × (r .tests ≡ testsFor (length (drop from (take n (now (moves .entry)))))) ⌝ }
 {
     let end = least(n, moves.len());
-    let mut at = from;
     let mut left = end - least(from, end);
-    let mut tests: usize = 0;
+    let mut found = Found { at: from, tests: 0 };
     while 0 < left {
         let before = (left - 1) / 2;
-        at = tested(moves, at, at + before, key);
+        found = tested(moves, found, found.at + before, key);
         left = left - before - 1;
-        tests = tests + 1;
     }
-    Found {
-        at: at,
-        tests: tests,
-    }
+    found
 }
 
 // The place of the first of the n moves that is not below q.

@@ -7,17 +7,17 @@ use Rattle.table.proofs.search.Statement.{statement}
 use Rattle.table.proofs.search.Tie as tie
 
 abbrev Inv-loop : tie.InvT-loop
-Inv-loop moves n from key end at₀ left₀ tests₀ at left tests = Narrowed key moves n from at left tests
+Inv-loop moves n from key end left₀ found₀ left found = Narrowed key moves n from (found .at) left (found .tests)
 
 abbrev μ-loop : tie.MeasureT-loop
-μ-loop moves n from key end at₀ left₀ tests₀ at left tests = left
+μ-loop moves n from key end left₀ found₀ left found = left
 
 -- The points of the program: from what is known at a later one to what was known at an earlier one.
-abbrev start-before-least2 : tie.After-least2 Inv-loop μ-loop → tie.Start Inv-loop μ-loop
-start-before-least2 c = c .before .before .before
+abbrev start-before-at-loop : tie.At-loop Inv-loop μ-loop → tie.Start Inv-loop μ-loop
+start-before-at-loop c = c .before .before .before .before
 
-abbrev at-loop-before-tested : tie.After-tested Inv-loop μ-loop → tie.At-loop Inv-loop μ-loop
-at-loop-before-tested c = c .before .before
+abbrev at-loop-before-struct-known : tie.After-struct-known Inv-loop μ-loop → tie.At-loop Inv-loop μ-loop
+at-loop-before-struct-known c = c .before .before
 
 least-requires : tie.Need-least-requires Inv-loop μ-loop
 least-requires c κs = search needs
@@ -29,20 +29,24 @@ sub-left : tie.Need-sub-left Inv-loop μ-loop
 sub-left c = search needs
 
 loop-holds : tie.Need-loop-holds Inv-loop μ-loop
-loop-holds c = let a = start-before-least2 c .args in wide (a .key) (a .moves .now) (a .n) (a .from) _ (omega arith)
+loop-holds c =
+    let at-start = c .before .before .before in
+    let a = at-start .args in wide (a .key) (a .moves .now) (a .n) (a .from) _ (at-start .pre) (omega arith)
 
 sub-before : tie.Need-sub-before Inv-loop μ-loop
 sub-before c = search needs
 
 add-tested : tie.Need-add-tested Inv-loop μ-loop
 add-tested c =
-    let a = start-before-least2 (c .before .before) .args in
-    let i = inside (a .key) (a .moves .now) (a .n) (a .from) _ _ _ (c .before .loop .inv) (omega arith) in omega arith
+    let at-loop = at-loop-before-struct-known c in
+    let a = start-before-at-loop at-loop .args in
+    let i = inside (a .key) (a .moves .now) (a .n) (a .from) _ _ _ (at-loop .loop .inv) (omega arith) in omega arith
 
 tested-requires : tie.Need-tested-requires Inv-loop μ-loop
 tested-requires c κs =
-    let a = start-before-least2 (c .before .before) .args in
-    let i = inside (a .key) (a .moves .now) (a .n) (a .from) _ _ _ (c .before .loop .inv) (omega arith) in omega arith
+    let at-loop = at-loop-before-struct-known c in
+    let a = start-before-at-loop at-loop .args in
+    let i = inside (a .key) (a .moves .now) (a .n) (a .from) _ _ _ (at-loop .loop .inv) (omega arith) in (omega arith, omega arith)
 
 sub-left-2 : tie.Need-sub-left-2 Inv-loop μ-loop
 sub-left-2 c = search needs
@@ -50,30 +54,24 @@ sub-left-2 c = search needs
 sub-left-3 : tie.Need-sub-left-3 Inv-loop μ-loop
 sub-left-3 c = search needs
 
-add-tests : tie.Need-add-tests Inv-loop μ-loop
-add-tests c =
-    let at-loop = at-loop-before-tested c in
-    let a = start-before-least2 (at-loop .before) .args in
-    let i = inside (a .key) (a .moves .now) (a .n) (a .from) _ _ _ (at-loop .loop .inv) (omega arith) in omega arith
-
 loop-less : tie.Need-loop-less Inv-loop μ-loop
 loop-less c = search needs
 
 loop-again : tie.Need-loop-again Inv-loop μ-loop
 loop-again c =
-    let at-loop = at-loop-before-tested c in
-    let at-start = start-before-least2 (at-loop .before) in
+    let at-loop = at-loop-before-struct-known (c .before) in
+    let at-start = start-before-at-loop at-loop in
     let a = at-start .args in
     let here = at-loop .loop in
-    narrower (a .key) (a .moves .now) (a .n) (a .from) (here .at) (here .left) (here .tests) _ _ _ (at-start .pre) (here .inv) (omega arith)
+    narrower (a .key) (a .moves .now) (a .n) (a .from) (here .found .at) (here .left) (here .found .tests) _ _ _ _ (at-start .pre) (here .inv) (omega arith)
     (c .tested .ensures) (omega arith) (omega arith)
 
 returns : tie.Need-returns Inv-loop μ-loop
 returns c =
-    let a = start-before-least2 (c .before .before) .args in
+    let a = start-before-at-loop (c .before) .args in
     let here = c .before .loop in
     let e : here .left ≡ 0 = omega arith in
-    found (a .key) (a .moves .now) (a .n) (a .from) (here .at) (here .tests) (rw e at (here .inv))
+    found (a .key) (a .moves .now) (a .n) (a .from) (here .found .at) (here .found .tests) (rw e at (here .inv))
 
 pub search-spec : {M : Type 1} → statement M
 search-spec =
@@ -90,7 +88,6 @@ search-spec =
     tested-requires
     sub-left-2
     sub-left-3
-    add-tests
     loop-less
     loop-again
     returns)
