@@ -23,8 +23,8 @@
    1        an unknown kind of record, or the bytes end inside a record or before the end record
    2        a known kind where it is not due; any byte after the end record
    3        a size outside its limits, a block with a wrong number of variables, a 65th change
-   4        a number not below its count, an unknown operator, an unused byte not 0, an empty or too high set
-   5        an equation names a variable of a later block
+   4        a number not below its count, an unknown operator or sign, an unused byte not 0, an empty or too high set
+   5        an equation names a variable of a later block, or lies on a closed chain that holds both signs
    6        a label or a move not strictly after the one before
    7, 8     insert of a move that is present, delete of one that is absent
    9        a batch names one move twice
@@ -34,11 +34,20 @@
    13       a room is shorter than the sizes need; the session's room has fewer than 7 places or the report's fewer than 3
             (asked before all else)
 
+   A model has one of two styles, which the blocks of its sizes record decide. With 1 to 8 blocks each block (record 3) is
+   followed by its equations (records 4). With 0 blocks each equation has a sign of its own (record 11: sign, operator, first,
+   second) and may name any variable; where variables lead to each other, by names in equations and back again, all of them
+   must have one sign. The largest sets of variables that lead to each other, the components, then take the place of blocks,
+   each after those that it names. docs/RULE.md has every record.
+
    The rooms, and how long each must be. Places past these are never changed.
    session    7: states, actions, propositions, variables, blocks, moves, stamp. They are load's and batch's to write; a
-              number too large for its kind is refused with 12, never cut.
+              number too large for its kind is refused with 12, never cut. Blocks are 0 where the equations have signs.
    labels     one per state: the set of its propositions, bit p for proposition p.
-   equations  one per variable: operator + 256 x first + 65536 x second + 16777216 x (2 x block + kind).
+   equations  one per variable: operator + 256 x first + 65536 x second + 16777216 x (2 x block + kind), kind 0 for least
+              and 1 for greatest. Where blocks are 0, kind is the equation's sign, and block is the number of the variable's
+              component: how many components lead to a smaller set of variables, a component's own among them, the set read
+              as a binary number with bit y for variable y.
    values     one per pair, 0 or 1; the pair of state s and variable x lies at x x states + s.
    marks      one per pair: 0 never turned, 1 shifted and stayed, 2 shifted and came back, 3 turned by settling only.
    moves      one per move, ascending: 65536 x source + 1024 x action + target. Its length is the room for moves, at
@@ -59,15 +68,16 @@ enum {
     HUEPAXOCHI_EQUATIONS = 32,
     HUEPAXOCHI_PAIRS = 8192,
     HUEPAXOCHI_MOVES = 1024,
-    HUEPAXOCHI_REPORT = 3
+    HUEPAXOCHI_REPORT = 3,
+    HUEPAXOCHI_BYTES = 8104
 };
 
 /* The two halves of an answer. */
 static inline uint32_t huepaxochi_number(uint64_t answer) { return (uint32_t)answer; }
 static inline uint32_t huepaxochi_told(uint64_t answer) { return (uint32_t)(answer >> 32); }
 
-/* Reads a model, finds the value of every pair, clears the marks and writes the session. What the rooms held before does not
-   matter. Accepted, the high 32 bits are 0. */
+/* Reads a model of either style, finds the value of every pair, clears the marks and writes the session. What the rooms held
+   before does not matter. Accepted, the high 32 bits are 0. */
 uint64_t huepaxochi_load(const uint8_t *bytes, uint64_t bytes_len, uint32_t *session, uint64_t session_len, uint32_t *labels,
                          uint64_t labels_len, uint32_t *equations, uint64_t equations_len, uint8_t *values,
                          uint64_t values_len, uint8_t *marks, uint64_t marks_len, uint32_t *moves, uint64_t moves_len);
@@ -79,8 +89,8 @@ uint64_t huepaxochi_batch(uint32_t *session, uint64_t session_len, const uint8_t
                           uint8_t *values, uint64_t values_len, uint8_t *marks, uint64_t marks_len, uint32_t *moves,
                           uint64_t moves_len, int64_t *report, uint64_t report_len);
 
-/* Writes the model that the session holds, as load reads it, into the front of out. Accepted, the high 32 bits are the number
-   of bytes written. */
+/* Writes the model that the session holds, in the style in which it was loaded, into the front of out. Accepted, the high 32
+   bits are the number of bytes written, at most HUEPAXOCHI_BYTES. */
 uint64_t huepaxochi_write(const uint32_t *session, uint64_t session_len, const uint32_t *labels, uint64_t labels_len,
                           const uint32_t *equations, uint64_t equations_len, const uint8_t *values, uint64_t values_len,
                           const uint8_t *marks, uint64_t marks_len, const uint32_t *moves, uint64_t moves_len, uint8_t *out,

@@ -1,6 +1,6 @@
-/* The bench cases A to F of document 01 on a 32-bit machine, with rooms that are exactly long enough, and each room but the
-   moves' once one place too short. Says what is not as it should be, and how much stack each call took; the exit status is 1 where something
-   is not. */
+/* The bench cases A to F of document 01 on a 32-bit machine, and A again with a sign in place of the block, with rooms that are
+   exactly long enough, and each room but the moves' once one place too short. Says what is not as it should be, and how much stack
+   each call took; the exit status is 1 where something is not. */
 #include "rooms.h"
 
 enum { FILL = 0xa5 };
@@ -15,6 +15,9 @@ static const uint8_t case_d[] = {7, 0, 0, 0, 0, 8, 0, 0, 0, 1, 0, 6};
 static const uint8_t model_e[] = {1, 2, 0, 1, 1, 3, 1, 2, 1, 0, 1, 0, 0, 0, 3, 0, 3, 4, 4, 1, 2,
                                   4, 2, 0, 0, 4, 6, 0, 0, 5, 0, 0, 0, 0, 0, 5, 0, 0, 0, 1, 0, 6};
 static const uint8_t case_e[] = {7, 3, 1, 0, 0, 9, 0, 0, 0, 1, 0, 6};
+/* G with a sign on its equation in place of the block, and two equations with unlike signs that name each other. */
+static const uint8_t signed_g[] = {1, 2, 0, 1, 0, 1, 0, 11, 1, 6, 0, 0, 6};
+static const uint8_t tangled[] = {1, 2, 0, 1, 0, 3, 0, 11, 0, 1, 0, 0, 11, 0, 6, 0, 2, 11, 1, 6, 0, 1, 6};
 
 static int wrong;
 
@@ -156,6 +159,22 @@ static void e(void) {
     expect("E: the places past the rooms are left", filled_past(2, 3, 2));
 }
 
+/* Signs in place of blocks. */
+static void signs(void) {
+    fill_all();
+    lend(2, 1, 2);
+    expect("G with a sign loads", load(signed_g, sizeof signed_g) == 0);
+    expect("G with a sign has no block, and its variable component 0", session[4] == 0 && equations[0] == 0x01000006);
+    expect("A with a sign: net 1, visits 1 and 0, mark 1", insert_a() == 0 && reports(1, 0, 1) && marked(1, 0));
+    int same = write() == (uint64_t)(sizeof signed_g + 6) << 32;
+    for (size_t i = 0; i + 1 < sizeof signed_g; i++) same = same && out[i] == signed_g[i];
+    expect("the sign is written again", same);
+    expect("the places past the rooms are left, with a sign", filled_past(2, 1, 2));
+    lend(2, 3, 2);
+    expect("a closed chain with both signs is 5 at its first equation",
+           load(tangled, sizeof tangled) == (5 | (uint64_t)12 << 32));
+}
+
 /* Makes a call, says how much stack it took, and holds that to what the header says. */
 static void hold_stack(const char *name, uint64_t (*made)(void), uint32_t most) {
     paint();
@@ -166,12 +185,18 @@ static void hold_stack(const char *name, uint64_t (*made)(void), uint32_t most) 
     if (bytes > most) wrong = 1;
 }
 
+static uint64_t load_signed(void) { return load(signed_g, sizeof signed_g); }
+
+/* Of G, and of G with a sign. */
 static void stack(void) {
     lend(2, 1, 2);
     hold_stack("bytes of stack: load ", load_g, 22000);
     hold_stack(", batch ", insert_a, 22000);
     hold_stack(", write ", write, 1000);
     hold_stack(", ask ", ask_one, 1000);
+    hold_stack("; with a sign load ", load_signed, 22000);
+    hold_stack(", batch ", insert_a, 22000);
+    hold_stack(", write ", write, 1000);
     say(wrong ? ", and that is more than the header says\n" : "\n");
 }
 
@@ -179,6 +204,7 @@ int run(void) {
     loads();
     a_to_d();
     e();
+    signs();
     if (!wrong) stack();
     return wrong;
 }

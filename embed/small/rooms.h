@@ -7,15 +7,13 @@
 
 enum { SESSION, LABELS, EQUATIONS, VALUES, MARKS, MOVES, REPORT, OUT, ROOMS };
 
-enum { MOST_OUT = 8096 };
-
 static uint32_t session[HUEPAXOCHI_SESSION + 1], labels[HUEPAXOCHI_LABELS], equations[HUEPAXOCHI_EQUATIONS];
-static uint8_t values[HUEPAXOCHI_PAIRS], marks[HUEPAXOCHI_PAIRS], out[MOST_OUT];
+static uint8_t values[HUEPAXOCHI_PAIRS], marks[HUEPAXOCHI_PAIRS], out[HUEPAXOCHI_BYTES];
 static uint32_t moves[HUEPAXOCHI_MOVES];
 static int64_t report[HUEPAXOCHI_REPORT + 1];
 
 static size_t length[ROOMS] = {HUEPAXOCHI_SESSION, HUEPAXOCHI_LABELS, HUEPAXOCHI_EQUATIONS, HUEPAXOCHI_PAIRS,
-                               HUEPAXOCHI_PAIRS,   HUEPAXOCHI_MOVES,  HUEPAXOCHI_REPORT,    MOST_OUT};
+                               HUEPAXOCHI_PAIRS,   HUEPAXOCHI_MOVES,  HUEPAXOCHI_REPORT,    HUEPAXOCHI_BYTES};
 
 static inline uint64_t load(const uint8_t *bytes, size_t count) {
     return huepaxochi_load(bytes, count, session, length[SESSION], labels, length[LABELS], equations, length[EQUATIONS], values,

@@ -7,7 +7,7 @@ static uint8_t input[65536];
 
 /* The length of a record of a kind, or 0 where there is no such kind. */
 static size_t record(uint8_t kind) {
-    static const uint8_t lengths[] = {0, 7, 7, 3, 4, 6, 1, 5, 6, 6};
+    static const uint8_t lengths[] = {0, 7, 7, 3, 4, 6, 1, 5, 6, 6, 0, 5};
     return kind < sizeof lengths ? lengths[kind] : 0;
 }
 

@@ -2,12 +2,14 @@
 
 mod grid;
 mod maximal;
+mod signs;
 
 use reference::records::spell_all;
 use reference::{stamp, Action, Block, Equation, Move, Record, Sizes, State};
 
 pub use grid::{grid, MIXED_RULE, STRICT_RULE};
 pub use maximal::maximal;
+pub use signs::{rewritten, signs};
 
 /// A model by name, as bytes, and its moves.
 pub struct Case {

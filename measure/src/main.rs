@@ -2,7 +2,7 @@
 
 use std::hint::black_box;
 
-use measure::cases::{grid, maximal, Case, MIXED_RULE, STRICT_RULE};
+use measure::cases::{grid, maximal, signs, Case, MIXED_RULE, STRICT_RULE};
 use measure::clock::{in_turns, microseconds, middle, worst, Timed};
 use measure::rooms::Rooms;
 use measure::sides::Side;
@@ -173,4 +173,8 @@ fn main() {
     rows_of_growth(rounds);
     rows_of_reading(&grid(16, &STRICT_RULE), rounds);
     rows_of_reading(&maximal(), rounds);
+    let signed = signs(&maximal());
+    rows_of(&signed, rounds);
+    row_of_64(&signed, rounds);
+    rows_of_reading(&signed, rounds);
 }

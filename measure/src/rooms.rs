@@ -7,7 +7,8 @@ pub struct Rooms {
     pub session: [u32; 7],
     /// For each state the set of its propositions.
     pub labels: Vec<u32>,
-    /// For each variable operator, first, second and 2 × block + kind, a byte each, lowest first.
+    /// For each variable operator, first, second and 2 × block + kind, a byte each, lowest first. Where there are no blocks, the
+    /// component takes the block's place.
     pub equations: Vec<u32>,
     /// For each pair its value; that of state s and variable x is at x × states + s.
     pub values: Vec<u8>,

@@ -1,10 +1,12 @@
 //! The ordinary version and the proved library agree on every answer and on every room, so that nobody compares the speed of
 //! a wrong program.
 
+mod common;
+
+use common::parts;
 use measure::rooms::Rooms;
 use measure::sides::Side;
 use reference::generate::{generate, generate_family, Family};
-use reference::program::cut;
 use reference::random::Random;
 
 /// The rooms of both versions, which must stay equal.
@@ -78,19 +80,6 @@ impl Both {
         let ours = Side::Ours.ask(&self.ours, state, variable);
         assert_eq!(ours, Side::Ordinary.ask(&self.ordinary, state, variable));
     }
-}
-
-/// The parts of a stream: a model, then batches; what is left where no end record is reached is the last part.
-fn parts(bytes: &[u8]) -> Vec<&[u8]> {
-    let mut left = bytes;
-    let mut parts = Vec::new();
-    while !left.is_empty() {
-        let length = cut(left).unwrap_or(left.len());
-        let (part, rest) = left.split_at(length);
-        parts.push(part);
-        left = rest;
-    }
-    parts
 }
 
 /// Runs a stream through both versions, with rooms full of what no load may depend on.

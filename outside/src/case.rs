@@ -2,6 +2,7 @@
 
 use std::panic::{catch_unwind, AssertUnwindSafe};
 
+use reference::in_signs;
 use reference::program::{cut, MOST_BYTES};
 use reference::random::Random;
 
@@ -99,6 +100,9 @@ impl<'a> Run<'a> {
             self.aside(call)?;
         }
         let accepted = self.call(call)?.is_accepted();
+        if accepted && is_model {
+            self.rewritten(part)?;
+        }
         if accepted && self.random.chance(self.replaced) {
             let needs = Needs::of_session(&self.rooms.session);
             damage(
@@ -187,7 +191,34 @@ impl<'a> Run<'a> {
         self.tally.add(call, answer, &fresh);
         let told = |what: String| format!("of what was written: {what}");
         agree(call, Answer::accepted(0), answer).map_err(told)?;
-        same(call, &wanted, &fresh).map_err(told)
+        same(call, &wanted, &fresh).map_err(told)?;
+        match self.random.chance(15) {
+            true => self.rewritten(&bytes),
+            false => Ok(()),
+        }
+    }
+
+    /// Loads a model with blocks once more, rewritten in signs. Each pair's value must be the one that it has.
+    fn rewritten(&mut self, model: &[u8]) -> Result<(), String> {
+        let Some(signs) = in_signs(model) else {
+            return Ok(());
+        };
+        let call = Call::Load(&signs);
+        let needs = Needs::of_model(&signs);
+        let mut fresh = Rooms::lend(&mut self.random, needs);
+        fresh.moves.resize(fresh.moves.len().max(needs.moves), 0);
+        let told = |what: String| format!("of the model in signs: {what}");
+        let answer = both(self.boundary, call, &mut fresh).map_err(told)?;
+        self.tally.add(call, answer, &fresh);
+        agree(call, Answer::accepted(0), answer).map_err(told)?;
+        let (wanted, found) = (&self.rooms.values, &fresh.values);
+        match (0..needs.pairs).find(|at| wanted[*at] != found[*at]) {
+            Some(at) => Err(told(format!(
+                "values[{at}] is {}, with blocks it is {}",
+                found[at], wanted[at]
+            ))),
+            None => Ok(()),
+        }
     }
 
     /// Asks about one pair: most often one that is there, else one just past the last or anywhere.

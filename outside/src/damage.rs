@@ -1,10 +1,11 @@
 //! Rooms cut short and sessions damaged, each in one way.
 
+use reference::components::components;
 use reference::random::Random;
 use reference::stamp;
 
-use crate::mirror::move_in;
-use crate::rooms::{Needs, Rooms, MOVES, REPORT, SESSION, STAMP};
+use crate::mirror::{equation_in, move_in, sizes_in};
+use crate::rooms::{Needs, Rooms, BLOCKS, MOVES, REPORT, SESSION, STAMP};
 
 /// One way to cut a room short or to damage a session.
 #[derive(Clone, Copy, Debug, PartialEq, Eq)]
@@ -36,9 +37,15 @@ pub enum Damage {
     Move,
     /// Two moves changed over, or one twice.
     MoveOrder,
-    /// A byte of an equation that may well leave a model, and a block of the other kind.
+    /// A byte of an equation that may well leave a model, and a block or a component of the other kind.
     EquationByte,
     BlockKind,
+    /// The stored number of a component off, or two of them changed over.
+    Component,
+    /// The other sign on one equation.
+    Sign,
+    /// The other style in the sizes: 0 blocks or some; now and then with the components that belong to it.
+    Style,
     /// A move one off, a move more or less, with the stamp that belongs to what is there then.
     Restamped,
     /// Values and marks that are no solution, but in range: not a damage for document 01.
@@ -50,7 +57,7 @@ pub enum Damage {
 use Damage::*;
 
 /// All ways.
-pub const DAMAGES: [Damage; 23] = [
+pub const DAMAGES: [Damage; 26] = [
     ShortSession,
     ShortReport,
     ShortLabels,
@@ -71,6 +78,9 @@ pub const DAMAGES: [Damage; 23] = [
     MoveOrder,
     EquationByte,
     BlockKind,
+    Component,
+    Sign,
+    Style,
     Restamped,
     OtherValues,
     AnyNumber,
@@ -109,6 +119,9 @@ pub fn damage(way: Damage, rooms: &mut Rooms, needs: Needs, random: &mut Random)
         MoveOrder => disorder(&mut rooms.moves, needs.moves, random),
         EquationByte => put_equation_byte(&mut rooms.equations, needs.equations, random),
         BlockKind => turn_block(&mut rooms.equations, needs.equations, random),
+        Component => spoil_component(&mut rooms.equations, needs.equations, random),
+        Sign => turn_sign(&mut rooms.equations, needs.equations, random),
+        Style => turn_style(rooms, needs.equations, random),
         Restamped => restamp(rooms, needs.moves, random),
         OtherValues => other_values(rooms, needs.pairs, random),
         AnyNumber => put_any(&mut rooms.session, random),
@@ -214,7 +227,7 @@ fn put_equation_byte(equations: &mut [u32], used: usize, random: &mut Random) {
     equations[at] = u32::from_le_bytes(bytes);
 }
 
-/// Gives one block the other kind.
+/// Gives one block or component the other kind.
 fn turn_block(equations: &mut [u32], used: usize, random: &mut Random) {
     let Some(at) = place(equations, used, random) else {
         return;
@@ -223,6 +236,76 @@ fn turn_block(equations: &mut [u32], used: usize, random: &mut Random) {
     for word in equations.iter_mut().take(used) {
         if *word >> 25 == block {
             *word ^= 1 << 24;
+        }
+    }
+}
+
+/// Puts the number of a block or component into an equation's word.
+fn put_group(word: &mut u32, number: u32) {
+    *word = *word & 0x01ff_ffff | number << 25;
+}
+
+/// Spoils the stored number of one variable's component, or changes the numbers of two components over.
+fn spoil_component(equations: &mut [u32], used: usize, random: &mut Random) {
+    let used = used.min(equations.len());
+    let (Some(at), Some(other)) = (
+        place(equations, used, random),
+        place(equations, used, random),
+    ) else {
+        return;
+    };
+    let (one, two) = (equations[at] >> 25, equations[other] >> 25);
+    let off = [one + 1, one.wrapping_sub(1), two, random.below(128) as u32];
+    if random.chance(60) {
+        return put_group(&mut equations[at], random.pick(&off));
+    }
+    for word in equations.iter_mut().take(used) {
+        match *word >> 25 {
+            number if number == one => put_group(word, two),
+            number if number == two => put_group(word, one),
+            _ => {}
+        }
+    }
+}
+
+/// Gives one equation the other sign.
+fn turn_sign(equations: &mut [u32], used: usize, random: &mut Random) {
+    if let Some(at) = place(equations, used, random) {
+        equations[at] ^= 1 << 24;
+    }
+}
+
+/// Puts the other style into the sizes, every other time with the components that the equations have then.
+fn turn_style(rooms: &mut Rooms, used: usize, random: &mut Random) {
+    let used = used.min(rooms.equations.len());
+    let words = &mut rooms.equations[..used];
+    let groups = words.iter().map(|word| (word >> 25) + 1).max().unwrap_or(1);
+    let any = random.between(1, 8) as u32;
+    let Some(blocks) = rooms.session.get_mut(BLOCKS) else {
+        return;
+    };
+    if *blocks == 0 {
+        *blocks = random.pick(&[groups, 1, any]);
+        return;
+    }
+    *blocks = 0;
+    if random.chance(50) && rooms.session.len() >= SESSION {
+        put_components(&rooms.session, words);
+    }
+}
+
+/// Puts the right number of each variable's component, where all names are in range.
+fn put_components(session: &[u32], words: &mut [u32]) {
+    let sizes = sizes_in(session);
+    let equations: Vec<_> = words.iter().map(|word| equation_in(*word)).collect();
+    let whole = equations.len() == usize::from(sizes.variables);
+    if whole
+        && equations
+            .iter()
+            .all(|equation| sizes.holds_equation(*equation))
+    {
+        for (word, number) in words.iter_mut().zip(components(&equations)) {
+            put_group(word, u32::from(number));
         }
     }
 }

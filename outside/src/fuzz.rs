@@ -4,6 +4,7 @@ use std::time::{Duration, Instant};
 
 use reference::generate::{generate, generate_family, Family};
 use reference::random::Random;
+use reference::stream_in_signs;
 
 use crate::boundary::Boundary;
 use crate::case::{run, Case};
@@ -46,7 +47,7 @@ fn corpus(seed: u64) -> Vec<Case> {
     cases
 }
 
-/// Model G of document 01 with batches A, B and C, and the model of case E with its batch.
+/// Model G of document 01 with batches A, B and C, and the model of case E with its batch, in either style.
 fn bench_cases() -> Vec<Case> {
     let g = [1, 2, 0, 1, 0, 1, 1, 3, 1, 1, 4, 6, 0, 0, 6];
     let a = [7, 0, 0, 0, 0, 8, 0, 0, 0, 0, 0, 6];
@@ -61,7 +62,12 @@ fn bench_cases() -> Vec<Case> {
         bytes: parts.concat(),
         plan: 0,
     };
-    vec![case(&[&g, &a, &b, &c]), case(&[&e, &f])]
+    let mut cases = vec![case(&[&g, &a, &b, &c]), case(&[&e, &f])];
+    for at in 0..cases.len() {
+        let signs = stream_in_signs(&cases[at].bytes);
+        cases.extend(signs.map(|bytes| Case { bytes, plan: 0 }));
+    }
+    cases
 }
 
 /// A changed copy of one of the cases: another stream, another plan, or both.

@@ -1,8 +1,10 @@
 //! The second program behind the same four calls. The rooms are read into its own session, it makes the call, and what it
 //! left is put into those places of the rooms that document 01 says are written. It never sees any other place.
 
-use reference::limits::MOST_BLOCKS;
-use reference::{ask_value, Block, Equation, Move, Refusal, Session, Sizes, State, Variable};
+use reference::limits::{MOST_BLOCKS, MOST_VARIABLES};
+use reference::{
+    ask_value, Block, Equation, Move, Refusal, Session, Sizes, State, Style, Variable,
+};
 
 use crate::boundary::{Answer, Boundary, Call};
 use crate::rooms::{Rooms, MOVES, REPORT, SESSION, STAMP};
@@ -105,9 +107,12 @@ pub fn sizes_in(session: &[u32]) -> Sizes {
 fn session_in(rooms: &Rooms) -> Session {
     let sizes = sizes_in(&rooms.session);
     let counted = usize::from(sizes.variables).min(rooms.equations.len());
+    let words = &rooms.equations[..counted];
     Session {
         sizes,
-        blocks: blocks_in(&rooms.equations[..counted], usize::from(sizes.blocks)),
+        blocks: blocks_in(words, usize::from(sizes.blocks)),
+        signs: in_tops(words, |top| top & 1),
+        components: in_tops(words, |top| top >> 1),
         labels: rooms.labels.clone(),
         equations: rooms.equations.iter().map(|w| equation_in(*w)).collect(),
         moves: rooms.moves.iter().map(|w| move_in(*w)).collect(),
@@ -143,8 +148,17 @@ fn blocks_in(words: &[u32], blocks: usize) -> [Block; MOST_BLOCKS as usize] {
     }
 }
 
-/// The equation that a word is, without its block.
-fn equation_in(word: u32) -> Equation {
+/// What stands in the top bytes of the equations of a model with signs.
+fn in_tops(words: &[u32], part: impl Fn(u8) -> u8) -> [u8; MOST_VARIABLES as usize] {
+    let mut found = [0; MOST_VARIABLES as usize];
+    for (place, word) in found.iter_mut().zip(words) {
+        *place = part((word >> 24) as u8);
+    }
+    found
+}
+
+/// The equation that a word is, without what stands in its top byte.
+pub fn equation_in(word: u32) -> Equation {
     let [operator, first, second, _] = word.to_le_bytes();
     Equation {
         operator,
@@ -184,24 +198,33 @@ fn pairs(sizes: Sizes) -> impl Iterator<Item = (usize, usize)> {
 
 /// Puts the labels and the equations of a loaded session into the rooms.
 fn put_model(session: &Session, rooms: &mut Rooms) {
-    let (states, sizes) = (usize::from(session.sizes.states), session.sizes);
+    let states = usize::from(session.sizes.states);
     rooms.labels[..states].copy_from_slice(&session.labels[..states]);
-    let mut at = 0;
-    for (number, block) in session.blocks[..usize::from(sizes.blocks)]
-        .iter()
-        .enumerate()
-    {
-        for _ in 0..block.variables {
-            let Equation {
-                operator,
-                first,
-                second,
-            } = session.equations[at];
-            let top = 2 * number as u8 + block.kind;
-            rooms.equations[at] = u32::from_le_bytes([operator, first, second, top]);
-            at += 1;
-        }
+    let words = rooms.equations.iter_mut();
+    for ((word, equation), top) in words.zip(&session.equations).zip(tops(session)) {
+        let Equation {
+            operator,
+            first,
+            second,
+        } = *equation;
+        *word = u32::from_le_bytes([operator, first, second, top]);
     }
+}
+
+/// The top byte of each variable's equation: twice the number of its block or component, and its kind or sign.
+fn tops(session: &Session) -> Vec<u8> {
+    if session.sizes.style() == Style::Signs {
+        let both = session.components.iter().zip(&session.signs);
+        let tops = both.map(|(component, sign)| 2 * component + sign);
+        return tops.take(usize::from(session.sizes.variables)).collect();
+    }
+    let mut tops = Vec::new();
+    let blocks = session.blocks[..usize::from(session.sizes.blocks)].iter();
+    for (number, block) in blocks.enumerate() {
+        let top = 2 * number as u8 + block.kind;
+        tops.extend(vec![top; usize::from(block.variables)]);
+    }
+    tops
 }
 
 /// Puts the values, the marks, the moves and the numbers of a session into the rooms.

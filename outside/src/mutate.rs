@@ -3,13 +3,15 @@
 use reference::program::cut;
 use reference::random::Random;
 use reference::records::body_length;
-use reference::{batch, load, Session};
+use reference::{batch, load, stream_in_signs, Session};
 
 /// The longest stream that is kept; a longer one is cut.
 const LONGEST: usize = 16_000;
 
 /// Numbers at and around the limits, for single bytes.
-const TELLING: [u8; 16] = [0, 1, 2, 3, 4, 7, 8, 9, 15, 16, 17, 31, 32, 33, 64, 255];
+const TELLING: [u8; 18] = [
+    0, 1, 2, 3, 4, 7, 8, 9, 10, 11, 15, 16, 17, 31, 32, 33, 64, 255,
+];
 
 /// Changes a stream in a few ways, more where it is long, and every other time gives its batches the right stamps again.
 pub fn mutate(random: &mut Random, bytes: &[u8], other: &[u8]) -> Vec<u8> {
@@ -45,7 +47,7 @@ fn trim(random: &mut Random, bytes: &mut Vec<u8>) {
 
 /// Changes a stream in one way.
 fn mutate_once(random: &mut Random, bytes: &mut Vec<u8>, other: &[u8]) {
-    match random.below(16) {
+    match random.below(18) {
         0..=2 => mutate_byte(random, bytes),
         3..=7 => tweak(random, bytes),
         8 => double(random, bytes),
@@ -54,6 +56,7 @@ fn mutate_once(random: &mut Random, bytes: &mut Vec<u8>, other: &[u8]) {
         11..=12 => borrow(random, bytes, other),
         13 => splice(random, bytes, other),
         14 => splice_records(random, bytes, other),
+        15 => put_signs(bytes),
         _ => turn_kind(random, bytes),
     }
 }
@@ -172,15 +175,25 @@ fn splice_records(random: &mut Random, bytes: &mut Vec<u8>, other: &[u8]) {
     bytes.extend(&other[start..]);
 }
 
-/// Makes an insert a delete, a delete an insert, and a block of one kind one of the other.
+/// Puts the model in signs.
+fn put_signs(bytes: &mut Vec<u8>) {
+    if let Some(signs) = stream_in_signs(bytes) {
+        *bytes = signs;
+    }
+}
+
+/// Makes an insert a delete, a delete an insert, a block or a sign of one kind one of the other, and gives sizes the other
+/// style.
 fn turn_kind(random: &mut Random, bytes: &mut [u8]) {
-    let Some((start, _)) = any_record(random, bytes) else {
+    let Some((start, end)) = any_record(random, bytes) else {
         return;
     };
     match bytes[start] {
         8 => bytes[start] = 9,
         9 => bytes[start] = 8,
-        3 => bytes[start + 1] ^= 1,
+        3 | 11 => bytes[start + 1] ^= 1,
+        1 if bytes[end - 1] == 0 => bytes[end - 1] = random.between(1, 8) as u8,
+        1 => bytes[end - 1] = 0,
         _ => {}
     }
 }

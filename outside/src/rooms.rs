@@ -7,7 +7,8 @@ use reference::records::body_length;
 pub const SESSION: usize = 7;
 /// How many numbers a report is.
 pub const REPORT: usize = 3;
-/// Which of a session's numbers are the move count and the stamp.
+/// Which of a session's numbers are the number of blocks, which is 0 for signs, the move count and the stamp.
+pub const BLOCKS: usize = 4;
 pub const MOVES: usize = 5;
 pub const STAMP: usize = 6;
 
@@ -139,6 +140,6 @@ impl Rooms {
     /// The most bytes that the model of this session can be spelled with.
     pub fn most_written(&self) -> usize {
         let needs = Needs::of_session(&self.session);
-        8 + 7 * needs.labels + 3 * 8 + 4 * needs.equations + 6 * needs.moves
+        8 + 7 * needs.labels + 3 * 8 + 5 * needs.equations + 6 * needs.moves
     }
 }

@@ -3,7 +3,7 @@
 use std::collections::HashSet;
 
 use crate::boundary::{Answer, Call, CALLS, NAMES};
-use crate::rooms::{Needs, Rooms, REPORT};
+use crate::rooms::{Needs, Rooms, BLOCKS, REPORT};
 
 /// How many numbers an answer has: 0 for accepted, and 13 refusals.
 const NUMBERS: usize = 14;
@@ -16,13 +16,16 @@ const DUE: [&[usize]; CALLS] = [
     &[0, 4, 12, 13],
 ];
 
-/// A coarse sort of calls: the call, its number, and the magnitudes of its place, its sizes and its report.
-pub type Sign = [u8; 9];
+/// The two styles of a model, by their numbers here.
+const STYLES: [&str; 2] = ["with blocks", "with signs"];
 
-/// Counts of answers, by call and number, and the sorts of calls seen.
+/// A coarse sort of calls: the call, its number, its style, and the magnitudes of its place, its sizes and its report.
+pub type Sign = [u8; 10];
+
+/// Counts of answers, by style, call and number, and the sorts of calls seen.
 #[derive(Clone, Debug, Default)]
 pub struct Tally {
-    pub counts: [[u64; NUMBERS]; CALLS],
+    pub counts: [[[u64; NUMBERS]; CALLS]; STYLES.len()],
     /// How many questions were answered false and true.
     pub truths: [u64; 2],
     pub signs: HashSet<Sign>,
@@ -33,6 +36,14 @@ pub struct Tally {
 /// The number of binary digits.
 fn magnitude(number: usize) -> u8 {
     (usize::BITS - number.leading_zeros()) as u8
+}
+
+/// The style of a call: for a load that of the sizes in the bytes, else that of the session.
+fn style(call: Call, rooms: &Rooms) -> usize {
+    usize::from(match call {
+        Call::Load(bytes) => matches!(bytes, [1, _, _, _, _, _, 0, ..]),
+        _ => rooms.session.get(BLOCKS) == Some(&0),
+    })
 }
 
 /// The sort of a call, by its answer and the rooms after it.
@@ -51,6 +62,7 @@ fn sign(call: Call, answer: Answer, rooms: &Rooms) -> Sign {
     [
         call.index() as u8,
         answer.number as u8,
+        style(call, rooms) as u8,
         magnitude(answer.told as usize),
         magnitude(needs.labels),
         magnitude(needs.equations),
@@ -65,7 +77,7 @@ impl Tally {
     /// Counts one answered call.
     pub fn add(&mut self, call: Call, answer: Answer, rooms: &Rooms) {
         let number = (answer.number as usize).min(NUMBERS - 1);
-        self.counts[call.index()][number] += 1;
+        self.counts[style(call, rooms)][call.index()][number] += 1;
         if matches!(call, Call::Ask(..)) && answer.is_accepted() {
             self.truths[usize::from(answer.told == 1)] += 1;
         }
@@ -74,12 +86,8 @@ impl Tally {
 
     /// Adds another's counts.
     pub fn join(&mut self, other: Tally) {
-        for (mine, theirs) in self
-            .counts
-            .iter_mut()
-            .flatten()
-            .zip(other.counts.iter().flatten())
-        {
+        let mine = self.counts.iter_mut().flatten().flatten();
+        for (mine, theirs) in mine.zip(other.counts.iter().flatten().flatten()) {
             *mine += theirs;
         }
         for (mine, theirs) in self.truths.iter_mut().zip(other.truths) {
@@ -90,12 +98,13 @@ impl Tally {
 
     /// How many calls were made.
     pub fn calls(&self) -> u64 {
-        self.counts.iter().flatten().sum()
+        self.counts.iter().flatten().flatten().sum()
     }
 
     /// How many calls were answered with a number.
     fn answered(&self, number: usize) -> u64 {
-        self.counts.iter().map(|counts| counts[number]).sum()
+        let calls = self.counts.iter().flatten();
+        calls.map(|counts| counts[number]).sum()
     }
 
     /// The calls, how many were accepted, and how many refused by number, in one line.
@@ -103,8 +112,8 @@ impl Tally {
         let refused: Vec<String> = (1..NUMBERS)
             .map(|number| format!("{number}: {}", self.answered(number)))
             .collect();
-        let made =
-            |call: usize| format!("{} {}", self.counts[call].iter().sum::<u64>(), NAMES[call]);
+        let of_call = |call: usize| self.counts.iter().flat_map(move |style| style[call]);
+        let made = |call: usize| format!("{} {}", of_call(call).sum::<u64>(), NAMES[call]);
         let made: Vec<String> = (0..CALLS).map(made).collect();
         format!(
             "{} calls ({}), accepted {}, refused {}",
@@ -115,12 +124,12 @@ impl Tally {
         )
     }
 
-    /// Whether each call gave every answer that it can give; else which is missing.
+    /// Whether each call gave every answer that it can give, in both styles; else which is missing.
     pub fn complete(&self) -> Result<(), String> {
-        for (call, numbers) in DUE.iter().enumerate() {
-            for number in *numbers {
-                if self.counts[call][*number] == 0 {
-                    return Err(format!("{} never answered {number}", NAMES[call]));
+        for (counts, style) in self.counts.iter().zip(STYLES) {
+            for (call, numbers) in DUE.iter().enumerate() {
+                if let Some(number) = numbers.iter().find(|n| counts[call][**n] == 0) {
+                    return Err(format!("{} {style} never answered {number}", NAMES[call]));
                 }
             }
         }

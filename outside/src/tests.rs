@@ -1,6 +1,7 @@
-//! The two sides agree on document 01's bench cases, each damage is met with its number, and a boundary that is wrong in one
-//! place is found out.
+//! The two sides agree on document 01's bench cases, in signs too, each damage is met with its number, and a boundary that is
+//! wrong in one place is found out.
 
+use reference::in_signs;
 use reference::random::Random;
 
 use crate::both::both;
@@ -10,7 +11,7 @@ use crate::compare::{cases_of, compare};
 use crate::damage::{damage, Damage};
 use crate::mirror::Mirrored;
 use crate::proved::Proved;
-use crate::rooms::{Needs, Rooms, MOVES, STAMP};
+use crate::rooms::{Needs, Rooms, BLOCKS, MOVES, STAMP};
 use crate::tally::Tally;
 
 /// Model G of document 01, and its batches A and C.
@@ -47,6 +48,74 @@ fn both_sides_do_a() {
             side.call(Call::Ask(2, 0), &mut rooms),
             Answer::refused(4, 0)
         );
+    }
+}
+
+/// The model of case E, and its batch.
+const E: [u8; 42] = [
+    1, 2, 0, 1, 1, 3, 1, 2, 1, 0, 1, 0, 0, 0, 3, 0, 3, 4, 4, 1, 2, 4, 2, 0, 0, 4, 6, 0, 0, 5, 0, 0,
+    0, 0, 0, 5, 0, 0, 0, 1, 0, 6,
+];
+const E_BATCH: [u8; 12] = [7, 3, 1, 0, 0, 9, 0, 0, 0, 1, 0, 6];
+
+/// Rooms with a model loaded by a boundary.
+fn with_model(boundary: &dyn Boundary, model: &[u8]) -> Rooms {
+    let mut rooms = Rooms::lend(&mut Random::new(1), Needs::of_model(model));
+    rooms.moves.resize(1_030, 0xfafa_fafa);
+    rooms.out = vec![0; 99];
+    assert_eq!(boundary.call(Call::Load(model), &mut rooms).number, 0);
+    rooms
+}
+
+/// Rooms with the model of case E loaded in signs by a boundary.
+fn signed_e(boundary: &dyn Boundary) -> Rooms {
+    with_model(boundary, &in_signs(&E).unwrap())
+}
+
+/// Both sides keep case E in signs in the same words and give what it must: X1 is component 0, X0 and X2 are component 1.
+#[test]
+fn both_sides_do_e_in_signs() {
+    for side in [&Proved as &dyn Boundary, &Mirrored] {
+        let mut rooms = signed_e(side);
+        assert_eq!(rooms.session[..7], [2, 1, 1, 3, 0, 2, 259]);
+        let words = [4 + 256 + 2 * 65_536 + 2 * 16_777_216, 2, 6 + 2 * 16_777_216];
+        assert_eq!(rooms.equations[..3], words);
+        assert_eq!(rooms.values[..6], [1, 1, 0, 1, 1, 0]);
+        let signs = in_signs(&E).unwrap();
+        let written = side.call(Call::Write, &mut rooms);
+        assert_eq!(written, Answer::accepted(signs.len() as u32));
+        assert_eq!(rooms.out[..signs.len()], signs);
+        assert_eq!(side.call(Call::Batch(&E_BATCH), &mut rooms).number, 0);
+        assert_eq!(rooms.report[..3], [2, 0, -2]);
+        assert_eq!(rooms.marks[..6], [1, 0, 0, 0, 1, 0]);
+    }
+}
+
+/// Wrong stored components, a closed chain of both signs and another style are 12; the other sign on a variable alone is no
+/// damage.
+#[test]
+fn damaged_signs_are_12() {
+    let damages: [fn(&mut Rooms); 8] = [
+        |rooms| rooms.equations[0] -= 1 << 25,
+        |rooms| rooms.equations[1] += 1 << 25,
+        |rooms| rooms.equations[2] += 1 << 25,
+        |rooms| rooms.equations[1] |= 127 << 25,
+        |rooms| rooms.equations[0] ^= 1 << 24,
+        |rooms| rooms.equations[2] ^= 1 << 24,
+        |rooms| rooms.session[BLOCKS] = 2,
+        |rooms| rooms.session[BLOCKS] = 256,
+    ];
+    for damaged in damages {
+        let mut rooms = signed_e(&Proved);
+        damaged(&mut rooms);
+        for call in [Call::Write, Call::Batch(&E_BATCH)] {
+            assert_eq!(both(&Proved, call, &mut rooms), Ok(Answer::refused(12, 0)));
+        }
+    }
+    let mut rooms = signed_e(&Proved);
+    rooms.equations[1] ^= 1 << 24;
+    for call in [Call::Write, Call::Batch(&E_BATCH)] {
+        assert!(both(&Proved, call, &mut rooms).unwrap().is_accepted());
     }
 }
 
@@ -127,7 +196,7 @@ fn keep_freed(_: Call, _: &mut Answer, before: &Rooms, rooms: &mut Rooms) {
 }
 
 /// Wrong things, each with its name.
-const WRONGS: [(&str, Fault); 9] = [
+const WRONGS: [(&str, Fault); 12] = [
     ("a stamp off by one", |_, answer, _, rooms| {
         touch(
             &mut rooms.session,
@@ -164,6 +233,28 @@ const WRONGS: [(&str, Fault); 9] = [
         }
     }),
     ("freed places left as they were", keep_freed),
+    (
+        "a component's number off by one",
+        |call, answer, _, rooms| {
+            let signed = call.index() == 0 && answer.number == 0 && rooms.session[BLOCKS] == 0;
+            if signed {
+                rooms.equations[0] ^= 1 << 25;
+            }
+        },
+    ),
+    ("a value of a model with signs", |call, answer, _, rooms| {
+        let signed = call.index() == 0 && answer.number == 0 && rooms.session[BLOCKS] == 0;
+        touch(&mut rooms.values, if signed { 0 } else { usize::MAX })
+    }),
+    (
+        "wrong components accepted",
+        |call, answer, before, rooms| {
+            let signed = before.session.get(BLOCKS) == Some(&0);
+            if call.index() == 2 && answer.number == 12 && signed {
+                *answer = Answer::accepted(rooms.out.len() as u32)
+            }
+        },
+    ),
     ("a byte past what was written", |call, answer, _, rooms| {
         let wrote = call.index() == 2 && answer.number == 0;
         touch(
@@ -228,5 +319,30 @@ fn some_damage_leaves_a_model() {
             numbers.contains(&0) && numbers.contains(&12),
             "{way:?}: {numbers:?}"
         );
+    }
+}
+
+/// The same with signs: other components, signs and styles.
+#[test]
+fn some_damage_leaves_a_model_with_signs() {
+    use Damage::*;
+    let signs = in_signs(&E).unwrap();
+    let ways = [
+        (Component, &signs[..]),
+        (Sign, &signs),
+        (EquationByte, &signs),
+        (Size, &signs),
+        (Style, &E),
+    ];
+    for (way, model) in ways {
+        let mut numbers = std::collections::BTreeSet::new();
+        for seed in 0..400 {
+            let mut rooms = with_model(&Proved, model);
+            let needs = Needs::of_session(&rooms.session);
+            damage(way, &mut rooms, needs, &mut Random::new(seed));
+            numbers.insert(both(&Proved, Call::Write, &mut rooms).unwrap().number);
+        }
+        let both = numbers.contains(&0) && numbers.contains(&12);
+        assert!(both, "{way:?}: {numbers:?}");
     }
 }

@@ -21,9 +21,9 @@ pub struct Batch {
 pub struct Updated {
     /// True pairs after less true pairs before.
     pub net: i64,
-    /// Leanings inside one block on shifted pairs.
+    /// Leanings inside one group on shifted pairs.
     pub shift_visits: usize,
-    /// Leanings inside one block on settled pairs.
+    /// Leanings inside one group on settled pairs.
     pub settle_visits: usize,
     /// How many pairs are true now.
     pub true_pairs: usize,

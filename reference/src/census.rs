@@ -3,9 +3,11 @@
 use std::collections::BTreeMap;
 
 use crate::batch::Updated;
+use crate::components::components;
 use crate::generate::{generate, Stream};
 use crate::limits::{MOST_CHANGES, MOST_MOVES};
 use crate::program::{cut, walk, Line, MOST_BYTES};
+use crate::records::{Reader, Record, Style};
 use crate::session::Session;
 
 /// Counts by name.
@@ -51,23 +53,26 @@ impl Census {
             let bytes = &stream.bytes[part.clone()];
             let at_limit = over && part.end == MOST_BYTES && cut(bytes).is_some();
             self.add_if(at_limit, "streams over the limit, a part ends at it");
-            self.take_line(bytes.len(), part.start == 0, line, session);
+            self.take_line(bytes, part.start == 0, line, session);
         });
     }
 
-    /// Counts one line of a run, for a part of this many bytes.
-    fn take_line(&mut self, length: usize, is_model: bool, line: Line, session: &Session) {
+    /// Counts one line of a run, for the part with these bytes.
+    fn take_line(&mut self, part: &[u8], is_model: bool, line: Line, session: &Session) {
         match line {
             Line::Loaded(_) => self.take_loaded(session),
             Line::Updated(updated) => {
                 self.take_updated(&updated, session);
-                let changes = (length - 6) / 6;
+                let changes = (part.len() - 6) / 6;
                 self.add_if(changes == 0, "batches accepted, no change");
                 self.add_if(changes == MOST_CHANGES, "batches accepted, 64 changes");
             }
             Line::Refused(refusal) => {
                 let what = if is_model { "model" } else { "batch" };
                 self.add(format!("{what} refused {:2}", refusal.number), 1);
+                if is_model && has_signs(part) {
+                    self.add(format!("model refused {:2}, signs", refusal.number), 1);
+                }
             }
         }
     }
@@ -83,6 +88,33 @@ impl Census {
         self.add_if(session.sizes.states == 256, "models with 256 states");
         self.add_if(session.sizes.variables == 32, "models with 32 variables");
         self.add_if(session.sizes.blocks == 8, "models with 8 blocks");
+        if session.sizes.style() == Style::Signs {
+            self.take_signed(session);
+        }
+    }
+
+    /// Counts the components of a loaded model with signs.
+    fn take_signed(&mut self, session: &Session) {
+        let variables = usize::from(session.sizes.variables);
+        let equations = &session.equations[..variables];
+        let components = components(equations);
+        let count = components
+            .iter()
+            .max()
+            .map_or(0, |most| 1 + usize::from(*most));
+        self.add("models with signs", 1);
+        self.add_if(count == 32, "models with signs, 32 components");
+        self.add_if(count > 8, "models with signs, over 8 components");
+        let whole = count == 1 && variables > 8;
+        self.add_if(whole, "models with signs, one component of over 8");
+        let ascends = components.is_sorted();
+        self.add_if(!ascends, "models with signs, components out of order");
+        let names_itself = |x: usize| equations[x].named().iter().any(|y| usize::from(y.0) == x);
+        let alone = |x: usize| components.iter().filter(|c| **c == components[x]).count() == 1;
+        let itself = (0..variables).any(|x| alone(x) && names_itself(x));
+        self.add_if(itself, "models with signs, one variable names itself");
+        let not_itself = (0..variables).any(|x| alone(x) && !names_itself(x));
+        self.add_if(not_itself, "models with signs, one variable does not");
     }
 
     /// Counts an accepted batch.
@@ -104,6 +136,12 @@ impl Census {
             self.add_if(many > 0, &format!("batches accepted, mark {mark} occurs"));
         }
     }
+}
+
+/// Whether a part begins with the sizes of a model with signs.
+fn has_signs(part: &[u8]) -> bool {
+    let first = Reader::new(part).record();
+    matches!(first, Ok((_, Record::Sizes(sizes))) if sizes.style() == Style::Signs)
 }
 
 /// The census over the seeds from 0 up to but without the count.

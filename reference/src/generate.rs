@@ -8,6 +8,7 @@ mod author;
 mod damage;
 mod faults;
 mod models;
+mod signed;
 
 use std::ops::Range;
 

@@ -1,5 +1,5 @@
 //! The independent second program: a checker for the alternation-free modal mu-calculus
-//! over a table of labelled moves, written from document 01 alone.
+//! over a table of labelled moves, written from the documents alone.
 //!
 //! Nothing here is fast on purpose. Every call first reads and judges everything into owned
 //! values and only stores into the lent [`Session`] at its very end, so a refusal changes
@@ -25,6 +25,7 @@
 
 pub mod batch;
 pub mod census;
+pub mod components;
 pub mod generate;
 pub mod limits;
 pub mod model;
@@ -32,6 +33,7 @@ pub mod program;
 pub mod random;
 pub mod records;
 pub mod refusal;
+pub mod rewrite;
 pub mod session;
 pub mod solve;
 pub mod table;
@@ -40,8 +42,9 @@ pub mod write;
 
 pub use batch::{batch, Updated};
 pub use model::{load, Loaded};
-pub use records::{Block, Equation, Record, Sizes};
+pub use records::{Block, Equation, Record, Sizes, Style};
 pub use refusal::Refusal;
+pub use rewrite::{in_signs, stream_in_signs};
 pub use session::{ask_mark, ask_value, Rooms, Session};
 pub use table::{stamp, Action, Move, State, Variable};
 pub use write::{write, write_vec};

@@ -8,7 +8,7 @@ pub const MOST_ACTIONS: u8 = 16;
 pub const MOST_PROPOSITIONS: u8 = 32;
 /// The most variables; the least is 1.
 pub const MOST_VARIABLES: u8 = 32;
-/// The most blocks; the least is 1.
+/// The most blocks; the least is 1, and 0 is for a model with signs.
 pub const MOST_BLOCKS: u8 = 8;
 /// The most moves, where the lent room isn't smaller.
 pub const MOST_MOVES: usize = 1_024;

@@ -1,4 +1,5 @@
-//! The program: without arguments as document 01 says, and with arguments the generator.
+//! The program: without arguments as document 01 says, and with arguments the generator and the
+//! rewriting of a stream in signs.
 
 use std::io::{self, Read, Write};
 use std::process::ExitCode;
@@ -6,11 +7,13 @@ use std::process::ExitCode;
 use reference::census::census;
 use reference::generate::{family_named, generate, generate_family};
 use reference::program::{run, MOST_BYTES};
+use reference::stream_in_signs;
 
 /// What to say about arguments that mean nothing.
 const USAGE: &str = "usage: reference
        reference generate SEED [FAMILY]
        reference census COUNT
+       reference rewrite
 FAMILY is one of tiny small medium large full chain badmodel damaged long noise";
 
 /// The bytes to print for the arguments, or nothing where they mean nothing.
@@ -21,6 +24,11 @@ fn answer(arguments: &[&str]) -> io::Result<Option<Vec<u8>>> {
             let stdin = io::stdin().lock();
             stdin.take(MOST_BYTES as u64).read_to_end(&mut input)?;
             Some(run(&input).into_bytes())
+        }
+        ["rewrite"] => {
+            let mut stream = Vec::new();
+            io::stdin().lock().read_to_end(&mut stream)?;
+            Some(stream_in_signs(&stream).unwrap_or(stream))
         }
         ["generate", seed] => seed.parse().ok().map(|seed| generate(seed).bytes),
         ["generate", seed, name] => match (seed.parse(), family_named(name)) {

@@ -1,36 +1,40 @@
 //! A model: how it is read record by record, and how it is loaded into a session.
 
+use crate::components::{components, mixed};
 use crate::limits::MOST_MOVES;
-use crate::records::{Block, Equation, Reader, Record, Sizes};
+use crate::records::{Block, Equation, Reader, Record, Sizes, Style};
 use crate::refusal::{demand, refuse, Refusal};
 use crate::session::{Rooms, Session};
 use crate::solve::solve;
 use crate::table::{stamp, Action, Move, State, Variable};
 
 /// A model that load accepts. Its vectors are exactly as long as its sizes say, and a state
-/// without a label has the empty set.
+/// without a label has the empty set. It has blocks or signs, as its style says.
 #[derive(Clone, Debug, Default, PartialEq, Eq)]
 pub struct Model {
     pub sizes: Sizes,
     pub labels: Vec<u32>,
     pub blocks: Vec<Block>,
+    /// For each variable its sign.
+    pub signs: Vec<u8>,
     pub equations: Vec<Equation>,
     pub moves: Vec<Move>,
 }
 
-/// Whether a block has its smallest or its largest solution.
+/// Whether a group has its smallest or its largest solution.
 #[derive(Clone, Copy, Debug, PartialEq, Eq)]
 pub enum Kind {
     Least,
     Greatest,
 }
 
-/// A block as a run of variables: from `first` on, up to but without `end`.
-#[derive(Clone, Copy, Debug, PartialEq, Eq)]
-pub struct Span {
+/// The variables that are solved together: those of a block or those of a component. A group
+/// names variables of its own and of groups before it alone.
+#[derive(Clone, Debug, PartialEq, Eq)]
+pub struct Group {
     pub kind: Kind,
-    pub first: u8,
-    pub end: u8,
+    /// Ascending.
+    pub variables: Vec<Variable>,
 }
 
 /// The right side of an equation.
@@ -46,29 +50,63 @@ pub enum Formula {
     Box(Action, Variable),
 }
 
-impl Span {
-    /// Whether a variable belongs to the block.
+impl Kind {
+    /// The kind that a block record or a sign gives: 0 is least and 1 is greatest.
+    pub fn of(kind: u8) -> Kind {
+        if kind == 0 {
+            Kind::Least
+        } else {
+            Kind::Greatest
+        }
+    }
+}
+
+impl Group {
+    /// Whether a variable belongs to the group.
     pub fn holds(&self, variable: Variable) -> bool {
-        self.first <= variable.0 && variable.0 < self.end
+        self.variables.binary_search(&variable).is_ok()
     }
 }
 
 impl Model {
+    /// The groups in the order in which they are solved.
+    pub fn groups(&self) -> Vec<Group> {
+        match self.sizes.style() {
+            Style::Blocks => self.blocks_as_groups(),
+            Style::Signs => self.components_as_groups(),
+        }
+    }
+
     /// The blocks in order, each with the variables that it covers.
-    pub fn spans(&self) -> Vec<Span> {
+    fn blocks_as_groups(&self) -> Vec<Group> {
         let mut first = 0;
-        let mut spans = Vec::new();
+        let mut groups = Vec::new();
         for block in &self.blocks {
-            let kind = if block.kind == 0 {
-                Kind::Least
-            } else {
-                Kind::Greatest
-            };
             let end = first + block.variables;
-            spans.push(Span { kind, first, end });
+            groups.push(Group {
+                kind: Kind::of(block.kind),
+                variables: (first..end).map(Variable).collect(),
+            });
             first = end;
         }
-        spans
+        groups
+    }
+
+    /// The components by their numbers, each of the one sign that all its variables have.
+    fn components_as_groups(&self) -> Vec<Group> {
+        let components = components(&self.equations);
+        let mut groups: Vec<Group> = Vec::new();
+        for number in 0..self.sizes.variables {
+            let of_number = |x: &u8| components[usize::from(*x)] == number;
+            let variables: Vec<u8> = (0..self.sizes.variables).filter(of_number).collect();
+            if let Some(one) = variables.first() {
+                groups.push(Group {
+                    kind: Kind::of(self.signs[usize::from(*one)]),
+                    variables: variables.into_iter().map(Variable).collect(),
+                });
+            }
+        }
+        groups
     }
 
     /// The right side of a variable's equation.
@@ -95,12 +133,12 @@ impl Model {
         self.labels[usize::from(state.0)] >> proposition & 1 == 1
     }
 
-    /// The indices of all pairs of a block, states in order.
-    pub fn pairs_of(&self, span: Span) -> Vec<usize> {
+    /// The indices of all pairs of a group, states in order.
+    pub fn pairs_of(&self, group: &Group) -> Vec<usize> {
         let mut pairs = Vec::new();
         for state in 0..self.sizes.states {
-            for variable in span.first..span.end {
-                pairs.push(self.sizes.pair(State(state), Variable(variable)));
+            for variable in &group.variables {
+                pairs.push(self.sizes.pair(State(state), *variable));
             }
         }
         pairs
@@ -114,6 +152,8 @@ enum Due {
     LabelOrBlock,
     Equation,
     Block,
+    LabelOrSigned,
+    Signed,
     MoveOrEnd,
     Nothing,
 }
@@ -123,6 +163,8 @@ struct Reading<'a> {
     rooms: &'a Rooms,
     due: Due,
     last_label: Option<State>,
+    /// Where the records of the equations with signs begin.
+    signed_at: Vec<usize>,
     model: Model,
 }
 
@@ -133,6 +175,7 @@ pub fn read_model(bytes: &[u8], rooms: &Rooms) -> Result<Model, Refusal> {
         rooms,
         due: Due::Sizes,
         last_label: None,
+        signed_at: vec![],
         model: Model::default(),
     };
     while reading.due != Due::Nothing {
@@ -148,9 +191,14 @@ impl Reading<'_> {
     fn take(&mut self, place: usize, record: Record) -> Result<(), Refusal> {
         match (self.due, record) {
             (Due::Sizes, Record::Sizes(sizes)) => self.take_sizes(place, sizes),
-            (Due::LabelOrBlock, Record::Label { state, set }) => self.take_label(place, state, set),
+            (Due::LabelOrBlock | Due::LabelOrSigned, Record::Label { state, set }) => {
+                self.take_label(place, state, set)
+            }
             (Due::LabelOrBlock | Due::Block, Record::Block(block)) => self.take_block(place, block),
             (Due::Equation, Record::Equation(equation)) => self.take_equation(place, equation),
+            (Due::LabelOrSigned | Due::Signed, Record::Signed { sign, equation }) => {
+                self.take_signed(place, sign, equation)
+            }
             (Due::MoveOrEnd, Record::Move(m)) => self.take_move(place, m),
             (Due::MoveOrEnd, Record::End) => {
                 self.due = Due::Nothing;
@@ -166,7 +214,10 @@ impl Reading<'_> {
         demand(self.rooms.hold(&sizes), 13, 0)?;
         self.model.sizes = sizes;
         self.model.labels = vec![0; usize::from(sizes.states)];
-        self.due = Due::LabelOrBlock;
+        self.due = match sizes.style() {
+            Style::Blocks => Due::LabelOrBlock,
+            Style::Signs => Due::LabelOrSigned,
+        };
         Ok(())
     }
 
@@ -206,6 +257,24 @@ impl Reading<'_> {
         if self.model.equations.len() == usize::from(covered) {
             let more = self.model.blocks.len() < usize::from(self.model.sizes.blocks);
             self.due = if more { Due::Block } else { Due::MoveOrEnd };
+        }
+        Ok(())
+    }
+
+    /// Takes an equation with its sign: 4 for its numbers. After the last one 5 where a closed chain
+    /// holds both signs, at the lowest equation on such a chain.
+    fn take_signed(&mut self, place: usize, sign: u8, equation: Equation) -> Result<(), Refusal> {
+        let in_range = sign <= 1 && self.model.sizes.holds_equation(equation);
+        demand(in_range, 4, place)?;
+        self.signed_at.push(place);
+        self.model.signs.push(sign);
+        self.model.equations.push(equation);
+        self.due = Due::Signed;
+        if self.model.equations.len() == usize::from(self.model.sizes.variables) {
+            if let Some(guilty) = mixed(&self.model.equations, &self.model.signs) {
+                return refuse(5, self.signed_at[usize::from(guilty.0)]);
+            }
+            self.due = Due::MoveOrEnd;
         }
         Ok(())
     }

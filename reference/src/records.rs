@@ -4,7 +4,17 @@ use crate::limits::*;
 use crate::refusal::{refuse, Refusal};
 use crate::table::{Action, Move, State, Variable};
 
-/// The sizes of a model, as a sizes record gives them, good or not.
+/// The two ways to spell a model's rules.
+#[derive(Clone, Copy, Debug, PartialEq, Eq)]
+pub enum Style {
+    /// Blocks with their equations, kinds 3 and 4.
+    Blocks,
+    /// Equations that have signs of their own, kind 11.
+    Signs,
+}
+
+/// The sizes of a model, as a sizes record gives them, good or not. Blocks are 0 for a model with
+/// signs.
 #[derive(Clone, Copy, Debug, Default, PartialEq, Eq)]
 pub struct Sizes {
     pub states: u16,
@@ -29,11 +39,14 @@ pub struct Equation {
     pub second: u8,
 }
 
-/// One record of any of the nine kinds, its numbers not yet judged.
+/// One record of any of the ten kinds, its numbers not yet judged.
 #[derive(Clone, Copy, Debug, PartialEq, Eq)]
 pub enum Record {
     Sizes(Sizes),
-    Label { state: State, set: u32 },
+    Label {
+        state: State,
+        set: u32,
+    },
     Block(Block),
     Equation(Equation),
     Move(Move),
@@ -41,16 +54,30 @@ pub enum Record {
     Stamp(u32),
     Insert(Move),
     Delete(Move),
+    /// An equation with its sign: 0 is least and 1 is greatest.
+    Signed {
+        sign: u8,
+        equation: Equation,
+    },
 }
 
 impl Sizes {
-    /// Whether every size lies within the table of document 01.
+    /// How the model spells its rules, which the number of blocks alone decides.
+    pub fn style(&self) -> Style {
+        if self.blocks == 0 {
+            Style::Signs
+        } else {
+            Style::Blocks
+        }
+    }
+
+    /// Whether every size lies within the table of document 01, or blocks are 0 for signs.
     pub fn in_table(&self) -> bool {
         (1..=MOST_STATES).contains(&self.states)
             && (1..=MOST_ACTIONS).contains(&self.actions)
             && self.propositions <= MOST_PROPOSITIONS
             && (1..=MOST_VARIABLES).contains(&self.variables)
-            && (1..=MOST_BLOCKS).contains(&self.blocks)
+            && self.blocks <= MOST_BLOCKS
     }
 
     /// How many pairs of a state and a variable there are.
@@ -123,7 +150,7 @@ pub fn body_length(kind: u8) -> Option<usize> {
         4 => Some(3),
         5 | 8 | 9 => Some(5),
         6 => Some(0),
-        7 => Some(4),
+        7 | 11 => Some(4),
         _ => None,
     }
 }
@@ -177,6 +204,15 @@ fn four(bytes: &[u8]) -> u32 {
     u32::from(two(&bytes[..2])) + 65_536 * u32::from(two(&bytes[2..]))
 }
 
+/// Reads the three bytes of an equation.
+fn three(bytes: &[u8]) -> Equation {
+    Equation {
+        operator: bytes[0],
+        first: bytes[1],
+        second: bytes[2],
+    }
+}
+
 /// Reads the five bytes of a move.
 fn five(bytes: &[u8]) -> Move {
     Move {
@@ -204,16 +240,16 @@ fn decode(kind: u8, body: &[u8]) -> Record {
             kind: body[0],
             variables: body[1],
         }),
-        4 => Record::Equation(Equation {
-            operator: body[0],
-            first: body[1],
-            second: body[2],
-        }),
+        4 => Record::Equation(three(body)),
         5 => Record::Move(five(body)),
         6 => Record::End,
         7 => Record::Stamp(four(body)),
         8 => Record::Insert(five(body)),
-        _ => Record::Delete(five(body)),
+        9 => Record::Delete(five(body)),
+        _ => Record::Signed {
+            sign: body[0],
+            equation: three(&body[1..]),
+        },
     }
 }
 
@@ -240,8 +276,9 @@ pub fn spell(record: Record, bytes: &mut Vec<u8>) {
             bytes.extend(set.to_le_bytes());
         }
         Record::Block(block) => bytes.extend([3, block.kind, block.variables]),
-        Record::Equation(equation) => {
-            bytes.extend([4, equation.operator, equation.first, equation.second]);
+        Record::Equation(e) => bytes.extend([4, e.operator, e.first, e.second]),
+        Record::Signed { sign, equation: e } => {
+            bytes.extend([11, sign, e.operator, e.first, e.second]);
         }
         Record::Move(m) => spell_move(5, m, bytes),
         Record::End => bytes.push(6),

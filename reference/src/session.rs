@@ -1,8 +1,9 @@
 //! A session: the rooms it lends, whether it holds together, and the questions about a pair.
 
+use crate::components::components;
 use crate::limits::*;
 use crate::model::{read_model, Model};
-use crate::records::{Block, Equation, Sizes};
+use crate::records::{Block, Equation, Sizes, Style};
 use crate::refusal::{demand, Refusal};
 use crate::table::{stamp, Move, State, Variable};
 use crate::write::spell_session;
@@ -14,6 +15,10 @@ pub struct Session {
     pub sizes: Sizes,
     /// The blocks; only the first `sizes.blocks` of them count.
     pub blocks: [Block; MOST_BLOCKS as usize],
+    /// For each variable its sign; they count only where `sizes.blocks` is 0.
+    pub signs: [u8; MOST_VARIABLES as usize],
+    /// For each variable the number of its component; they count only where `sizes.blocks` is 0.
+    pub components: [u8; MOST_VARIABLES as usize],
     /// For each state its set of propositions.
     pub labels: Vec<u32>,
     /// For each variable its equation.
@@ -66,6 +71,8 @@ impl Session {
         Session {
             sizes: Sizes::default(),
             blocks: Default::default(),
+            signs: Default::default(),
+            components: Default::default(),
             labels: vec![0; rooms.labels],
             equations: vec![Equation::default(); rooms.equations],
             moves: vec![Move::default(); rooms.moves],
@@ -103,12 +110,17 @@ impl Session {
         values.filter(|value| **value == 1).count()
     }
 
-    /// Stores a model's sizes, labels, blocks and equations; places past them keep what they had.
+    /// Stores a model's sizes, labels and rules; places past them keep what they had.
     pub(crate) fn store_model(&mut self, model: &Model) {
         self.sizes = model.sizes;
         self.labels[..model.labels.len()].copy_from_slice(&model.labels);
         self.blocks[..model.blocks.len()].copy_from_slice(&model.blocks);
         self.equations[..model.equations.len()].copy_from_slice(&model.equations);
+        if model.sizes.style() == Style::Signs {
+            let components = components(&model.equations);
+            self.signs[..model.signs.len()].copy_from_slice(&model.signs);
+            self.components[..components.len()].copy_from_slice(&components);
+        }
     }
 
     /// Stores the values and marks of all pairs; places past them keep what they had.
@@ -134,12 +146,23 @@ fn check_sizes_and_rooms(session: &Session) -> Result<(), Refusal> {
     demand(session.rooms().hold(&session.sizes), 13, 0)
 }
 
-/// Asks 12 for the rest: whether load accepts what the session holds, and whether its values,
-/// its marks and the stamp it keeps are good. Gives the model.
+/// Whether a session with signs has stored the right number of each variable's component.
+fn right_components(session: &Session) -> bool {
+    if session.sizes.style() == Style::Blocks {
+        return true;
+    }
+    let variables = usize::from(session.sizes.variables);
+    let right = components(&session.equations[..variables]);
+    session.components[..variables] == right
+}
+
+/// Asks 12 for the rest: whether load accepts what the session holds, and whether its components,
+/// its values, its marks and the stamp it keeps are good. Gives the model.
 fn check_rest(session: &Session) -> Result<Model, Refusal> {
     let pairs = session.sizes.pairs();
     let read = read_model(&spell_session(session), &session.rooms());
     demand(read.is_ok(), 12, 0)?;
+    demand(right_components(session), 12, 0)?;
     demand(session.values[..pairs].iter().all(|v| *v <= 1), 12, 0)?;
     demand(session.marks[..pairs].iter().all(|m| *m <= 3), 12, 0)?;
     let right = stamp(session.table());

@@ -1,6 +1,6 @@
-//! What the values mean: leanings, equations, and the fixpoints block by block.
+//! What the values mean: leanings, equations, and the fixpoints group by group.
 
-use crate::model::{Formula, Kind, Model, Span};
+use crate::model::{Formula, Group, Kind, Model};
 use crate::table::{Action, Move, State, Variable};
 
 /// The leanings of a model under its moves, by the indices of the pairs.
@@ -68,22 +68,22 @@ pub fn evaluate(model: &Model, leanings: &Leanings, values: &[bool], pair: usize
     }
 }
 
-/// The value that a block's pairs start from when it is solved, and that shifted pairs take:
-/// true for a greatest block, false for a least one.
+/// The value that a group's pairs start from when it is solved, and that shifted pairs take:
+/// true for a greatest group, false for a least one.
 pub fn start_value(kind: Kind) -> bool {
     kind == Kind::Greatest
 }
 
-/// Settles a block: any pair with the start value whose equation gives the other value takes
+/// Settles a group: any pair with the start value whose equation gives the other value takes
 /// that other value, until none is left. A turned pair has all that lean on it looked at again.
-pub fn settle(model: &Model, leanings: &Leanings, span: Span, values: &mut [bool]) {
-    let start = start_value(span.kind);
-    let mut waiting = model.pairs_of(span);
+pub fn settle(model: &Model, leanings: &Leanings, group: &Group, values: &mut [bool]) {
+    let start = start_value(group.kind);
+    let mut waiting = model.pairs_of(group);
     while let Some(pair) = waiting.pop() {
         if values[pair] == start && evaluate(model, leanings, values, pair) != start {
             values[pair] = !start;
             for leaner in &leanings.by[pair] {
-                if span.holds(model.sizes.variable_of(*leaner)) {
+                if group.holds(model.sizes.variable_of(*leaner)) {
                     waiting.push(*leaner);
                 }
             }
@@ -91,16 +91,16 @@ pub fn settle(model: &Model, leanings: &Leanings, span: Span, values: &mut [bool
     }
 }
 
-/// The values of a model: block by block, the smallest solution of a least block and the largest
-/// solution of a greatest one, with earlier blocks fixed.
+/// The values of a model: group by group, the smallest solution of a least group and the largest
+/// solution of a greatest one, with the groups before it fixed.
 pub fn solve(model: &Model) -> Vec<bool> {
     let leanings = Leanings::of(model);
     let mut values = vec![false; model.sizes.pairs()];
-    for span in model.spans() {
-        for pair in model.pairs_of(span) {
-            values[pair] = start_value(span.kind);
+    for group in model.groups() {
+        for pair in model.pairs_of(&group) {
+            values[pair] = start_value(group.kind);
         }
-        settle(model, &leanings, span, &mut values);
+        settle(model, &leanings, &group, &mut values);
     }
     values
 }

@@ -1,6 +1,6 @@
-//! How a batch moves the values: shift and settle, block by block.
+//! How a batch moves the values: shift and settle, group by group.
 
-use crate::model::{Formula, Kind, Model, Span};
+use crate::model::{Formula, Group, Kind, Model};
 use crate::solve::{settle, start_value, Leanings};
 use crate::table::{Action, Move, State, Variable};
 
@@ -23,22 +23,22 @@ pub struct Change {
 pub struct Outcome {
     pub values: Vec<bool>,
     pub marks: Vec<u8>,
-    /// Leanings inside one block on shifted pairs.
+    /// Leanings inside one group on shifted pairs.
     pub shift_visits: usize,
-    /// Leanings inside one block on settled pairs.
+    /// Leanings inside one group on settled pairs.
     pub settle_visits: usize,
     /// True pairs after less true pairs before.
     pub net: i64,
 }
 
-/// One block's turn: the model with its new moves, the changes that led to it, the values before
-/// the batch, and the block.
+/// One group's turn: the model with its new moves, the changes that led to it, the values before
+/// the batch, and the group.
 struct Turn<'a> {
     model: &'a Model,
     leanings: &'a Leanings,
     changes: &'a [Change],
     old: &'a [bool],
-    span: Span,
+    group: &'a Group,
 }
 
 /// Applies the shift and settle rule. The model has the new moves already; `old` are the values
@@ -48,21 +48,21 @@ pub fn update(model: &Model, changes: &[Change], old: &[bool]) -> Outcome {
     let mut values = old.to_vec();
     let mut shifted = vec![false; old.len()];
     let mut settled = vec![false; old.len()];
-    for span in model.spans() {
+    for group in &model.groups() {
         let turn = Turn {
             model,
             leanings: &leanings,
             changes,
             old,
-            span,
+            group,
         };
         for pair in turn.shifted(&values) {
             shifted[pair] = true;
-            values[pair] = start_value(span.kind);
+            values[pair] = start_value(group.kind);
         }
         let before = values.clone();
-        settle(model, &leanings, span, &mut values);
-        for pair in model.pairs_of(span) {
+        settle(model, &leanings, group, &mut values);
+        for pair in model.pairs_of(group) {
             settled[pair] = before[pair] != values[pair];
         }
     }
@@ -77,9 +77,9 @@ pub fn update(model: &Model, changes: &[Change], old: &[bool]) -> Outcome {
 }
 
 impl Turn<'_> {
-    /// The block's shifted set, each pair once. `values` are the new values of earlier blocks.
+    /// The group's shifted set, each pair once. `values` are the new values of earlier groups.
     fn shifted(&self, values: &[bool]) -> Vec<usize> {
-        let mut waiting = self.model.pairs_of(self.span);
+        let mut waiting = self.model.pairs_of(self.group);
         waiting.retain(|pair| self.may_shift(*pair) && self.is_seed(values, *pair));
         let mut is_shifted = vec![false; self.old.len()];
         let mut shifted = Vec::new();
@@ -95,18 +95,18 @@ impl Turn<'_> {
         shifted
     }
 
-    /// Whether a pair is of this block and was old-false (for a least block: old-true).
+    /// Whether a pair is of this group and was old-false (for a least group: old-true).
     fn may_shift(&self, pair: usize) -> bool {
         let variable = self.model.sizes.variable_of(pair);
-        self.span.holds(variable) && self.old[pair] != start_value(self.span.kind)
+        self.group.holds(variable) && self.old[pair] != start_value(self.group.kind)
     }
 
-    /// Whether a pair shifts of itself: through its own moves or through an earlier block. A
-    /// greatest block's diamonds seed by gaining and its boxes by losing; in a least block the
-    /// boxes seed by gaining and the diamonds by losing.
+    /// Whether a pair shifts of itself: through its own moves or through another group. A greatest
+    /// group's diamonds seed by gaining and its boxes by losing; in a least group the boxes seed by
+    /// gaining and the diamonds by losing.
     fn is_seed(&self, values: &[bool], pair: usize) -> bool {
         let state = self.model.sizes.state_of(pair);
-        let greatest = self.span.kind == Kind::Greatest;
+        let greatest = self.group.kind == Kind::Greatest;
         let by_own_moves = match self.model.formula(self.model.sizes.variable_of(pair)) {
             Formula::Diamond(action, _) if greatest => self.gains(state, action),
             Formula::Diamond(action, x) => self.loses(state, action, x),
@@ -126,7 +126,7 @@ impl Turn<'_> {
     }
 
     /// Whether the batch deletes one of a state's moves with an action whose target pair was
-    /// old-false (for a least block: old-true).
+    /// old-false (for a least group: old-true).
     fn loses(&self, state: State, action: Action, x: Variable) -> bool {
         self.changes.iter().any(|change| {
             let own = change.what.source == state && change.what.action == action;
@@ -134,18 +134,18 @@ impl Turn<'_> {
         })
     }
 
-    /// Whether a pair was old-false (for a least block: old-true), whatever its block.
+    /// Whether a pair was old-false (for a least group: old-true), whatever its group.
     fn old_other(&self, state: State, variable: Variable) -> bool {
-        self.old[self.model.sizes.pair(state, variable)] != start_value(self.span.kind)
+        self.old[self.model.sizes.pair(state, variable)] != start_value(self.group.kind)
     }
 
-    /// Whether a pair leans on an earlier block's pair that went from false to true (for a least
-    /// block: from true to false) over the whole batch.
+    /// Whether a pair leans on another group's pair that went from false to true (for a least
+    /// group: from true to false) over the whole batch.
     fn leans_on_gone_over(&self, values: &[bool], pair: usize) -> bool {
-        let start = start_value(self.span.kind);
+        let start = start_value(self.group.kind);
         self.leanings.on[pair].iter().any(|operand| {
-            let earlier = self.model.sizes.variable_of(*operand).0 < self.span.first;
-            earlier && self.old[*operand] != start && values[*operand] == start
+            let other = !self.group.holds(self.model.sizes.variable_of(*operand));
+            other && self.old[*operand] != start && values[*operand] == start
         })
     }
 }
@@ -163,13 +163,13 @@ fn marks(shifted: &[bool], settled: &[bool]) -> Vec<u8> {
     .collect()
 }
 
-/// How many leanings have both ends in one block and lean on a pair of the set.
+/// How many leanings have both ends in one group and lean on a pair of the set.
 fn visits(model: &Model, leanings: &Leanings, set: &[bool]) -> usize {
     let mut visits = 0;
-    for span in model.spans() {
-        for pair in model.pairs_of(span) {
+    for group in model.groups() {
+        for pair in model.pairs_of(&group) {
             for operand in &leanings.on[pair] {
-                if set[*operand] && span.holds(model.sizes.variable_of(*operand)) {
+                if set[*operand] && group.holds(model.sizes.variable_of(*operand)) {
                     visits += 1;
                 }
             }

@@ -1,9 +1,35 @@
 //! Writing a session back to the bytes of its model.
 
-use crate::records::{spell_all, Record};
+use crate::records::{spell_all, Record, Style};
 use crate::refusal::{demand, Refusal};
 use crate::session::{check, Session};
 use crate::table::State;
+
+/// The records of a session's rules in the style that was loaded, good or not.
+fn rules(session: &Session) -> Vec<Record> {
+    let mut equations = session
+        .equations
+        .iter()
+        .take(usize::from(session.sizes.variables));
+    let mut records = Vec::new();
+    if session.sizes.style() == Style::Signs {
+        for (sign, equation) in session.signs.iter().zip(equations) {
+            records.push(Record::Signed {
+                sign: *sign,
+                equation: *equation,
+            });
+        }
+        return records;
+    }
+    let blocks = session.blocks.iter();
+    for block in blocks.take(usize::from(session.sizes.blocks)) {
+        records.push(Record::Block(*block));
+        for equation in equations.by_ref().take(usize::from(block.variables)) {
+            records.push(Record::Equation(*equation));
+        }
+    }
+    records
+}
 
 /// The bytes of what a session holds, good or not. Load accepts them exactly where the session
 /// holds a model, and a state with the empty set gets no label record.
@@ -18,13 +44,7 @@ pub fn spell_session(session: &Session) -> Vec<u8> {
             });
         }
     }
-    let mut equations = session.equations.iter().take(usize::from(sizes.variables));
-    for block in session.blocks.iter().take(usize::from(sizes.blocks)) {
-        records.push(Record::Block(*block));
-        for equation in equations.by_ref().take(usize::from(block.variables)) {
-            records.push(Record::Equation(*equation));
-        }
-    }
+    records.extend(rules(session));
     records.extend(session.table().iter().map(|m| Record::Move(*m)));
     records.push(Record::End);
     spell_all(&records)

@@ -3,7 +3,9 @@
 use std::collections::BTreeMap;
 
 use reference::census::Census;
-use reference::generate::{family_named, generate, generate_family, Family, Intent, FAMILIES};
+use reference::generate::{
+    family_named, generate, generate_family, Family, Intent, Stream, FAMILIES,
+};
 use reference::program::{walk, Line, MOST_BYTES};
 
 /// Whether a line is what was meant to become of a part.
@@ -39,12 +41,19 @@ fn the_families_are_whole() {
     assert_eq!(family_named("nothing"), None);
 }
 
+/// The streams of the first seeds, each also as one with a refused model.
+fn streams() -> impl Iterator<Item = (u64, Stream)> {
+    (0..300).flat_map(|seed| {
+        let streams = [generate(seed), generate_family(seed, Family::BadModel)];
+        streams.map(|stream| (seed, stream))
+    })
+}
+
 /// Every part whose outcome the generator knows has that outcome.
 #[test]
 fn parts_become_what_was_meant() {
     let mut checked = 0;
-    for seed in 0..300 {
-        let stream = generate(seed);
+    for (seed, stream) in streams() {
         let intents: BTreeMap<usize, _> = stream
             .intents
             .iter()
@@ -64,15 +73,17 @@ fn parts_become_what_was_meant() {
     assert!(checked > 5_000);
 }
 
-/// A census of not too many seeds meets every outcome that the program can reach.
+/// A census of not too many seeds meets every outcome that the program can reach, in both styles.
 #[test]
 fn the_census_meets_everything() {
     let mut census = Census::default();
-    for seed in 0..300 {
-        census.take(&generate(seed));
+    for (_, stream) in streams() {
+        census.take(&stream);
     }
     for number in [1, 2, 3, 4, 5, 6, 10] {
-        assert!(census.count(&format!("model refused {number:2}")) > 0);
+        let all = census.count(&format!("model refused {number:2}"));
+        let signs = census.count(&format!("model refused {number:2}, signs"));
+        assert!(0 < signs && signs < all, "{number}");
     }
     for number in [1, 2, 3, 4, 7, 8, 9, 10, 11] {
         assert!(census.count(&format!("batch refused {number:2}")) > 10);
@@ -91,6 +102,12 @@ fn the_census_meets_everything() {
         "models with 256 states",
         "models with 32 variables",
         "models with 8 blocks",
+        "models with signs, 32 components",
+        "models with signs, components out of order",
+        "models with signs, one component of over 8",
+        "models with signs, one variable does not",
+        "models with signs, one variable names itself",
+        "models with signs, over 8 components",
     ];
     for name in names {
         assert!(census.count(name) > 0, "{name}");

@@ -116,6 +116,7 @@ fn reading_15_the_cut_goes_by_kinds_and_lengths() {
         sizes(0x0606, 6, 6, 6, 6),
         block(6, 6),
         equation(6, 6, 6),
+        signed(6, 6, 6, 6),
         step(0x0606, 6, 0x0606),
         insert(0x0606, 6, 0x0606),
         delete(0x0606, 6, 0x0606),
@@ -181,6 +182,22 @@ fn reading_16_a_part_that_the_limit_cuts() {
     assert_eq!(printed.lines().count(), 10_922);
     assert!(printed.ends_with("stamp 0\nrefused 1 at 0\n"));
     assert_eq!(spawn(&[], input).0, printed.as_bytes());
+}
+
+/// The rewriting command puts the model in signs and leaves the batches, and leaves a stream whose
+/// model is refused or has signs already.
+#[test]
+fn the_rewriting_command_works() {
+    let signs = join(&[sizes(2, 1, 0, 1, 0), signed(1, 6, 0, 0), end()]);
+    let batches = example()[15..].to_vec();
+    let rewritten = [signs, batches].concat();
+    assert_eq!(spawn(&["rewrite"], example()), (rewritten.clone(), true));
+    assert_eq!(run(&rewritten), PRINTED);
+    assert_eq!(spawn(&["rewrite"], rewritten.clone()), (rewritten, true));
+    for kept in [vec![], vec![0], G[..14].to_vec(), vec![6, 6]] {
+        assert_eq!(spawn(&["rewrite"], kept.clone()), (kept, true));
+    }
+    assert!(!spawn(&["rewrite", "1"], vec![]).1);
 }
 
 /// The generator's command gives the bytes of its seed, and nonsense ends badly.

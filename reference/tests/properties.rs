@@ -103,13 +103,13 @@ fn tables_follow_the_changes() {
     }
 }
 
-/// How many leanings inside one block lean on a pair with one of these marks.
+/// How many leanings inside one group lean on a pair with one of these marks.
 fn leanings_on(model: &Model, leanings: &Leanings, marks: &[u8], of: [u8; 2]) -> usize {
     let mut count = 0;
-    for span in model.spans() {
-        for pair in model.pairs_of(span) {
+    for group in model.groups() {
+        for pair in model.pairs_of(&group) {
             for operand in &leanings.on[pair] {
-                let inside = span.holds(model.sizes.variable_of(*operand));
+                let inside = group.holds(model.sizes.variable_of(*operand));
                 count += usize::from(inside && of.contains(&marks[*operand]));
             }
         }
@@ -125,9 +125,9 @@ fn marks_visits_and_net_agree() {
         let model = check(&sample.after).unwrap();
         let (old, new) = (truths(&sample.before), truths(&sample.after));
         let marks = common::marks(&sample.after);
-        for span in model.spans() {
-            let greatest = span.kind == Kind::Greatest;
-            for pair in model.pairs_of(span) {
+        for group in model.groups() {
+            let greatest = group.kind == Kind::Greatest;
+            for pair in model.pairs_of(&group) {
                 let (was, is) = match marks[pair] {
                     0 => (old[pair], old[pair]),
                     1 => (!greatest, greatest),
@@ -262,6 +262,8 @@ fn write_then_load_gives_back_the_session() {
         assert_eq!(again.labels, sample.after.labels);
         assert_eq!(again.equations, sample.after.equations);
         assert_eq!(again.blocks, sample.after.blocks);
+        assert_eq!(again.signs, sample.after.signs);
+        assert_eq!(again.components, sample.after.components);
         assert_eq!(again.table(), sample.after.table());
         assert_eq!(again.values[..pairs], sample.after.values[..pairs]);
         assert_eq!(again.stamp, sample.after.stamp);

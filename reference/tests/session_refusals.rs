@@ -49,7 +49,6 @@ fn bad_sizes() -> Vec<Session> {
         broken(|s| s.sizes.propositions = 33),
         broken(|s| s.sizes.variables = 0),
         broken(|s| s.sizes.variables = 33),
-        broken(|s| s.sizes.blocks = 0),
         broken(|s| s.sizes.blocks = 9),
         broken(|s| s.move_count = 5),
         broken(|s| {
@@ -85,6 +84,7 @@ fn bad_rest() -> Vec<Session> {
         broken(|s| s.blocks[0].variables = 1),
         broken(|s| s.blocks[1].variables = 2),
         broken(|s| s.blocks[1].variables = 255),
+        broken(|s| s.sizes.blocks = 0),
         broken(|s| s.sizes.blocks = 3),
         broken(|s| s.sizes.blocks = 1),
         broken(|s| s.equations[0] = equation(8, 0, 0)),
@@ -268,6 +268,8 @@ fn places_past_the_sizes_are_not_judged() {
         s.marks.push(99);
         s.moves[3] = Move::new(99, 99, 99);
         s.blocks[2].kind = 99;
+        s.signs = [99; 32];
+        s.components = [99; 32];
     });
     assert!(write(&session, &mut [0; 100]).is_ok());
     let right = session.stamp.unwrap();

@@ -13,7 +13,7 @@ use Rattle.rules.specs.Batch.{Batch, Change, Place, first, after, stepBatch, pu
 use Rattle.rules.specs.Limits.{sizesOk}
 use Rattle.rules.specs.Model.{moveOk}
 use Rattle.rules.specs.Moves.{source, action, target}
-use Rattle.rules.specs.Records.{Rec, Parts, ends, broken, part, parts, Turn, no, next, over, demand, accepted, atEnd, onTurn, run}
+use Rattle.rules.specs.Records.{Rec, Parts, ends, broken, part, parts, Turn, no, back, next, over, demand, accepted, atEnd, onTurn, run}
 use Rattle.rules.specs.declared.Sizes.{Sizes}
 use Rattle.laws.specs.RecordLaws.{judged, un-onto, never}
 use Rattle.laws.specs.Walks.{small}
@@ -50,6 +50,7 @@ module _ (z : Sizes) where
           → ((c : Batch) → run (stepBatch z) putBatch emptyBatch (after (suc n)) t ≡ accepted c → codesFrom z (suc n) t ≡ map changeCode (c .changes))
           → codesBy (codesFrom z (suc n) t) r u ≡ map changeCode (b .changes)
       go (no k) w e ih = absurd (never e)
+      go (back k d) w e ih = absurd (never e)
       go over w e ih = at t e
       go (next st) w e ih =
           let d = un-onto (stepBatch z) putBatch emptyBatch (putBatch (after n) r) (run (stepBatch z) putBatch emptyBatch st t) b e in

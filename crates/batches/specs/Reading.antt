@@ -12,7 +12,7 @@ use Rattle.rules.specs.Batch.{Batch, Change, Place, after, stepBatch, putBatch,
 use Rattle.rules.specs.Limits.{most-changes}
 use Rattle.rules.specs.Model.{moveOk}
 use Rattle.rules.specs.Moves.{pack, wrap}
-use Rattle.rules.specs.Records.{Rec, field, Parts, ends, broken, part, parts, Turn, no, next, over, Outcome, refused, accepted, run}
+use Rattle.rules.specs.Records.{Rec, field, Parts, ends, broken, part, parts, Turn, no, back, next, over, Outcome, refused, accepted, run}
 use Rattle.rules.specs.declared.Move.{Move}
 use Rattle.rules.specs.declared.Refusal.the-variants as Why
 use Rattle.rules.specs.declared.Sizes.{Sizes}
@@ -69,6 +69,7 @@ from z s stamp n at = summaryAfter stamp n (readOn z n (partsAt s at))
 -- The changes up to the first record that is none, as numbers.
 abbrev pub codesBy : List ℕ → Rec → Turn Place → List ℕ
 codesBy l r (no k) = []
+codesBy l r (back k d) = []
 codesBy l r (next p) = codeOf (pack (field r 0) (field r 1) (field r 2)) (bit (eqb (r .kind) 8)) ∷ l
 codesBy l r over = []
 

@@ -14,7 +14,7 @@ use Rattle.rules.specs.Calls.{Left, writeBy, writable, write}
 use Rattle.rules.specs.Answers.{numberOf}
 use Rattle.rules.specs.declared.Refusal.{Refusal}
 use Rattle.rules.specs.declared.Session.{Session}
-use Rattle.laws.specs.SpellingLength.{labelled, encode-length}
+use Rattle.laws.specs.SpellingLength.{labelled, equationSize, encode-length}
 use Rattle.calls.specs.AskLaws.{leb-no}
 use Rattle.calls.specs.Checks.{checkOf, checkedSays, checked-stops, checked-goes}
 use Rattle.calls.specs.Passed.{passed-holds}
@@ -23,7 +23,7 @@ use Rattle.calls.specs.declared.Checked.the-variants as Found
 
 -- The length of what is written, by the counts that the session keeps.
 abbrev pub lengthBy : Session → List ℕ → ℕ
-lengthBy s labels = 8 + 7 * labelled (take (s .sizes .states) labels) + 3 * s .sizes .blocks + 4 * s .sizes .variables + 6 * s .moves
+lengthBy s labels = 8 + 7 * labelled (take (s .sizes .states) labels) + 3 * s .sizes .blocks + equationSize (s .sizes) * s .sizes .variables + 6 * s .moves
 
 -- The call left this answer and this output.
 abbrev pub wrote : Outcome ℕ → List ℕ → Left ℕ (List ℕ)

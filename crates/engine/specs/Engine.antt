@@ -1,12 +1,12 @@
 -- The machine as code runs it: the test of a look in the rule's words, from the batch's changes. Definitions only.
-use mathlib.Core.Bool.{Bool, cond}
+use mathlib.Core.Bool.{cond}
 use mathlib.Core.List.{List}
 use Prim.Native.Nat.{ℕ, zero, suc}
 use lib.ListN.{getD}
 use lib.Dec.{ltb}
 use Rattle.systems.specs.Machine.{free, nextMark}
 use Rattle.systems.specs.ListMachine.{valOf, Job, pushL, turnL, seekL}
-use Rattle.rules.specs.Model.{Model}
+use Rattle.rules.specs.Model.{Model, blocksOf}
 use Rattle.rules.specs.Batch.{Change}
 use Rattle.rules.specs.Values.{leanings}
 use Rattle.laws.specs.ModelSystem.{frame}
@@ -30,7 +30,7 @@ lookE m cs c =
 -- What one unit does, by the height of the stack.
 abbrev pub unitByE : Model → List Change → ℕ → Job → Job
 unitByE m cs (suc top) c = turnL (frame m) (leanings m) (leanersOf m) top c
-unitByE m cs zero c = let d = seekL (frame m) c in cond (ltb (d .block) (m .sizes .blocks)) (lookE m cs d) d
+unitByE m cs zero c = let d = seekL (frame m) c in cond (ltb (d .block) (blocksOf m)) (lookE m cs d) d
 
 -- One unit, and n of them.
 abbrev pub unitE : Model → List Change → Job → Job

@@ -1,15 +1,15 @@
 -- The machine as code runs it is the machine on lists, and ends in the rule's answer. Assumes nothing.
 use mathlib.Core.Path.{_≡_, refl, sym, ap, ap₂, _∙_, subst, fun-ext}
 use mathlib.Core.Logic.{_⊎_, inl, inr}
-use mathlib.Core.Bool.{Bool, true, false, not, cond, _&&_}
-use mathlib.Core.List.{List, [], _∷_, List·Memᴰ·head}
-use Prim.Native.Nat.{ℕ, zero, suc, _+_, _-_, _*_, _≤_, _<_}
+use mathlib.Core.Bool.{Bool, true, false, cond, _&&_}
+use mathlib.Core.List.{List, List·Memᴰ·head}
+use Prim.Native.Nat.{ℕ, zero, suc, _-_, _*_, _≤_, _<_}
 use native.Mathlib.Decide.{decLt}
 use native.Mathlib.Omega.{arith}
 use lib.ListN.{length, getD, List·getD-eq-default}
 use lib.Dec.{eqb, ltb}
 use Rattle.lists.specs.Smallest.{Rule, at, table}
-use Rattle.lists.specs.Sets.{none, size, size-le}
+use Rattle.lists.specs.Sets.{none, size-le}
 use Rattle.lists.specs.Tests.{_∈_, tell, ltb-out}
 use Rattle.lists.specs.TableLaws.{table-at, table-past}
 use Rattle.systems.specs.System.{Frame, Leans}
@@ -21,7 +21,7 @@ use Rattle.systems.specs.RunKeeps.{queue-room, queue-block}
 use Rattle.systems.specs.ListMachine.{valOf, Pile, waitL, pushL, Job, jobOf, todoAt, stackOf, lookL, seek, phases, seekL, unitL, unitBy, runL, startL}
 use Rattle.systems.specs.ListsMove.{Formed, Stands, seek-sought, lists-run}
 use Rattle.systems.specs.Seeks.{Sought}
-use Rattle.rules.specs.Model.{Model}
+use Rattle.rules.specs.Model.{Model, blocksOf}
 use Rattle.rules.specs.Rooms.{pairsOf}
 use Rattle.rules.specs.Batch.{Change}
 use Rattle.rules.specs.Values.{Values, blockOf, leanings}
@@ -105,10 +105,10 @@ module _ (m : Model) (cs : List Change) (j : Judged (m .moves) cs) (ok : Sound m
 
       go : (t : ℕ) → unitByE (changed cs m) cs t c ≡ unitBy F L M on t c
       go (suc top) = refl
-      go zero = elim (tell true (ltb (seekL F c .block) (m .sizes .blocks))) [
+      go zero = elim (tell true (ltb (seekL F c .block) (blocksOf m))) [
         | inl e ↦
-            ap (λ (x : Job). cond (ltb (seekL F c .block) (m .sizes .blocks)) x (seekL F c))
-            (look-same (seekL F c) g (s .here (ltb-out (seekL F c .block) (m .sizes .blocks) e) .0))
+            ap (λ (x : Job). cond (ltb (seekL F c .block) (blocksOf m)) x (seekL F c))
+            (look-same (seekL F c) g (s .here (ltb-out (seekL F c .block) (blocksOf m) e) .0))
         | inr e ↦ rw e refl
       ]
 
@@ -161,21 +161,21 @@ module _ (m : Model) (cs : List Change) (j : Judged (m .moves) cs) (ok : Sound m
         block-inside (changed cs m) q (queue-block {u = update} (run-at {u = update} (model-finds (changed cs m) ok′) n) q k)
 
     -- Where nothing waits and no block is left, or four units per pair are spent, the last unit has been.
-    pub job-enough : (n : ℕ) → ((job n .pile .top ≡ 0) × (m .sizes .blocks ≤ job n .block)) ⊎ (4 * pairsOf (m .sizes) ≤ n) → unitCount F L M (valOf vs) ≤ n
+    pub job-enough : (n : ℕ) → ((job n .pile .top ≡ 0) × (blocksOf m ≤ job n .block)) ⊎ (4 * pairsOf (m .sizes) ≤ n) → unitCount F L M (valOf vs) ≤ n
     unfolding units jobOf todoAt
     job-enough n h = enough h
       where
         t : Turned
         t = turnAll (changed cs m) cs (valueAt vs)
 
-        fresh : (job n .pile .top ≡ 0) × (m .sizes .blocks ≤ job n .block) → n < unitCount F L M (valOf vs) → ⊥
+        fresh : (job n .pile .top ≡ 0) × (blocksOf m ≤ job n .block) → n < unitCount F L M (valOf vs) → ⊥
         fresh k l =
             machine-before F L M (valOf vs) on (fits-old m cs j ok ok′ (valueAt vs)) (fits-new m cs j ok ok′ (valueAt vs)) (model-finds (changed cs m) ok′) n l
             (sym (ap (λ (s : State). s .held .queue) (job-stands n .state)) ∙ ap (stackOf (job n .pile .stack)) (k .0))
             (sym (ap (λ (s : State). s .todo) (job-stands n .state))
-            ∙ ap (λ (y : ℕ). todoAt F (job n .block) y (job n .settling) (job n .place)) (let e : m .sizes .blocks - job n .block ≡ 0 = omega (arith, k .1) in e))
+            ∙ ap (λ (y : ℕ). todoAt F (job n .block) y (job n .settling) (job n .place)) (let e : blocksOf m - job n .block ≡ 0 = omega (arith, k .1) in e))
 
-        enough : ((job n .pile .top ≡ 0) × (m .sizes .blocks ≤ job n .block)) ⊎ (4 * pairsOf (m .sizes) ≤ n) → unitCount F L M (valOf vs) ≤ n
+        enough : ((job n .pile .top ≡ 0) × (blocksOf m ≤ job n .block)) ⊎ (4 * pairsOf (m .sizes) ≤ n) → unitCount F L M (valOf vs) ≤ n
         enough (inr k) =
             let e = units-are m cs j ok ok′ vs stack long small room in
             let a = size-le (pairsOf (m .sizes)) (at (t .shifted)) in
@@ -188,7 +188,7 @@ module _ (m : Model) (cs : List Change) (j : Judged (m .moves) cs) (ok : Sound m
             ]
 
     -- Then the lists are the rule's answer.
-    pub job-answers : (n : ℕ) → ((job n .pile .top ≡ 0) × (m .sizes .blocks ≤ job n .block)) ⊎ (4 * pairsOf (m .sizes) ≤ n)
+    pub job-answers : (n : ℕ) → ((job n .pile .top ≡ 0) × (blocksOf m ≤ job n .block)) ⊎ (4 * pairsOf (m .sizes) ≤ n)
         → Answers (changed cs m) (turnAll (changed cs m) cs (valueAt vs)) (job n)
     job-answers n h =
         let e = units-are m cs j ok ok′ vs stack long small room in

@@ -1,5 +1,5 @@
 -- The chains of a model in lent rooms and of changes in range: every number by which a word is chained has a head. Assumes nothing.
-use mathlib.Core.Path.{_≡_, sym, ap, subst}
+use mathlib.Core.Path.{_≡_, subst}
 use mathlib.Core.Bool.{true}
 use mathlib.Core.List.{List, [], _∷_}
 use Prim.Native.Nat.{ℕ, zero, suc, _/_, _≤_, _<_}
@@ -9,14 +9,11 @@ use lib.ListN.{length, getD, take}
 use lib.Seq.{getD-take, length-take-le}
 use Rattle.lists.specs.Tests.{tests, and-is}
 use Rattle.rules.specs.Moves.{source}
-use Rattle.rules.specs.Model.{Equation, moveOk}
+use Rattle.rules.specs.Model.{moveOk}
 use Rattle.rules.specs.Batch.{changesOk}
-use Rattle.rules.specs.Session.{unword}
 use Rattle.rules.specs.declared.Sizes.{Sizes}
-use Rattle.laws.specs.Named.{variable-block}
-use Rattle.pairs.specs.Drawn.{Drawn, tableOf}
-use Rattle.pairs.specs.DrawnLimits.{limits, move-inside}
-use Rattle.pairs.specs.EquationWords.{drawn-sound, formula-word}
+use Rattle.pairs.specs.Drawn.{Drawn}
+use Rattle.pairs.specs.DrawnLimits.{limits, move-inside, block-few}
 use Rattle.pairs.specs.Looks.{changesOf}
 use Rattle.chains.specs.Chains.{keyOf}
 use Rattle.chains.specs.declared.By.the-variants as By
@@ -48,11 +45,4 @@ module _ (z : Sizes) (labels equations moves : List ℕ) (n : ℕ) (d : Drawn z 
 
   pub blocks-have : (x : ℕ) → x < z .variables → keyOf By.Block (getD equations x 0) < 32
   unfolding keyOf
-  blocks-have x h =
-      let m = tableOf z labels equations moves n in
-      let ok = drawn-sound z labels equations moves n d in
-      let c = ok .count in
-      let b = variable-block z (m .equations) x (ok .equations) (omega arith) in
-      let e = ap (λ (f : Equation). f .block) (formula-word z labels equations moves n d x h) in
-      let l = limits z labels equations moves n d in
-      omega arith
+  blocks-have = block-few z labels equations moves n d

@@ -1,13 +1,12 @@
 -- The machine over the table that lies in the rooms: from the start, unit after unit, to the rule's answer. Assumes nothing.
 use mathlib.Core.Path.{_≡_, refl, sym, ap, _∙_, subst}
 use mathlib.Core.Logic.{_⊎_, inl, inr}
-use mathlib.Core.Bool.{Bool}
-use mathlib.Core.List.{List, []}
+use mathlib.Core.List.{List}
 use Prim.Native.Nat.{ℕ, zero, suc, _+_, _-_, _*_, _≤_, _<_}
 use native.Mathlib.Omega.{arith}
 use lib.ListN.{length, getD}
 use Rattle.systems.specs.ListMachine.{Job, startL}
-use Rattle.rules.specs.Model.{Model}
+use Rattle.rules.specs.Model.{Model, blocksOf}
 use Rattle.rules.specs.Rooms.{pairsOf}
 use Rattle.rules.specs.Batch.{Change, edited}
 use Rattle.rules.specs.Update.{changed, turnAll}
@@ -36,7 +35,7 @@ pub record Started (m : Model) (cs : List Change) (vs : List ℕ) : Type 0 where
 
 -- Nothing waits and no block is left.
 abbrev pub Done : Model → Job → Type 0
-Done m c = (c .pile .top ≡ 0) × (m .sizes .blocks ≤ c .block)
+Done m c = (c .pile .top ≡ 0) × (blocksOf m ≤ c .block)
 
 -- It is so, or four units per pair are spent.
 abbrev pub Over : Model → ℕ → Job → Type 0
@@ -96,14 +95,14 @@ module _ (m : Model) (cs : List Change) (vs stack : List ℕ) (s : Started m cs 
   pub running-ready : (c : Job) (left : ℕ) → Running m cs vs stack c left → Ready m c
   running-ready c left r = subst (Ready m) (sym (r .is)) (run-ready (r .units))
 
-  -- One unit more. The units left are one fewer, or none where all is done.
+  -- One unit more. The units left are one fewer, or none where nothing waits and no block is left.
   pub running-goes : ((q : ℕ) → q < pairsOf (m .sizes) → length (leanersOf m q) ≤ 32832) → (c d : Job) (left rest : ℕ) → Running m cs vs stack c left → 0 < left → d ≡ unitE m cs c
-      → (rest ≡ left - 1) ⊎ ((rest ≡ 0) × Done m d) → Running m cs vs stack d rest
-  running-goes few c d left rest r h e f = record {
+      → (blocks : ℕ) → blocks ≡ blocksOf m → (rest ≡ left - 1) ⊎ ((rest ≡ 0) × ((d .pile .top ≡ 0) × (blocks ≤ d .block))) → Running m cs vs stack d rest
+  running-goes few c d left rest r h e blocks all f = record {
     units = suc (r .units);
     is = e ∙ ap (unitE m cs) (r .is);
     few = let a = r .few in elim f [ inl k ↦ omega arith | inr k ↦ omega (arith, k .0) ];
-    spent = elim f [ inl k ↦ inl (elim (r .spent) [ inl a ↦ omega arith | inr a ↦ absurd (omega (arith, a .0)) ]) | inr k ↦ inr k ];
+    spent = elim f [ inl k ↦ inl (elim (r .spent) [ inl a ↦ omega arith | inr a ↦ absurd (omega (arith, a .0)) ]) | inr k ↦ inr (k .0, (k .1 .0, omega (arith, all, k .1 .1))) ];
     shifts = let a = r .shifts in omega (arith, grows .0);
     settles = let a = r .settles in omega (arith, grows .1);
   }

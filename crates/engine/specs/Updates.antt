@@ -1,9 +1,9 @@
 -- What an update leaves in the rooms, and what a load does. Assumes nothing.
 use mathlib.Core.Path.{_≡_, refl, sym, ap, ap₂, _∙_, subst, fun-ext}
-use mathlib.Core.Logic.{_⊎_, inl, inr}
-use mathlib.Core.Bool.{Bool, true, false}
+use mathlib.Core.Logic.{inl, inr}
+use mathlib.Core.Bool.{true, false}
 use mathlib.Core.List.{List, [], _++_}
-use Prim.Native.Nat.{ℕ, _+_, _*_, _≤_, _<_}
+use Prim.Native.Nat.{ℕ, _+_, _≤_, _<_}
 use native.Mathlib.Decide.{decLt}
 use native.Mathlib.Omega.{arith}
 use lib.ListN.{length, getD, take, drop, replicate, length-replicate, List·getD-eq-default}
@@ -19,8 +19,8 @@ use Rattle.systems.specs.System as S
 use Rattle.systems.specs.Marks.{shiftOf, settleOf}
 use Rattle.systems.specs.Machine.{own}
 use Rattle.systems.specs.MachineMoves.{unitCount}
-use Rattle.systems.specs.ListMachine.{Job, valOf}
-use Rattle.rules.specs.Model.{Model}
+use Rattle.systems.specs.ListMachine.{Job}
+use Rattle.rules.specs.Model.{Model, blocksOf}
 use Rattle.rules.specs.Rooms.{pairsOf}
 use Rattle.rules.specs.Batch.{Change, edited}
 use Rattle.rules.specs.Values.{Values, leanings, greatestIn, greatest, solve}
@@ -29,7 +29,7 @@ use Rattle.rules.specs.Calls.{valueAt, bits, marksOf}
 use Rattle.laws.specs.Edits.{Judged}
 use Rattle.laws.specs.ModelSystem.{frame, block-past, Sound}
 use Rattle.laws.specs.Named.{variable-block}
-use Rattle.pairs.specs.EquationWords.{greatest-out}
+use Rattle.laws.specs.OneKind.{greatest-out}
 use Rattle.laws.specs.Accepted.{values-held}
 use Rattle.laws.specs.UpdateMoves.{update-values, update-shifted, update-settled, visits-agree}
 use Rattle.laws.specs.MachineRules.{Answers, machine-loads}
@@ -219,12 +219,12 @@ update-leaves m cs values₀ marks₀ values marks shift settle p before after n
     filled = d .values-are ∙ joined (pairsOf (m .sizes)) (λ p. bit (at (turnAll m cs (valueAt values₀) .values) p)) (d .part) values₀ (f .values-are)
 
 -- No block lies past the last.
-none-past : (m : Model) → Sound m → greatest m (m .sizes .blocks) ≡ false
+none-past : (m : Model) → greatest m (blocksOf m) ≡ false
 unfolding greatest
-none-past m ok = elim (tell true (greatestIn (m .sizes .blocks) (m .equations))) [
+none-past m = elim (tell true (greatestIn (blocksOf m) (m .equations))) [
   | inl t ↦
-      let g = greatest-out (m .sizes .blocks) (m .equations) t in
-      let h = variable-block (m .sizes) (m .equations) (g .0) (ok .equations) (g .1) in
+      let g = greatest-out (blocksOf m) (m .equations) t in
+      let h = variable-block (m .equations) (g .0) (g .1) in
       absurd (omega (arith, g .2))
   | inr t ↦ t
 ]
@@ -249,7 +249,7 @@ module _ (m : Model) (ok : Sound m) (values₀ own-room : List ℕ) (room : pair
     | yes h ↦ listed-is N (λ p. bit (own (frame m) p)) p h
     | no h ↦
         List·getD-eq-default (bits N (own (frame m))) 0 (let l = listed-length 0 N (λ p. bit (own (frame m) p)) in omega arith)
-        ∙ sym (ap bit (ap (greatest m) (block-past m p (omega arith)) ∙ none-past m ok))
+        ∙ sym (ap bit (ap (greatest m) (block-past m p (omega arith)) ∙ none-past m))
   ]
 
   pub load-starts : Started m [] (take N own-room)

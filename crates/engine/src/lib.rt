@@ -10,6 +10,7 @@ ghost use Prim.Native.Nat.{ℕ, suc, _+_, _*_, _-_, _≤_, _<_};
 ghost use lib.ListN.{getD, length, set, take, replicate};
 ghost use Rattle.systems.specs.Machine.{free, nextMark};
 ghost use Rattle.systems.specs.ListMachine.{turned, pushL, turnL};
+ghost use Rattle.rules.specs.Model.{blocksOf};
 ghost use Rattle.rules.specs.Batch.{changesOk};
 ghost use Rattle.rules.specs.Rooms.{pairsOf};
 ghost use Rattle.rules.specs.Calls.{valueAt, bits};
@@ -166,7 +167,8 @@ fn look_at(
     top
 }
 
-// One unit: a pair that waits turns; where none waits, the next pair is looked at.
+// One unit: a pair that waits turns; where none waits, the next pair is looked at. `blocks` is how many blocks or components
+// the model has.
 fn unit(
     sizes: Sizes,
     labels: &[u32],
@@ -179,6 +181,7 @@ fn unit(
     values: &mut [u8],
     marks: &mut [u8],
     stack: &mut [u16],
+    blocks: usize,
     at: Progress,
 ) -> Progress
     requires { ⌜ Drawn sizes (now labels) (now equations) (now moves) n ⌝ }
@@ -187,6 +190,7 @@ fn unit(
     requires { ⌜ Ready (tableOf sizes (now labels) (now equations) (now moves) n)
         (jobAs (now values) (now marks) (now stack) (at .block) (at .settling) (at .place) (at .top) (at .shifts) (at .settles)) ⌝ }
     requires { ⌜ ((count ≤ length (now changes)) × (count < 65536)) × ((at .shifts < 100000000000) × (at .settles < 100000000000)) ⌝ }
+    requires { ⌜ blocks ≡ blocksOf (tableOf sizes (now labels) (now equations) (now moves) n) ⌝ }
     ensures { λ r. ⌜ jobAs (now (values .exit)) (now (marks .exit)) (now (stack .exit)) (r .block) (r .settling) (r .place) (r .top) (r .shifts) (r .settles)
         ≡ unitE (tableOf sizes (now (labels .entry)) (now (equations .entry)) (now (moves .entry)) n) (changesOf (take count (now (changes .entry))))
         (jobAs (now (values .entry)) (now (marks .entry)) (now (stack .entry)) (at .block) (at .settling) (at .place) (at .top) (at .shifts) (at .settles)) ⌝ }
@@ -212,11 +216,12 @@ fn unit(
         equations,
         moves,
         n,
+        blocks,
         at.block,
         at.settling,
         at.place,
     );
-    if s.block < sizes.blocks as usize {
+    if s.block < blocks {
         let top = look_at(
             sizes,
             labels,
@@ -254,12 +259,12 @@ fn unit(
 }
 
 // How many units are left after one more: none where nothing waits and no block is left.
-fn left_after(sizes: Sizes, block: usize, top: usize, left: usize) -> usize
+fn left_after(blocks: usize, block: usize, top: usize, left: usize) -> usize
     requires { ⌜ 0 < left ⌝ }
-    ensures { λ r. ⌜ (r ≡ left - 1) ⊎ ((r ≡ 0) × ((top ≡ 0) × (sizes .blocks ≤ block))) ⌝ }
+    ensures { λ r. ⌜ (r ≡ left - 1) ⊎ ((r ≡ 0) × ((top ≡ 0) × (blocks ≤ block))) ⌝ }
 {
     if top == 0 {
-        if sizes.blocks as usize <= block {
+        if blocks <= block {
             return 0;
         }
     }
@@ -296,6 +301,7 @@ fn run(
         shifts: 0,
         settles: 0,
     };
+    let blocks = starts::count_blocks(equations, sizes.variables as usize);
     let mut left = 4 * limits::pairs_of(sizes);
     while 0 < left {
         at = unit(
@@ -310,9 +316,10 @@ fn run(
             values,
             marks,
             stack,
+            blocks,
             at,
         );
-        left = left_after(sizes, at.block, at.top, left);
+        left = left_after(blocks, at.block, at.top, left);
     }
     at
 }

@@ -9,7 +9,10 @@ use Rattle.rules.specs.declared.Refusal.the-variants as Why
 use Rattle.wire.specs.Places.{recordAt}
 use Rattle.wire.specs.declared.Read.{Read}
 use Rattle.judge.specs.Progress.{sofarOf, Kept}
-use Rattle.judge.specs.Turning.{readSays, from, Turned}
+use Rattle.rules.specs.Model.{Equation}
+use Rattle.judge.specs.Asking.{whole, signsTo, SpelledSofar}
+use Rattle.judge.specs.Plain.{withSigns}
+use Rattle.judge.specs.Turning.{readSays, Turned}
 use Rattle.judge.specs.declared.Progress.{Progress}
 use Rattle.judge.specs.declared.ReadModel.{ReadModel}
 use Rattle.judge.specs.declared.ReadModel.the-variants as M
@@ -40,15 +43,26 @@ abbrev pub Follows : Lengths → Read → OneTurn → ℕ → OneTurn → Type 0
 Follows l read (T.Stop a) len u = u ≡ T.Stop a
 Follows l read (T.Go r x n) len u = (s : List ℕ) → read ≡ recordAt s n → len ≡ length s → Turned l s (inside (sofarOf x)) n u
 
--- Between two turns: what is read from there on says what the whole says.
-pub record Onward (l : Lengths) (s : List ℕ) (x : Progress) (n : ℕ) : Type 0 where
+-- Between two turns: what has been read is inside the limits, and the place lies in the bytes past the first record.
+pub record Inside (s : List ℕ) (x : Progress) (n : ℕ) : Type 0 where
   pub kept : Kept (sofarOf x)
   pub begun : 0 < n
   pub inside-bytes : n ≤ length s
-  pub same : from l s before 0 ≡ from l s (inside (sofarOf x)) n
+
+abbrev pub InsideTurn : List ℕ → OneTurn → Type 0
+InsideTurn s (T.Stop a) = Unit {0}
+InsideTurn s (T.Go r x n) = Inside s x n
+
+-- What is read from there on, after the equations with signs that stand before, says what the whole says.
+pub record Onward (l : Lengths) (s : List ℕ) (x : Progress) (n : ℕ) : Type 0 where
+  pub here : Inside s x n
+  pub spelled : SpelledSofar s x n
+  pub signs : List Equation
+  pub held : x .sizes .blocks ≡ 0 → x .blocks .equations < x .sizes .variables → signs ≡ signsTo s n (x .blocks .equations)
+  pub same : whole l s before 0 ≡ whole l s (inside (withSigns signs (sofarOf x))) n
 
 abbrev pub Going : Lengths → List ℕ → OneTurn → Type 0
-Going l s (T.Stop a) = readSays a ≡ from l s before 0
+Going l s (T.Stop a) = readSays a ≡ whole l s before 0
 Going l s (T.Go r x n) = Onward l s x n
 
 -- How far it is to the end of the bytes.

@@ -1,7 +1,12 @@
 pub mod Progress
+pub mod Plain
 pub mod Demands
 pub mod Due
 pub mod Turning
+pub mod Beside
+pub mod Asking
+pub mod SignsRead
 pub mod Going
 pub mod TurnLaws
 pub mod GoingLaws
+pub mod AskedLaws

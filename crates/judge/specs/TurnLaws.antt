@@ -1,21 +1,21 @@
--- One turn of the reading, by what the record at the place is and how it was judged. Assumes nothing.
+-- One turn of the reading without chains, by what the record at the place is and how it was judged. Assumes nothing.
 use mathlib.Core.Path.{_≡_, refl, sym, _∙_}
 use mathlib.Core.Logic.{inl, inr}
 use mathlib.Core.Bool.{Bool, true, cond}
 use mathlib.Core.List.{List, [], _∷_}
 use Prim.Native.Nat.{ℕ, suc, _+_, min}
 use native.Mathlib.Omega.{arith}
-use lib.Dec.{ltb}
+use lib.Dec.{eqb, ltb}
 use lib.ListN.{length}
 use borrow.Author.Tests.{lt-ltb}
 use types.Run.{OneOf, miss}
 use denote.Enum.Declared.{tagOf}
 use Rattle.rules.proofs.Record.{the-type}
 use Rattle.rules.specs.declared.Sizes.{Sizes}
-use Rattle.lists.specs.Tests.{tests, tell, and-is, ltb-is, leb-is}
+use Rattle.lists.specs.Tests.{tests, tell, and-is, or-out, eqb-is, ltb-is, leb-is}
 use Rattle.rules.specs.Answers.{numberOf}
 use Rattle.rules.specs.Limits.{most-moves, sizesOk}
-use Rattle.rules.specs.Load.{Sofar, State, before, inside, started, step, put, last, labelDemands, blockDemands, equationDemands, moveDemands, endDemands, sizesDemands, sizesOf, afterLabel, afterBlock, afterEquation, afterMove, blockFits}
+use Rattle.rules.specs.Load.{Sofar, State, before, inside, started, put, last, labelDemands, blockDemands, equationDemands, signedDemands, moveDemands, endDemands, sizesDemands, sizesOf, signedOf, afterLabel, afterBlock, afterEquation, afterSigned, afterMove, blockFits}
 use Rattle.rules.specs.Moves.{pack}
 use Rattle.rules.specs.Model.{Model}
 use Rattle.rules.specs.Records.{Rec, Parts, ends, broken, part, Turn, no, next, over, demand, Outcome, refused, accepted, onto, atEnd, run, numbersOf}
@@ -33,6 +33,7 @@ use Rattle.wire.specs.Places.{recordAt}
 use Rattle.wire.specs.declared.Read.{Read}
 use Rattle.wire.specs.declared.Read.the-variants.{Got, Broken}
 use Rattle.judge.specs.Demands.{Fails, Meets, raised, fails, meets}
+use Rattle.judge.specs.Plain.{plain, unasked, without}
 use Rattle.judge.specs.Progress.{sofarOf, Kept}
 use Rattle.judge.specs.Turning.{summaryAfter, readOn, from, endTurn, Goes, Stops, Turned}
 use Rattle.judge.specs.declared.Progress.{Progress}
@@ -47,6 +48,7 @@ pub data Stepped (l : Lengths) (x : Sofar) : Record → Turn State → Type 0 wh
   move : (m : Move) → Met (moveDemands l x (m .source .0) (m .action .0) (m .target .0))
       → Stepped l x (R.Move m) (next (inside (afterMove x (pack (m .source .0) (m .action .0) (m .target .0)))))
   end : Met (endDemands x) → Stepped l x R.End over
+  sign : (k o a b : ℕ) → Met (signedDemands x (signedOf k o a b)) → Stepped l x (R.Signed k o a b) (next (inside (without (afterSigned x (signedOf k o a b)))))
   refusal : {r : Record} {n : ℕ} → Stepped l x r (no n)
 
 by : (l : Lengths) (x : Sofar) (r : Record) (ds : List (ℕ × Bool)) (t : Turn State) → (Met ds → Stepped l x r t) → Stepped l x r (demand ds t)
@@ -56,8 +58,8 @@ by l x r ds t f =
       | inr m ↦ rw (m .1) refusal
     ]
 
-pub stepped : (l : Lengths) (x : Sofar) (r : Record) → Stepped l x r (step l (inside x) (numbersOf r))
-unfolding step
+pub stepped : (l : Lengths) (x : Sofar) (r : Record) → Stepped l x r (plain l (inside x) (numbersOf r))
+unfolding plain
 stepped l x (R.Sizes z) = refusal
 stepped l x (R.Label s v) = by l x (R.Label s v) (labelDemands x (s .0) v) (next (inside (afterLabel x (s .0)))) (label s v)
 stepped l x (R.Block k n) = by l x (R.Block k n) (blockDemands x k n) (next (inside (afterBlock x k n))) (block k n)
@@ -68,6 +70,7 @@ stepped l x R.End = by l x R.End (endDemands x) over end
 stepped l x (R.Stamp n) = refusal
 stepped l x (R.Insert m) = refusal
 stepped l x (R.Delete m) = refusal
+stepped l x (R.Signed k o a b) = by l x (R.Signed k o a b) (signedDemands x (signedOf k o a b)) (unasked (afterSigned x (signedOf k o a b))) (sign k o a b)
 
 -- A step keeps the numbers inside their limits.
 kept-by : (l : Lengths) (x y : Sofar) (r : Record) → Kept x → Stepped l x r (next (inside y)) → Kept y
@@ -76,33 +79,33 @@ kept-by l x y r k (label s v m) =
     let h = ltb-is (s .0) (x .sizes .states) .0 (simp and-is at (m .1 .0) .0 .0) in omega arith
 kept-by l x y r k (block a n m) =
     let q = simp tests at (m .0) in
-    let h = leb-is (x .blocks .equations + n) (x .sizes .variables) .0 (simp and-is at (m .1 .0) .0 .1) in
+    let f = simp and-is at (m .1 .0) in
+    let h = leb-is (x .blocks .equations + n) (x .sizes .variables) .0 (f .0 .1) in
     let j = leb-is a 1 .0 (m .1 .1 .0) in
-    omega arith
+    elim (or-out (ltb (suc (x .blocks .count)) (x .sizes .blocks)) (eqb (x .blocks .equations + n) (x .sizes .variables)) (f .1)) [
+      | inl e ↦ let g = ltb-is (suc (x .blocks .count)) (x .sizes .blocks) .0 e in omega arith
+      | inr e ↦ let g = eqb-is (x .blocks .equations + n) (x .sizes .variables) .0 e in omega arith
+    ]
 kept-by l x y r k (equation o a b m) = let h = ltb-is 0 (x .blocks .due) .0 (m .0) in omega arith
+kept-by l x y r k (sign c o a b m) = let q = simp tests at (m .0) in omega arith
 kept-by l x y r k (move v m) = let h = ltb-is (x .moves .count) (min most-moves (l .moves)) .0 (m .1 .1 .1 .0) in omega arith
 
-pub step-kept : (l : Lengths) (x y : Sofar) (r : Record) → Kept x → step l (inside x) (numbersOf r) ≡ next (inside y) → Kept y
+pub step-kept : (l : Lengths) (x y : Sofar) (r : Record) → Kept x → plain l (inside x) (numbersOf r) ≡ next (inside y) → Kept y
 step-kept l x y r k e = kept-by l x y r k (rw e at (stepped l x r))
 
 -- What is still to come, counted before and after a step.
-counted-by : (l : Lengths) (x y : Sofar) (r : Record) (o : Outcome Model) → Stepped l x r (next (inside y))
+pub counted-by : (l : Lengths) (x y : Sofar) (r : Record) (o : Outcome Model) → Stepped l x r (next (inside y))
     → summaryAfter (x .moves .count) (onto (put (inside x) (numbersOf r)) o) ≡ summaryAfter (y .moves .count) o
 unfolding put
 counted-by l x y r (refused n p) t = refl
 counted-by l x y r (accepted b) (label s v m) = refl
 counted-by l x y r (accepted b) (block a n m) = refl
 counted-by l x y r (accepted b) (equation o a c m) = refl
+counted-by l x y r (accepted b) (sign k o a c m) = refl
 counted-by l x y r (accepted b) (move v m) = let e : x .moves .count + suc (length (b .moves)) ≡ suc (x .moves .count) + length (b .moves) = omega arith in rw e refl
 
-pub goes-on : (l : Lengths) (s : List ℕ) (x y : Progress) (at n : ℕ) (r : Record) → Goes l s (inside (sofarOf x)) at r y n
-    → from l s (inside (sofarOf x)) at ≡ from l s (inside (sofarOf y)) n
-unfolding readOn run
-goes-on l s x y at n r g =
-    rw (g .stands, g .steps) (counted-by l (sofarOf x) (sofarOf y) r (run (step l) put last (inside (sofarOf y)) (partsAt s n)) (rw (g .steps) at (stepped l (sofarOf x) r)))
-
 -- Two records at one place are one, and it has one step.
-stop-by : (l : Lengths) (st : State) (t u : Parts) (p : ℕ) (r : Rec) → t ≡ part p r u → ((st′ : State) → step l st r ≡ next st′ → ⊥) → Stops l st t
+stop-by : (l : Lengths) (st : State) (t u : Parts) (p : ℕ) (r : Rec) → t ≡ part p r u → ((st′ : State) → plain l st r ≡ next st′ → ⊥) → Stops l st t
 stop-by l st t u p r e f q r′ v st′ h k = let w : r ≡ r′ = cc in f st′ (rw w k)
 
 -- Nothing to read at the place.
@@ -120,7 +123,7 @@ module _ (l : Lengths) (s : List ℕ) (st : State) (at n : ℕ) (r : Record) (go
   there = rw got at (parts-at s at)
 
   -- A record that is refused.
-  pub turned-no : (e : Refusal) → step l st (numbersOf r) ≡ no (numberOf e) → Turned l s st at (T.Stop (M.Refused e at))
+  pub turned-no : (e : Refusal) → plain l st (numbersOf r) ≡ no (numberOf e) → Turned l s st at (T.Stop (M.Refused e at))
   unfolding readOn run
   turned-no e h = (
     rw (there .2, h) refl,
@@ -128,12 +131,12 @@ module _ (l : Lengths) (s : List ℕ) (st : State) (at n : ℕ) (r : Record) (go
   )
 
   -- A record that goes on.
-  pub turned-next : (y : Progress) → step l st (numbersOf r) ≡ next (inside (sofarOf y)) → Kept (sofarOf y) → Goes l s st at r y n
-  turned-next y h k = record { on = there .0; inside-bytes = there .1; stands = there .2; steps = h; kept = k }
+  pub turned-next : (y : Progress) → plain l st (numbersOf r) ≡ next (inside (sofarOf y)) → Kept (sofarOf y) → Goes l s st at r y n
+  turned-next y h k = record { on = there .0; inside-bytes = there .1; stands = there .2; got = got; steps = h; kept = k }
 
 -- What stands after the end record.
 after-end : (l : Lengths) (s : List ℕ) (st : State) (n : ℕ) (rd : Read) → PartsBy s n rd
-    → atEnd (step l) put last st (partsAt s n) ≡ cond (ltb n (length s)) (refused 2 n) (accepted (last st))
+    → atEnd (plain l) put last st (partsAt s n) ≡ cond (ltb n (length s)) (refused 2 n) (accepted (last st))
 after-end l s st n (Got r k) h = rw (h .2, lt-ltb n (length s) (omega arith)) refl
 after-end l s st n Broken h =
     elim (tell true (ltb n (length s))) [
@@ -142,7 +145,7 @@ after-end l s st n Broken h =
     ]
 
 -- The end record.
-pub turned-over : (l : Lengths) (s : List ℕ) (x : Progress) (at n : ℕ) (r : Record) → recordAt s at ≡ Got r n → step l (inside (sofarOf x)) (numbersOf r) ≡ over
+pub turned-over : (l : Lengths) (s : List ℕ) (x : Progress) (at n : ℕ) (r : Record) → recordAt s at ≡ Got r n → plain l (inside (sofarOf x)) (numbersOf r) ≡ over
     → Turned l s (inside (sofarOf x)) at (endTurn x n (length s))
 unfolding readOn run endTurn last
 turned-over l s x at n r got h =
@@ -157,18 +160,18 @@ turned-over l s x at n r got h =
 
 -- A sizes record that fails a demand, and one that passes.
 pub sizes-no : (l : Lengths) (z : Sizes) (k : ℕ) → Fails k (sizesDemands l (numbersOf (R.Sizes z)))
-    → step l before (numbersOf (R.Sizes z)) ≡ no (raised k (sizesDemands l (numbersOf (R.Sizes z))))
-unfolding step
+    → plain l before (numbersOf (R.Sizes z)) ≡ no (raised k (sizesDemands l (numbersOf (R.Sizes z))))
+unfolding plain
 sizes-no l z k f = sym (fails k (sizesDemands l (numbersOf (R.Sizes z))) (next (inside (started z))) f)
 
-pub sizes-next : (l : Lengths) (z : Sizes) → Meets (sizesDemands l (numbersOf (R.Sizes z))) → step l before (numbersOf (R.Sizes z)) ≡ next (inside (started z))
-unfolding step
+pub sizes-next : (l : Lengths) (z : Sizes) → Meets (sizesDemands l (numbersOf (R.Sizes z))) → plain l before (numbersOf (R.Sizes z)) ≡ next (inside (started z))
+unfolding plain
 sizes-next l z f = sym (meets (sizesDemands l (numbersOf (R.Sizes z))) (next (inside (started z))) f)
 
 -- Any other record is not due there.
-pub sizes-due : (l : Lengths) (r : Record) → OneOf (1 ∷ 2 ∷ 3 ∷ 4 ∷ 5 ∷ 6 ∷ 7 ∷ 8 ∷ []) (tagOf the-type r) → step l before (numbersOf r) ≡ no 2
-unfolding step
-sizes-due l (R.Sizes a) m = absurd (miss (1 ∷ 2 ∷ 3 ∷ 4 ∷ 5 ∷ 6 ∷ 7 ∷ 8 ∷ []) 0 tt m)
+pub sizes-due : (l : Lengths) (r : Record) → OneOf (1 ∷ 2 ∷ 3 ∷ 4 ∷ 5 ∷ 6 ∷ 7 ∷ 8 ∷ 9 ∷ []) (tagOf the-type r) → plain l before (numbersOf r) ≡ no 2
+unfolding plain
+sizes-due l (R.Sizes a) m = absurd (miss (1 ∷ 2 ∷ 3 ∷ 4 ∷ 5 ∷ 6 ∷ 7 ∷ 8 ∷ 9 ∷ []) 0 tt m)
 sizes-due l (R.Label a b) m = refl
 sizes-due l (R.Block a b) m = refl
 sizes-due l (R.Equation a b d) m = refl
@@ -177,25 +180,17 @@ sizes-due l R.End m = refl
 sizes-due l (R.Stamp a) m = refl
 sizes-due l (R.Insert a) m = refl
 sizes-due l (R.Delete a) m = refl
+sizes-due l (R.Signed k o a b) m = refl
 
 -- What has been read after the sizes is inside the limits.
 pub started-kept : (z : Sizes) → sizesOk z ≡ true → Kept (started z)
 started-kept z h = let k = small z h in omega arith
 
--- Reading the whole, from the first record on.
-none-yet : (l : Lengths) (r : Rec) (y : Sofar) → step l before r ≡ next (inside y) → y .moves .count ≡ 0
-unfolding step
-none-yet l r y e =
+-- After the first record nothing but the sizes has been read.
+pub first-is : (l : Lengths) (r : Rec) (y : Sofar) → plain l before r ≡ next (inside y) → y ≡ started (sizesOf r)
+unfolding plain
+first-is l r y e =
     elim (judged (sizesDemands l r) (next (inside (started (sizesOf r))))) [
-      | inl m ↦ let w : y ≡ started (sizesOf r) = cc in rw w refl
+      | inl m ↦ cc
       | inr m ↦ let z : _≡_ {A = ℕ} 0 1 = cc in absurd (omega arith)
     ]
-
-pub goes-first : (l : Lengths) (s : List ℕ) (y : Progress) (n : ℕ) (r : Record) → Goes l s before 0 r y n
-    → from l s before 0 ≡ from l s (inside (sofarOf y)) n
-unfolding readOn run put
-goes-first l s y n r g = rw (g .stands, g .steps) (by-outcome (run (step l) put last (inside (sofarOf y)) (partsAt s n)))
-  where
-    by-outcome : (o : Outcome Model) → summaryAfter 0 (onto (λ m. m) o) ≡ summaryAfter (y .moves .count) o
-    by-outcome (refused k p) = refl
-    by-outcome (accepted m) = rw (none-yet l (numbersOf r) (sofarOf y) (g .steps)) refl

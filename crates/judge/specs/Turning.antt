@@ -1,4 +1,4 @@
--- Reading on from a place of the bytes, and what one turn of it promises. Definitions only.
+-- Reading on from a place of the bytes, where no chain is asked, and what one turn of it promises. Definitions only.
 use mathlib.Core.Path.{_≡_}
 use mathlib.Core.Bool.{cond}
 use mathlib.Core.List.{List}
@@ -6,7 +6,7 @@ use Prim.Native.Nat.{ℕ, _+_, _≤_, _<_}
 use lib.Dec.{ltb}
 use lib.ListN.{length}
 use Rattle.rules.specs.Answers.{numberOf}
-use Rattle.rules.specs.Load.{State, before, inside, step, put, last}
+use Rattle.rules.specs.Load.{State, before, inside, put, last}
 use Rattle.rules.specs.Model.{Model}
 use Rattle.rules.specs.Records.{Rec, Parts, part, next, Outcome, refused, accepted, run, numbersOf}
 use Rattle.rules.specs.Rooms.{Lengths}
@@ -14,6 +14,9 @@ use Rattle.rules.specs.declared.Refusal.the-variants as Why
 use Rattle.rules.specs.declared.Record.{Record}
 use Rattle.rules.specs.declared.Sizes.{Sizes}
 use Rattle.wire.specs.PartsAt.{partsAt}
+use Rattle.wire.specs.Places.{recordAt}
+use Rattle.wire.specs.declared.Read.the-variants.{Got}
+use Rattle.judge.specs.Plain.{plain}
 use Rattle.judge.specs.Progress.{sofarOf, Kept}
 use Rattle.judge.specs.declared.Progress.{Progress}
 use Rattle.judge.specs.declared.ReadModel.{ReadModel}
@@ -46,7 +49,7 @@ movesOf (inside x) = x .moves .count
 
 -- What reading on in a state from a place comes to.
 unfoldable pub readOn : Lengths → List ℕ → State → ℕ → Outcome Model
-readOn l s st at = run (step l) put last st (partsAt s at)
+readOn l s st at = run (plain l) put last st (partsAt s at)
 
 abbrev pub from : Lengths → List ℕ → State → ℕ → Outcome Summary
 from l s st at = summaryAfter (movesOf st) (readOn l s st at)
@@ -61,12 +64,13 @@ pub record Goes (l : Lengths) (s : List ℕ) (st : State) (at : ℕ) (r : Record
   pub on : at < n
   pub inside-bytes : n ≤ length s
   pub stands : partsAt s at ≡ part at (numbersOf r) (partsAt s n)
-  pub steps : step l st (numbersOf r) ≡ next (inside (sofarOf y))
+  pub got : recordAt s at ≡ Got r n
+  pub steps : plain l st (numbersOf r) ≡ next (inside (sofarOf y))
   pub kept : Kept (sofarOf y)
 
 -- No record that goes on stands at the place.
 abbrev pub Stops : Lengths → State → Parts → Type 0
-Stops l st t = (p : ℕ) (r : Rec) (u : Parts) (st′ : State) → t ≡ part p r u → step l st r ≡ next st′ → ⊥
+Stops l st t = (p : ℕ) (r : Rec) (u : Parts) (st′ : State) → t ≡ part p r u → plain l st r ≡ next st′ → ⊥
 
 abbrev pub Turned : Lengths → List ℕ → State → ℕ → OneTurn → Type 0
 Turned l s st at (T.Stop a) = (readSays a ≡ from l s st at) × Stops l st (partsAt s at)

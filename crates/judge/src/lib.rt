@@ -1,13 +1,20 @@
 // A model on the wire, judged record by record.
 ghost use mathlib.Core.Path.{_≡_};
-ghost use Prim.Native.Nat.{_+_, _<_};
-ghost use Rattle.rules.specs.Load.{inside, started, readModel, go, labelDemands, blockDemands, equationDemands, moveDemands, afterLabel, afterBlock, afterEquation, afterMove, step, blockFits};
+ghost use mathlib.Core.Bool.{true};
+ghost use Prim.Native.Nat.{_+_, _≤_, _<_};
+ghost use lib.ListN.{length, getD};
+ghost use Rattle.rules.specs.Load.{inside, started, readModel, go, movesDue, labelDemands, blockDemands, equationDemands, signedDemands, moveDemands, signedOf, afterLabel, afterBlock, afterEquation, afterSigned, afterMove, blockFits};
 ghost use Rattle.rules.specs.Moves.{pack};
 ghost use Rattle.rules.specs.Records.{numbersOf};
 ghost use Rattle.rules.specs.Rooms.{Lengths};
+ghost use Rattle.rules.specs.Session.{word, unword};
 ghost use Rattle.limits.specs.Lent.{lengthsBy};
+ghost use Rattle.rules.specs.Model.{Equation, signed};
 ghost use Rattle.judge.specs.Progress.{sofarOf, judgedSays, Kept};
+ghost use Rattle.judge.specs.Plain.{plain, without};
 ghost use Rattle.judge.specs.Turning.{readSays, summary, endTurn};
+ghost use Rattle.judge.specs.Asking.{signAt, Spelled, answeredTurn, askedTurn, Askable, Ready, Asked};
+ghost use Rattle.judge.specs.SignsRead.{Words};
 ghost use Rattle.judge.specs.Going.{placeOf, answerOf, KeptTurn, Begins, Follows};
 use limits::Lent;
 use rules::Move;
@@ -49,7 +56,7 @@ pub enum Judged {
 
 // A label, where labels are due: a state, a set that is not empty and not too high; in order.
 fn on_label(x: Progress, s: State, v: u32) -> Judged
-    requires { ⌜ x .blocks .count ≡ 0 ⌝ }
+    requires { ⌜ (x .blocks .count ≡ 0) × (x .blocks .equations ≡ 0) ⌝ }
     ensures { λ r. ⌜ judgedSays r ≡ go (labelDemands (sofarOf x) (s .0) v) (afterLabel (sofarOf x) (s .0)) ⌝ }
 {
     let z = x.sizes;
@@ -122,7 +129,7 @@ fn on_equation(x: Progress, o: u8, a: u8, b: u8) -> Judged
     }
     let end = blocks.equations + blocks.due;
     if !limits::names_ok(end as usize, o, a, b) {
-        return Judged::Refused(Refusal::LaterBlock);
+        return Judged::Refused(Refusal::Tangled);
     }
     let due = blocks.due - 1;
     let equations = blocks.equations + 1;
@@ -139,9 +146,34 @@ fn on_equation(x: Progress, o: u8, a: u8, b: u8) -> Judged
     })
 }
 
+// An equation with a sign, where one is due: its sign is 0 or 1, and its numbers are in range.
+fn on_signed(x: Progress, k: u8, o: u8, a: u8, b: u8) -> Judged
+    requires { ⌜ Kept (sofarOf x) ⌝ }
+    requires { ⌜ (x .sizes .blocks ≡ 0) × (x .blocks .equations < x .sizes .variables) ⌝ }
+    ensures { λ r. ⌜ judgedSays r ≡ go (signedDemands (sofarOf x) (signedOf k o a b)) (without (afterSigned (sofarOf x) (signedOf k o a b))) ⌝ }
+{
+    let z = x.sizes;
+    let blocks = x.blocks;
+    let moves = x.moves;
+    if !((k <= 1) & limits::operands_ok(z, o, a, b)) {
+        return Judged::Refused(Refusal::BadNumber);
+    }
+    Judged::Next(Progress {
+        sizes: z,
+        labels: z.states as u32,
+        blocks: BlocksRead {
+            count: blocks.count,
+            kind: blocks.kind,
+            due: blocks.due,
+            equations: blocks.equations + 1,
+        },
+        moves: moves,
+    })
+}
+
 // A move, where moves are due: in range; in order; and there is room for it.
 fn on_move(l: Lent, x: Progress, m: Move) -> Judged
-    requires { ⌜ (x .blocks .due ≡ 0) × (x .blocks .count ≡ x .sizes .blocks) ⌝ }
+    requires { ⌜ movesDue (sofarOf x) ≡ true ⌝ }
     ensures { λ r. ⌜ judgedSays r ≡ go (moveDemands (lengthsBy l) (sofarOf x) (m .source .0) (m .action .0) (m .target .0)) (afterMove (sofarOf x) (pack (m .source .0) (m .action .0) (m .target .0))) ⌝ }
 {
     let z = x.sizes;
@@ -171,8 +203,8 @@ fn on_move(l: Lent, x: Progress, m: Move) -> Judged
 // Before the first block a label or a block is due.
 fn before_blocks(x: Progress, rec: Record) -> Judged
     requires { ⌜ Kept (sofarOf x) ⌝ }
-    requires { ⌜ x .blocks .count ≡ 0 ⌝ }
-    ensures { λ r. ⌜ ((l : Lengths) → judgedSays r ≡ step l (inside (sofarOf x)) (numbersOf rec)) ⌝ }
+    requires { ⌜ (x .blocks .count ≡ 0) × (0 < x .sizes .blocks) ⌝ }
+    ensures { λ r. ⌜ ((l : Lengths) → judgedSays r ≡ plain l (inside (sofarOf x)) (numbersOf rec)) ⌝ }
 {
     match rec {
         Record::Label(s, v) => on_label(x, s, v),
@@ -181,11 +213,11 @@ fn before_blocks(x: Progress, rec: Record) -> Judged
     }
 }
 
-// After the last block a move or the end is due.
-fn after_blocks(l: Lent, x: Progress, rec: Record) -> Judged
+// After the last equation a move or the end is due.
+fn after_equations(l: Lent, x: Progress, rec: Record) -> Judged
     requires { ⌜ Kept (sofarOf x) ⌝ }
-    requires { ⌜ (x .blocks .due ≡ 0) × (x .blocks .count ≡ x .sizes .blocks) ⌝ }
-    ensures { λ r. ⌜ judgedSays r ≡ step (lengthsBy l) (inside (sofarOf x)) (numbersOf rec) ⌝ }
+    requires { ⌜ movesDue (sofarOf x) ≡ true ⌝ }
+    ensures { λ r. ⌜ judgedSays r ≡ plain (lengthsBy l) (inside (sofarOf x)) (numbersOf rec) ⌝ }
 {
     match rec {
         Record::Move(m) => on_move(l, x, m),
@@ -194,17 +226,17 @@ fn after_blocks(l: Lent, x: Progress, rec: Record) -> Judged
     }
 }
 
-// Where no equation is due: between two blocks a block and nothing else.
+// In a model with blocks, where no equation is due: between two blocks a block and nothing else.
 fn outside_block(l: Lent, x: Progress, rec: Record) -> Judged
     requires { ⌜ Kept (sofarOf x) ⌝ }
-    requires { ⌜ x .blocks .due ≡ 0 ⌝ }
-    ensures { λ r. ⌜ judgedSays r ≡ step (lengthsBy l) (inside (sofarOf x)) (numbersOf rec) ⌝ }
+    requires { ⌜ (x .blocks .due ≡ 0) × (0 < x .sizes .blocks) ⌝ }
+    ensures { λ r. ⌜ judgedSays r ≡ plain (lengthsBy l) (inside (sofarOf x)) (numbersOf rec) ⌝ }
 {
     if x.blocks.count == 0 {
         return before_blocks(x, rec);
     }
     if x.blocks.count == x.sizes.blocks as u32 {
-        return after_blocks(l, x, rec);
+        return after_equations(l, x, rec);
     }
     let Record::Block(k, n) = rec else {
         return Judged::Refused(Refusal::NotDue);
@@ -212,11 +244,45 @@ fn outside_block(l: Lent, x: Progress, rec: Record) -> Judged
     on_block(x, k, n)
 }
 
-// One record after the sizes: inside a block an equation and nothing else.
+// Before the first equation with a sign a label or such an equation is due.
+fn before_signs(x: Progress, rec: Record) -> Judged
+    requires { ⌜ Kept (sofarOf x) ⌝ }
+    requires { ⌜ (x .sizes .blocks ≡ 0) × (x .blocks .equations ≡ 0) × (0 < x .sizes .variables) ⌝ }
+    ensures { λ r. ⌜ ((l : Lengths) → judgedSays r ≡ plain l (inside (sofarOf x)) (numbersOf rec)) ⌝ }
+{
+    match rec {
+        Record::Label(s, v) => on_label(x, s, v),
+        Record::Signed(k, o, a, b) => on_signed(x, k, o, a, b),
+        _ => Judged::Refused(Refusal::NotDue),
+    }
+}
+
+// In a model with signs: between two equations an equation with a sign and nothing else.
+fn with_signs(l: Lent, x: Progress, rec: Record) -> Judged
+    requires { ⌜ Kept (sofarOf x) ⌝ }
+    requires { ⌜ x .sizes .blocks ≡ 0 ⌝ }
+    ensures { λ r. ⌜ judgedSays r ≡ plain (lengthsBy l) (inside (sofarOf x)) (numbersOf rec) ⌝ }
+{
+    if x.blocks.equations == x.sizes.variables as u32 {
+        return after_equations(l, x, rec);
+    }
+    if x.blocks.equations == 0 {
+        return before_signs(x, rec);
+    }
+    let Record::Signed(k, o, a, b) = rec else {
+        return Judged::Refused(Refusal::NotDue);
+    };
+    on_signed(x, k, o, a, b)
+}
+
+// One record after the sizes, and what it does before any chain is asked: inside a block an equation and nothing else.
 pub fn judge_record(l: Lent, x: Progress, rec: Record) -> Judged
     requires { ⌜ Kept (sofarOf x) ⌝ }
-    ensures { λ r. ⌜ judgedSays r ≡ step (lengthsBy l) (inside (sofarOf x)) (numbersOf rec) ⌝ }
+    ensures { λ r. ⌜ judgedSays r ≡ plain (lengthsBy l) (inside (sofarOf x)) (numbersOf rec) ⌝ }
 {
+    if x.sizes.blocks == 0 {
+        return with_signs(l, x, rec);
+    }
     if x.blocks.due == 0 {
         return outside_block(l, x, rec);
     }
@@ -266,6 +332,78 @@ pub fn turn(read: Read, l: Lent, t: OneTurn, len: usize) -> OneTurn
         Judged::Next(y) => OneTurn::Go(rec, y, next),
         Judged::Over => at_end(x, next, len),
     }
+}
+
+// An equation with a sign as one number. It has no component yet.
+pub fn signed_word(k: u8, o: u8, a: u8, b: u8) -> u32
+    ensures { λ r. ⌜ r ≡ word (signedOf k o a b) ⌝ }
+{
+    (o as u32) + 256 * (a as u32) + 65536 * (b as u32) + 16777216 * (k as u32)
+}
+
+// The equation with a sign whose record stands at a place, as one number.
+fn sign_at(bytes: &[u8], at: usize) -> u32
+    requires { ⌜ (at + 5 ≤ length (now bytes)) × (getD (now bytes) (at + 1) 0 ≤ 1) ⌝ }
+    ensures { λ r. ⌜ unword r ≡ signAt (now (bytes .entry)) at ⌝ }
+{
+    signed_word(bytes[at + 1], bytes[at + 2], bytes[at + 3], bytes[at + 4])
+}
+
+// The equations with signs of n records that end at a place, each as one number.
+fn signs_to(bytes: &[u8], end: usize, n: usize) -> [u32; 32]
+    requires { ⌜ (n ≤ 32) × (end ≤ length (now bytes)) × Spelled (now bytes) end n ⌝ }
+    ensures { λ r. ⌜ Words (now (bytes .entry)) end n n r ⌝ }
+{
+    let from = end - 5 * n;
+    let mut words = [0u32; 32];
+    let mut i: usize = 0;
+    while i < n {
+        let w = sign_at(bytes, from + 5 * i);
+        rooms::set_word(&mut words, i, w);
+        i = i + 1;
+    }
+    words
+}
+
+// The question, asked of equations with signs whose records end at a place: the turn as it was, or a refusal at the record of
+// the lowest equation on a closed chain that holds both signs.
+fn answered(bytes: &[u8], rec: Record, y: Progress, end: usize) -> OneTurn
+    requires { ⌜ (y .sizes .variables ≤ 32) × (end ≤ length (now bytes)) × Spelled (now bytes) end (y .sizes .variables) ⌝ }
+    ensures { λ r. ⌜ r ≡ answeredTurn (now (bytes .entry)) rec y end (y .sizes .variables) ⌝ }
+{
+    let n = y.sizes.variables as usize;
+    let words = signs_to(bytes, end, n);
+    let low = components::first_guilty(&words, n);
+    if low < n {
+        return OneTurn::Stop(ReadModel::Refused(Refusal::Tangled, end - 5 * (n - low)));
+    }
+    OneTurn::Go(rec, y, end)
+}
+
+// A turn, and after the last equation with a sign the question.
+fn asked(bytes: &[u8], t: OneTurn) -> OneTurn
+    requires { ⌜ Askable (now bytes) t ⌝ }
+    ensures { λ r. ⌜ r ≡ askedTurn (now (bytes .entry)) t ⌝ }
+{
+    let OneTurn::Go(rec, y, end) = t else {
+        return t;
+    };
+    let Record::Signed(_, _, _, _) = rec else {
+        return t;
+    };
+    if y.blocks.equations == y.sizes.variables as u32 {
+        return answered(bytes, rec, y, end);
+    }
+    t
+}
+
+// What was read at the place of the turn before, judged, and its question: the turn after it.
+fn judge_turn(read: Read, l: Lent, t: OneTurn, bytes: &[u8]) -> OneTurn
+    requires { ⌜ Ready (now bytes) read t ⌝ }
+    ensures { λ r. ⌜ Asked (lengthsBy l) (now (bytes .entry)) t r ⌝ }
+{
+    let u = turn(read, l, t, bytes.len());
+    asked(bytes, u)
 }
 
 // What has been read after a sizes record.
@@ -336,7 +474,7 @@ pub fn judge_model(bytes: &[u8], l: Lent) -> ReadModel
             break;
         }
         r.at = at;
-        t = turn(wire::next(r), l, t, bytes.len());
+        t = judge_turn(wire::next(r), l, t, bytes);
     }
     answer_of(t)
 }

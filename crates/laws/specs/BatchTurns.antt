@@ -25,7 +25,7 @@ use Rattle.systems.specs.Visits.{visits-le}
 use Rattle.systems.specs.ShiftRule.{shifts-monotone}
 use Rattle.systems.specs.SettleRule.{drops-monotone}
 use Rattle.rules.specs.Moves.{target}
-use Rattle.rules.specs.Model.{Model}
+use Rattle.rules.specs.Model.{Model, blocksOf}
 use Rattle.rules.specs.Records.{accepted}
 use Rattle.rules.specs.Rooms.{Rooms, pairsOf}
 use Rattle.rules.specs.Batch.{Change, Batch, inserts, deletes, remove, insert, removeAll, insertAll, edited}
@@ -123,7 +123,7 @@ module _ (m : Model) (cs : List Change) (j : Judged (m .moves) cs) (ok : Sound m
   M = leanings (changed cs m)
 
   -- The shifted set of a block is the smallest that the rule of shifting asks for, whatever the values of earlier blocks.
-  shifted-smallest : (i : ℕ) → i < m .sizes .blocks → (v : Values) → Smallest (shifts (changed cs m) cs i old v) (at (shiftedSet (changed cs m) cs i old v))
+  shifted-smallest : (i : ℕ) → i < blocksOf m → (v : Values) → Smallest (shifts (changed cs m) cs i old v) (at (shiftedSet (changed cs m) cs i old v))
   shifted-smallest i h v =
       let n = pairsOf (m .sizes) in
       let w : Values = at (table n old) in
@@ -134,7 +134,7 @@ module _ (m : Model) (cs : List Change) (j : Judged (m .moves) cs) (ok : Sound m
       })
 
   -- The settled set of a block is the smallest that the rule of settling asks for, from any values.
-  settled-smallest : (i : ℕ) → i < m .sizes .blocks → (v : Values) → Smallest (settles (changed cs m) i v) (at (settledSet (changed cs m) i v))
+  settled-smallest : (i : ℕ) → i < blocksOf m → (v : Values) → Smallest (settles (changed cs m) i v) (at (settledSet (changed cs m) i v))
   settled-smallest i h v =
       let n = pairsOf (m .sizes) in
       let fits = fits-new m cs j ok ok′ old in
@@ -161,8 +161,8 @@ module _ (m : Model) (cs : List Change) (j : Judged (m .moves) cs) (ok : Sound m
 -- values it begins with, the shifted set is the smallest that the rule of shifting asks for; once these pairs have turned,
 -- the settled set is the smallest that the rule of settling asks for. The marks say which, and the values turn by them.
 pub record Turns (m : Model) (cs : List Change) (old : Values) (values marks : List ℕ) : Type 0 where
-  pub shifted : (i : ℕ) → i < m .sizes .blocks → Smallest (shifts m cs i old (begun m cs old i)) (at (shiftedIn m cs old i))
-  pub settled : (i : ℕ) → i < m .sizes .blocks → Smallest (settles m i (raised m cs old i)) (at (settledIn m cs old i))
+  pub shifted : (i : ℕ) → i < blocksOf m → Smallest (shifts m cs i old (begun m cs old i)) (at (shiftedIn m cs old i))
+  pub settled : (i : ℕ) → i < blocksOf m → Smallest (settles m i (raised m cs old i)) (at (settledIn m cs old i))
   pub mark : (p : ℕ) → p < pairsOf (m .sizes)
       → getD marks p 0 ≡ markOf (at (shiftedIn m cs old (blockOf m p)) p) (at (settledIn m cs old (blockOf m p)) p)
   pub value : (p : ℕ) → p < pairsOf (m .sizes) → valueAt values p ≡ flip (odd (getD marks p 0)) (old p)
@@ -220,7 +220,7 @@ batch-leads s l bytes b r w p h n = go (at (t .shifted) p) (at (t .settled) p) r
     sol : S.Solution (frame (changed cs m)) (leanings m) (at (table (pairsOf (m .sizes)) old))
     sol = old-solution m cs old ok (held-values (pairsOf (s .sizes)) (at (solve m)) (l .values) (reached-solved r .values))
 
-    lt : blockOf (changed cs m) p < m .sizes .blocks
+    lt : blockOf (changed cs m) p < blocksOf m
     lt = pairs-full (changed cs m) ok′ p h
 
     fits : S.Fits (frame (changed cs m)) (leanings m)

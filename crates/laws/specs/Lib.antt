@@ -1,4 +1,7 @@
 pub mod RecordLaws
+pub mod ChainLaws
+pub mod Components
+pub mod Placed
 pub mod Walks
 pub mod ReadAccepts
 pub mod ReadSpells
@@ -7,6 +10,7 @@ pub mod BatchReads
 pub mod Edits
 pub mod Named
 pub mod SessionHolds
+pub mod OneKind
 pub mod ModelSystem
 pub mod ValuesSolve
 pub mod Seeds
@@ -23,3 +27,8 @@ pub mod Refusals
 pub mod OneOutcome
 pub mod ModelLeaners
 pub mod MachineRules
+pub mod Rewritten
+pub mod SignsRefused
+pub mod FivePlace
+pub mod ComponentCount
+pub mod FewBlocks

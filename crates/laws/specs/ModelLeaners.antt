@@ -16,7 +16,7 @@ use Rattle.lists.specs.Counts.{times, times-append}
 use Rattle.systems.specs.Machine.{Finds}
 use Rattle.systems.specs.Leaners.{has-count}
 use Rattle.rules.specs.Moves.{source, action, target}
-use Rattle.rules.specs.Model.{Model, moveOk, movesOk}
+use Rattle.rules.specs.Model.{Model, moveOk, movesOk, blocksOf}
 use Rattle.rules.specs.Rooms.{pairsOf}
 use Rattle.rules.specs.Values.{Term, constant, proposition, join, step, pair, state, variable, stateOf, variableOf, termOf, equationAt, termAt, blockOf, own, targets, leaningsBy, leanings}
 use Rattle.rules.specs.declared.State.{State}
@@ -255,7 +255,7 @@ model-finds m ok = record { counted = λ q p lt. listed q p lt ∙ sym (has-coun
         (ap (λ (r : ℕ). cond (eqb (blockOf m p) (blockOf m q)) (count (λ y. eqb y r) (leaningsBy m (stateOf (m .sizes) p) (termAt m p))) 0) (split q)
         ∙ ap (λ (y : List ℕ). cond (eqb (blockOf m p) (blockOf m q)) (count (λ r. eqb r q) y) 0) (sym (leanings-at m p l)))
 
-    whole : (q p : ℕ) → blockOf m q < m .sizes .blocks
+    whole : (q p : ℕ) → blockOf m q < blocksOf m
         → cond (ltb (p / m .sizes .states) (m .sizes .variables)) (shared q p) 0 ≡ cond (eqb (blockOf m p) (blockOf m q)) (count (λ r. eqb r q) (leanings m p)) 0
     whole q p lt =
         elim (decLt p (pairsOf (m .sizes))) [
@@ -270,7 +270,7 @@ model-finds m ok = record { counted = λ q p lt. listed q p lt ∙ sym (has-coun
               rw (ltb-no (p / m .sizes .states) (m .sizes .variables) .1 far, eqb-no (blockOf m p) (blockOf m q) .1 (λ e. omega arith)) refl
         ]
 
-    listed : (q p : ℕ) → blockOf m q < m .sizes .blocks
+    listed : (q p : ℕ) → blockOf m q < blocksOf m
         → times p (leanersTo m (variableOf (m .sizes) q) (stateOf (m .sizes) q) (m .sizes .variables)) ≡ cond (eqb (blockOf m p) (blockOf m q)) (count (λ r. eqb r q) (leanings m p)) 0
     listed q p lt =
         ap (λ (r : ℕ). times r (leanersTo m (variableOf (m .sizes) q) (stateOf (m .sizes) q) (m .sizes .variables))) (sym (split p))

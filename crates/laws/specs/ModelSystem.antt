@@ -14,14 +14,15 @@ use Rattle.lists.specs.Lists.{is, any, all}
 use Rattle.lists.specs.Tests.{_∈_, tests, tell, and-is, ltb-in, ltb-out, ltb-no}
 use Rattle.systems.specs.System.{Frame, Fits, ev, eval}
 use Rattle.rules.specs.Moves.{target}
-use Rattle.rules.specs.Model.{Equation, Model, equationsOk, moveOk, movesOk, wellFormed, WellFormed}
+use Rattle.rules.specs.Model.{Equation, Model, equationsOk, moveOk, movesOk, wellFormed, WellFormed, blocksOf}
 use Rattle.rules.specs.Rooms.{pairsOf}
 use Rattle.rules.specs.Values.{Values, Term, constant, proposition, join, step, pair, state, variable, stateOf, variableOf, terms, termOf, termAt, equationAt, blockOf, greatest, holds, own, targets, leaningsBy, leanings, givesBy, gives}
 use Rattle.rules.specs.declared.State.{State}
 use Rattle.rules.specs.declared.Action.{Action}
 use Rattle.rules.specs.declared.Variable.{Variable}
-use Rattle.laws.specs.Walks.{small, eq-count}
-use Rattle.laws.specs.Named.{Names, names-earlier, names-variable, variable-block, move-range}
+use Rattle.laws.specs.Walks.{small}
+use Rattle.laws.specs.OneKind.{OneKind, one-kind}
+use Rattle.laws.specs.Named.{Names, NamesWell, names-well, variable-block, move-range}
 
 -- Is the equation an "and" of what it leans on? True is an empty "and", false an empty "or".
 abbrev pub kindBy : List ℕ → State → Term → Bool
@@ -36,7 +37,7 @@ frame m = record {
   pairs = pairsOf (m .sizes);
   kind = λ p. kindBy (m .labels) (stateOf (m .sizes) p) (termAt m p);
   block = blockOf m;
-  blocks = m .sizes .blocks;
+  blocks = blocksOf m;
   great = greatest m;
 }
 
@@ -83,14 +84,14 @@ gives-eval m v p h =
 pub block-at : (m : Model) (p : ℕ) → p < pairsOf (m .sizes) → blockOf m p ≡ equationAt m (variableOf (m .sizes) p) .block
 unfolding blockOf
 block-at m p h =
-    ap (λ (c : Bool). cond c (equationAt m (variableOf (m .sizes) p) .block) (m .sizes .blocks)) (ltb-in p (pairsOf (m .sizes)) h)
+    ap (λ (c : Bool). cond c (equationAt m (variableOf (m .sizes) p) .block) (blocksOf m)) (ltb-in p (pairsOf (m .sizes)) h)
 
-pub block-past : (m : Model) (p : ℕ) → pairsOf (m .sizes) ≤ p → blockOf m p ≡ m .sizes .blocks
+pub block-past : (m : Model) (p : ℕ) → pairsOf (m .sizes) ≤ p → blockOf m p ≡ blocksOf m
 unfolding blockOf
 block-past m p h =
-    ap (λ (c : Bool). cond c (equationAt m (variableOf (m .sizes) p) .block) (m .sizes .blocks)) (ltb-no p (pairsOf (m .sizes)) .1 h)
+    ap (λ (c : Bool). cond c (equationAt m (variableOf (m .sizes) p) .block) (blocksOf m)) (ltb-no p (pairsOf (m .sizes)) .1 h)
 
-pub block-inside : (m : Model) (p : ℕ) → blockOf m p < m .sizes .blocks → p < pairsOf (m .sizes)
+pub block-inside : (m : Model) (p : ℕ) → blockOf m p < blocksOf m → p < pairsOf (m .sizes)
 block-inside m p h =
     elim (tell true (ltb p (pairsOf (m .sizes)))) [
       | inl e ↦ ltb-out p (pairsOf (m .sizes)) e
@@ -152,8 +153,8 @@ named-by e x = go (e .operator) refl
 -- A model inside the limits, as its parts.
 pub record Sound (m : Model) : Type 0 where
   pub some : 0 < m .sizes .states
-  pub count : length (m .equations) ≡ m .sizes .variables
-  pub equations : equationsOk (m .sizes) 0 0 0 (m .equations) ≡ true
+  pub names : NamesWell (m .sizes) (m .equations)
+  pub kinds : OneKind (m .equations)
   pub moves : movesOk (m .sizes) 0 (m .moves) ≡ true
 
 pub sound : (m : Model) → WellFormed m → Sound m
@@ -161,8 +162,8 @@ unfolding wellFormed
 sound m w =
     let k = simp and-is at w in
     let z = small (m .sizes) (k .0 .0 .0 .0 .0) in
-    let c = eq-count (m .sizes) 0 0 0 (m .equations) (k .0 .0 .1) in
-    record { some = omega arith; count = omega arith; equations = k .0 .0 .1; moves = k .0 .1 }
+    let c = names-well (m .sizes) (m .equations) (k .0 .0 .1) in
+    record { some = omega arith; names = c; kinds = one-kind (m .sizes) (m .equations) (k .0 .0 .1); moves = k .0 .1 }
 
 -- The pair of a state and a variable, both below their counts, is below the count of pairs.
 pub pair-below : (m : Model) (s : State) (x : Variable) → s .0 < m .sizes .states → x .0 < m .sizes .variables → pair (m .sizes) s x < pairsOf (m .sizes)
@@ -173,11 +174,11 @@ module _ (m : Model) (ok : Sound m) where
   variable-below p h = div-lt-iff-lt-mul (ok .some) .1 h
 
   -- Every pair lies in a block.
-  pub pairs-full : (p : ℕ) → p < pairsOf (m .sizes) → blockOf m p < m .sizes .blocks
+  pub pairs-full : (p : ℕ) → p < pairsOf (m .sizes) → blockOf m p < blocksOf m
   pairs-full p h =
       let v = variable-below p h in
-      let c = ok .count in
-      let b = variable-block (m .sizes) (m .equations) (p / m .sizes .states) (ok .equations) (omega arith) in
+      let c = ok .names .count in
+      let b = variable-block (m .equations) (p / m .sizes .states) (omega arith) in
       let e = block-at m p h in
       omega arith
 
@@ -192,8 +193,8 @@ module _ (m : Model) (ok : Sound m) where
   unfolding termAt
   named-below p x h n =
       let v = variable-below p h in
-      let c = ok .count in
-      names-variable (m .sizes) (m .equations) (p / m .sizes .states) x (ok .equations) (omega arith)
+      let c = ok .names .count in
+      ok .names .variable (p / m .sizes .states) x (omega arith)
       (named-by (equationAt m (variable (p / m .sizes .states))) x n)
 
   target-below : (s : State) (a : Action) (t : ℕ) → t ∈ targets s a (m .moves) → t < m .sizes .states
@@ -227,11 +228,11 @@ module _ (m : Model) (ok : Sound m) where
   leans-earlier p q h k =
       let x = p / m .sizes .states in
       let v = variable-below p h in
-      let c = ok .count in
+      let c = ok .names .count in
       let l = leans-named (stateOf (m .sizes) p) (termAt m p) q (mod-lt p (ok .some)) (subst (λ (y : List ℕ). q ∈ y) (leanings-at m p h) k) in
       let n = named-by (equationAt m (variable x)) (l .1 .0) (l .3) in
       let u = named-below p (l .1 .0) h (l .3) in
-      let b = names-earlier (m .sizes) (m .equations) x (l .1 .0) (ok .equations) (omega arith) n in
+      let b = ok .names .earlier x (l .1 .0) (omega arith) n in
       let e = pair-block (l .0) (l .1) (l .2) u in
       let f = ap (blockOf m) (l .4) in
       let g = block-at m p h in

@@ -34,7 +34,7 @@ refusals =
     ∷ Why.NotDue
     ∷ Why.BadSize
     ∷ Why.BadNumber
-    ∷ Why.LaterBlock
+    ∷ Why.Tangled
     ∷ Why.OutOfOrder
     ∷ Why.Present
     ∷ Why.Absent
@@ -53,7 +53,7 @@ refusal-back Why.Broken = refl
 refusal-back Why.NotDue = refl
 refusal-back Why.BadSize = refl
 refusal-back Why.BadNumber = refl
-refusal-back Why.LaterBlock = refl
+refusal-back Why.Tangled = refl
 refusal-back Why.OutOfOrder = refl
 refusal-back Why.Present = refl
 refusal-back Why.Absent = refl

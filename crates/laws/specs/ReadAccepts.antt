@@ -1,7 +1,7 @@
 -- Every model inside the limits is accepted, from its spelling. Assumes nothing.
-use mathlib.Core.Path.{_≡_, refl}
+use mathlib.Core.Path.{_≡_, refl, ap, _∙_}
 use mathlib.Core.Logic.{inl, inr}
-use mathlib.Core.Bool.{true}
+use mathlib.Core.Bool.{true, cond}
 use mathlib.Core.List.{List, [], _∷_, _++_}
 use Prim.Native.Nat.{ℕ, zero, suc, _+_, _^_, _≤_, _<_}
 use native.Mathlib.Nat.{pow-le-pow-right}
@@ -9,23 +9,26 @@ use native.Mathlib.Omega.{arith}
 use lib.ListN.{length}
 use lib.Dec.{eqb, ltb}
 use Rattle.lists.specs.Lists.{all}
-use Rattle.lists.specs.Tests.{tests, tell, and-is, ltb-is, eqb-is}
+use Rattle.lists.specs.Tests.{tests, tell, and-is, ltb-is, leb-is, eqb-is}
 use Rattle.rules.specs.Limits.{sizesOk}
-use Rattle.rules.specs.Model.{Equation, Model, labelOk, moveOk, operandsOk, equationsOk, movesOk, wellFormed, WellFormed}
-use Rattle.rules.specs.Records.{Rec, widths, accepted}
+use Rattle.rules.specs.Model.{Equation, Model, labelOk, moveOk, operandsOk, equationsOk, movesOk, wellFormed, WellFormed, signed, signOk, equationIn, styleOk, placed}
+use Rattle.rules.specs.Records.{Rec, widths, accepted, onto}
 use Rattle.rules.specs.Rooms.{Lengths, roomsOk}
-use Rattle.rules.specs.Load.{step, put, last, readModel}
-use Rattle.rules.specs.Spelling.{labelRecs, equationRecs, moveRecs, records, encode}
+use Rattle.rules.specs.Load.{step, put, last, settleStyle, readModel}
+use Rattle.rules.specs.Spelling.{labelRecs, equationRecs, signedRecs, styleRecs, moveRecs, records, encode}
 use Rattle.rules.specs.declared.Sizes.{Sizes}
 use Rattle.laws.specs.RecordLaws.{AllWritable, run-written}
-use Rattle.laws.specs.Walks.{small, eq-count, run-le, walks-records}
+use Rattle.laws.specs.Walks.{small, eq-count, run-le, unplaced, walks-records}
+use Rattle.laws.specs.Placed.{signs-out, placed-own}
 
-append : (rs ts : List Rec) → AllWritable rs → AllWritable ts → AllWritable (rs ++ ts)
+-- Records that fit their widths, one list after the other.
+pub append : (rs ts : List Rec) → AllWritable rs → AllWritable ts → AllWritable (rs ++ ts)
 append [] ts h k = k
 append (r ∷ rs) ts h k = (h .0, append rs ts (h .1) k)
 
 module _ (z : Sizes) (ok : sizesOk z ≡ true) where
-  labels-w : (s : ℕ) (ls : List ℕ) → s + length ls ≤ z .states → all (labelOk z) ls ≡ true → AllWritable (labelRecs s ls)
+  -- The records of labels, moves and equations in range fit their widths.
+  pub labels-w : (s : ℕ) (ls : List ℕ) → s + length ls ≤ z .states → all (labelOk z) ls ≡ true → AllWritable (labelRecs s ls)
   unfolding widths labelOk
   labels-w s [] h a = tt
   labels-w s (zero ∷ ls) h a = let p = simp and-is at a in labels-w (suc s) ls (omega arith) (p .1)
@@ -35,6 +38,7 @@ module _ (z : Sizes) (ok : sizesOk z ≡ true) where
       let b : 2 ^ z .propositions ≤ 2 ^ 32 = pow-le-pow-right (omega arith) {i = z .propositions} {j = 32} (omega arith) in
       ((refl, omega arith), labels-w (suc s) ls (omega arith) (simp and-is at a .1))
 
+  -- Operators and operands in range are bytes.
   pub operands-small : (o a b : ℕ) → operandsOk z o a b ≡ true → (o < 256) × (a < 256) × (b < 256)
   unfolding operandsOk
   operands-small o a b h =
@@ -75,6 +79,24 @@ module _ (z : Sizes) (ok : sizesOk z ≡ true) where
             rw t ((refl, omega arith), ((refl, omega arith), ih))
       ]
 
+  pub signs-w : (es : List Equation) → ((j : ℕ) → j < length es → signOk z (equationIn es j) ≡ true) → AllWritable (signedRecs es)
+  unfolding widths
+  signs-w [] h = tt
+  signs-w (e ∷ es) h =
+      let f = simp and-is at (h 0 (omega arith)) in
+      let k = leb-is (e .kind) 1 .0 (f .0) in
+      let o = operands-small (e .operator) (e .first) (e .second) (f .1) in
+      ((refl, omega arith), signs-w es (λ j l. h (suc j) (omega arith)))
+
+  style-w : (es : List Equation) → styleOk z es ≡ true → AllWritable (styleRecs z es)
+  unfolding styleOk
+  style-w es h =
+      elim (tell true (signed z)) [
+        | inl t ↦ rw t (signs-w es (signs-out z es (rw t at h) .good))
+        | inr t ↦ rw t (equations-w 0 0 0 es (rw t at h))
+      ]
+
+-- The records of a model inside the limits fit their widths.
 pub records-w : (m : Model) → WellFormed m → AllWritable (records m)
 unfolding records wellFormed widths
 records-w m h =
@@ -84,10 +106,24 @@ records-w m h =
     let e = eqb-is (length (m .labels)) (m .sizes .states) .0 (k .0 .0 .0 .0 .1) in (
       (refl, omega arith),
       append (labelRecs 0 (m .labels)) _ (labels-w (m .sizes) z 0 (m .labels) (omega arith) (k .0 .0 .0 .1))
-          (append (equationRecs 0 (m .equations)) _ (equations-w (m .sizes) z 0 0 0 (m .equations) (k .0 .0 .1)) (moves-w (m .sizes) z 0 (m .moves) (k .0 .1))),
+          (append (styleRecs (m .sizes) (m .equations)) _ (style-w (m .sizes) z (m .equations) (k .0 .0 .1)) (moves-w (m .sizes) z 0 (m .moves) (k .0 .1))),
     )
 
+-- What is read of a model inside the limits, with its components, is the model.
+unplaced-back : (l : Lengths) (m : Model) → WellFormed m → settleStyle (unplaced l m) ≡ m
+unfolding wellFormed styleOk
+unplaced-back l m h =
+    let k = simp and-is at h in
+    let e : cond (signed (m .sizes)) (placed (unplaced l m .equations)) (unplaced l m .equations) ≡ m .equations =
+    elim (tell true (signed (m .sizes))) [
+      | inl t ↦ rw t (placed-own (m .sizes) (m .equations) (λ i. 0) (signs-out (m .sizes) (m .equations) (rw t at (k .0 .0 .1))))
+      | inr t ↦ rw t refl
+    ] in
+    λ i. record { sizes = m .sizes; labels = m .labels; equations = e i; moves = m .moves }
+
 -- Every model inside the limits is accepted where the rooms suffice.
-pub read-accepts : (l : Lengths) (m : Model) → WellFormed m → roomsOk l (m .sizes) ≡ true → length (m .moves) ≤ l .moves → readModel l (encode m) ≡ accepted m
+pub read-accepts : (l : Lengths) (m : Model) → WellFormed m → roomsOk l (m .sizes) ≡ true → length (m .moves) ≤ l .moves
+    → readModel l (encode m) ≡ accepted m
 unfolding readModel
-read-accepts l m h r n = run-written (step l) put last 0 (walks-records l m h r n) (records-w m h)
+read-accepts l m h r n =
+    ap (onto settleStyle) (run-written (step l) put last 0 (walks-records l m h r n) (records-w m h)) ∙ ap accepted (unplaced-back l m h)

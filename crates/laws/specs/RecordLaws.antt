@@ -10,7 +10,7 @@ use lib.ListN.{length, getD, drop, length-append, length-drop}
 use lib.Seq.{drop-at, drop-drop}
 use lib.Dec.{leb}
 use Rattle.lists.specs.Tests.{tell, and-in, leb-is, and-is}
-use Rattle.rules.specs.Records.{widths, known, bodyOf, digits, number, writes, reads, Rec, bytes, bytesOf, broken, part, partsFrom, Turn, no, next, demand, Outcome, refused, accepted, onto, atEnd, onTurn, run, over}
+use Rattle.rules.specs.Records.{widths, known, bodyOf, digits, number, writes, reads, Rec, bytes, bytesOf, broken, part, partsFrom, Turn, no, back, next, demand, Outcome, refused, accepted, onto, atEnd, onTurn, run, over}
 
 -- A body's numbers fit their widths; and bytes are below 256.
 abbrev pub Fits : List ℕ → List ℕ → Type 0
@@ -59,7 +59,7 @@ digits-number (suc w) (b ∷ s) h l =
     let r : (b + 256 * number w s) % 256 ≡ b = omega arith in
     ap₂ (λ (x : ℕ) (t : List ℕ). x ∷ t) r (rw q (digits-number w s (h .1) (le-of-suc-le-suc l)))
 
-bytes-drop : (n : ℕ) (s : List ℕ) → AreBytes s → AreBytes (drop n s)
+pub bytes-drop : (n : ℕ) (s : List ℕ) → AreBytes s → AreBytes (drop n s)
 bytes-drop zero s h = h
 bytes-drop (suc n) [] h = tt
 bytes-drop (suc n) (b ∷ s) h = bytes-drop n s (h .1)
@@ -78,11 +78,11 @@ reads-writes (w ∷ ws) (f ∷ fs) s h =
     rw append-assoc (ap₂ (λ (x : ℕ) (t : List ℕ). x ∷ t) (number-digits w f (writes ws fs ++ s) (h .0))
     (rw (drop-at (digits w f) (writes ws fs ++ s) w (len-digits w f)) (reads-writes ws fs s (h .1))))
 
-fits-reads : (ws s : List ℕ) → AreBytes s → Fits ws (reads ws s)
+pub fits-reads : (ws s : List ℕ) → AreBytes s → Fits ws (reads ws s)
 fits-reads [] s h = tt
 fits-reads (w ∷ ws) s h = (number-small w s h, fits-reads ws (drop w s) (bytes-drop w s h))
 
-writes-reads : (ws s : List ℕ) → AreBytes s → bodyOf ws ≤ length s → writes ws (reads ws s) ++ drop (bodyOf ws) s ≡ s
+pub writes-reads : (ws s : List ℕ) → AreBytes s → bodyOf ws ≤ length s → writes ws (reads ws s) ++ drop (bodyOf ws) s ≡ s
 writes-reads [] s h l = refl
 writes-reads (w ∷ ws) s h l =
     rw (append-assoc, ← drop-drop) (rw (writes-reads ws (drop w s) (bytes-drop w s h) (rw length-drop (omega arith))) (digits-number w s h (omega arith)))
@@ -94,7 +94,7 @@ skipped zero p s h = rw add-zero refl
 skipped (suc n) p [] h = absurd (not-suc-le-zero h)
 skipped (suc n) p (b ∷ s) h = skipped n (suc p) s (le-of-suc-le-suc h) ∙ rw (suc-add p n, add-suc p n) refl
 
-pub size : Rec → ℕ
+unfoldable pub size : Rec → ℕ
 size r = suc (bodyOf (widths (r .kind)))
 
 pub part-written : (r : Rec) (p : ℕ) (s : List ℕ) → Writable r → partsFrom 0 p (bytes r ++ s) ≡ part p r (partsFrom 0 (p + size r) s)
@@ -154,6 +154,7 @@ module _ {S B : Type 0} (step : S → Rec → Turn S) (put : S → Rec → B →
       → onTurn step put last (λ st′. run step put last st′ (partsFrom 0 (suc p + bodyOf (widths k)) (drop (bodyOf (widths k)) s))) st p (record { kind = k; body = reads (widths k) s }) (partsFrom 0 (suc p + bodyOf (widths k)) (drop (bodyOf (widths k)) s)) t ≡ accepted b
       → Spelled st (k ∷ s) b
   run-turn f p k s st b ih l h w (no n) q e = absurd (never e)
+  run-turn f p k s st b ih l h w (back n d) q e = absurd (never e)
   run-turn f p k s st b ih l h w (next st′) q e =
       let u = un-onto (put st (record { kind = k; body = reads (widths k) s })) _ b e in
       let v = ih _ (drop (bodyOf (widths k)) s) st′ (u .0) (rw length-drop (omega arith)) (bytes-drop (bodyOf (widths k)) s h) (u .1) in (

@@ -5,18 +5,17 @@ use mathlib.Core.Bool.{Bool, true, false, cond, _&&_}
 use mathlib.Core.List.{List, [], _∷_}
 use mathlib.Core.Option.{Option, none, some}
 use Prim.Native.Nat.{ℕ, _+_, min}
-use native.Mathlib.Omega.{arith}
 use lib.ListN.{length}
 use lib.Dec.{eqb, leb}
-use Rattle.lists.specs.Lists.{is, elem}
+use Rattle.lists.specs.Lists.{is, elem, someBelow}
 use Rattle.lists.specs.Tests.{and-left, and-right}
 use Rattle.laws.specs.RecordLaws.{never}
 use Rattle.rules.specs.Limits.{most-moves}
 use Rattle.rules.specs.Moves.{stampOf}
-use Rattle.rules.specs.Records.{Rec, field, Parts, ends, broken, part, parts, Outcome, refused, accepted, Turn, no, next, over, demand, onto, atEnd, onTurn, run}
-use Rattle.rules.specs.Model.{Model}
+use Rattle.rules.specs.Records.{Rec, field, Parts, ends, broken, part, parts, Outcome, refused, accepted, Turn, no, back, next, over, demand, onto, atEnd, onTurn, run}
+use Rattle.rules.specs.Model.{Model, guilty}
 use Rattle.rules.specs.Rooms.{Rooms, Lengths, lengthsOf}
-use Rattle.rules.specs.Load.{State, before, inside, sizesDemands, labelDemands, blockDemands, equationDemands, moveDemands, endDemands, step, put, last, readModel}
+use Rattle.rules.specs.Load.{Sofar, State, before, inside, signedOf, signedDemands, afterSigned, askChains, settleStyle, sizesDemands, labelDemands, blockDemands, equationDemands, moveDemands, endDemands, step, put, last, readModel}
 use Rattle.rules.specs.Batch.{Change, Batch, Place, first, after, changeDemands, stepBatch, putBatch, emptyBatch, readBatch, repeated, misplaced, unless, firstOf, edited, judge}
 use Rattle.rules.specs.Spelling.{encode}
 use Rattle.rules.specs.Values.{pair}
@@ -68,6 +67,7 @@ Told (accepted b) = Unit {0}
 
 abbrev ToldTurn : {S : Type 0} → Turn S → Type 0
 ToldTurn (no n) = paper n ≡ true
+ToldTurn (back n d) = paper n ≡ true
 ToldTurn (next s) = Unit {0}
 ToldTurn over = Unit {0}
 
@@ -102,8 +102,10 @@ module _ {S B : Type 0} (step : S → Rec → Turn S) (put : S → Rec → B →
   end-told st (broken p) = refl
   end-told st (part p r t) = refl
 
-  turn-told : (k : S → Outcome B) → ((st : S) → Told (k st)) → (st : S) (p : ℕ) (r : Rec) (t : Parts) (u : Turn S) → ToldTurn u → Told (onTurn step put last k st p r t u)
+  turn-told : (k : S → Outcome B) → ((st : S) → Told (k st)) → (st : S) (p : ℕ) (r : Rec) (t : Parts) (u : Turn S) → ToldTurn u
+      → Told (onTurn step put last k st p r t u)
   turn-told k f st p r t (no n) h = h
+  turn-told k f st p r t (back n d) h = h
   turn-told k f st p r t (next st′) h = onto-told (put st r) (k st′) (f st′)
   turn-told k f st p r t over h = end-told st t
 
@@ -117,6 +119,10 @@ either : {S : Type 0} (b : Bool) (t u : Turn S) → ToldTurn t → ToldTurn u �
 either true t u h k = h
 either false t u h k = k
 
+-- The question about chains, and one record.
+chains-told : (x : Sofar) → ToldTurn (askChains x)
+chains-told x = either (eqb (x .blocks .equations) (x .sizes .variables) && someBelow (length (x .signs)) (guilty (x .signs))) _ (next (inside x)) refl tt
+
 step-told : (l : Lengths) (st : State) (r : Rec) → ToldTurn (step l st r)
 unfolding step
 step-told l before r = demand-told (sizesDemands l r) _ refl tt
@@ -124,11 +130,13 @@ step-told l (inside x) r =
     let a = field r 0 in
     let b = field r 1 in
     let c = field r 2 in
+    let e = signedOf a b c (field r 3) in
     either (eqb (r .kind) 2) _ _ (demand-told (labelDemands x a b) _ refl tt)
     (either (eqb (r .kind) 3) _ _ (demand-told (blockDemands x a b) _ refl tt)
     (either (eqb (r .kind) 4) _ _ (demand-told (equationDemands x a b c) _ refl tt)
     (either (eqb (r .kind) 5) _ _ (demand-told (moveDemands l x a b c) _ refl tt)
-    (either (eqb (r .kind) 6) _ _ (demand-told (endDemands x) over refl tt) refl))))
+    (either (eqb (r .kind) 6) _ _ (demand-told (endDemands x) over refl tt)
+    (either (eqb (r .kind) 11) _ _ (demand-told (signedDemands x e) _ refl (chains-told (afterSigned x e))) refl)))))
 
 change-told : (z : Sizes) (p : Place) (r : Rec) → ToldTurn (stepBatch z p r)
 unfolding stepBatch
@@ -175,8 +183,14 @@ judge-told room ms b =
 -- Every refusal of the four calls has one of the paper's numbers.
 pub load-told : (l : Rooms) (bytes : List ℕ) → Told (load l bytes .answer)
 unfolding load readModel
-load-told l bytes = go (readModel (lengthsOf l) bytes) (run-told (step (lengthsOf l)) put last (step-told (lengthsOf l)) (parts bytes) before)
+load-told l bytes =
+    go (readModel (lengthsOf l) bytes) (style-told (run (step (lengthsOf l)) put last before (parts bytes))
+    (run-told (step (lengthsOf l)) put last (step-told (lengthsOf l)) (parts bytes) before))
   where
+    style-told : (o : Outcome Model) → Told o → Told (onto settleStyle o)
+    style-told (refused n p) h = h
+    style-told (accepted m) h = tt
+
     go : (o : Outcome Model) → Told o → Told (loadBy l o .answer)
     go (refused n p) h = h
     go (accepted m) h = tt

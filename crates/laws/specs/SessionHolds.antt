@@ -1,24 +1,23 @@
 -- When the rooms hold a model: exactly where the session's check passes, and always after an accepted load or batch.
 -- Assumes nothing.
 use mathlib.Core.Path.{_≡_, refl, sym, ap, ap₂, _∙_, subst}
-use mathlib.Core.Logic.{inl, inr}
 use mathlib.Core.Bool.{Bool, true, _&&_}
 use mathlib.Core.List.{List, [], _∷_, _++_, map, append-assoc}
 use Prim.Native.Nat.{ℕ, zero, suc, _+_, _-_, _*_, _/_, _%_, _≤_, _<_, min}
 use native.Mathlib.Omega.{arith}
 use lib.ListN.{length, take, drop, replicate, length-take, length-map, length-append, length-drop, length-replicate}
 use lib.Seq.{take-at}
-use lib.Dec.{eqb, leb}
+use lib.Dec.{leb}
 use Rattle.lists.specs.Lists.{all, fill}
-use Rattle.lists.specs.Tests.{tests, tell, and-in, and-is, leb-is, eqb-is}
+use Rattle.lists.specs.Tests.{tests, and-in, and-is, leb-is, eqb-is}
 use Rattle.rules.specs.Limits.{most-moves, sizesOk}
 use Rattle.rules.specs.Moves.{stampOf}
-use Rattle.rules.specs.Model.{Equation, Model, equationsOk, wellFormed, WellFormed}
+use Rattle.rules.specs.Model.{Equation, Model, wellFormed, WellFormed, signOk, equationIn}
 use Rattle.rules.specs.Rooms.{Rooms, lengthsOf, pairsOf, roomsOk}
 use Rattle.rules.specs.Session.{word, unword, held, sessionOf, countsOk, restOk}
 use Rattle.rules.specs.declared.Sizes.{Sizes}
 use Rattle.rules.specs.declared.Session.{Session}
-use Rattle.laws.specs.Walks.{eq-count}
+use Rattle.laws.specs.Named.{names-well, style-sign}
 use Rattle.laws.specs.ReadAccepts.{operands-small}
 
 -- All that a batch and a writing ask of a session.
@@ -46,7 +45,7 @@ words : (l : List ℕ) → map word (map unword l) ≡ l
 words [] = refl
 words (w ∷ l) = ap₂ (λ (x : ℕ) (t : List ℕ). x ∷ t) (word-unword w) (words l)
 
-unword-word : (e : Equation) → e .operator < 256 → e .first < 256 → e .second < 256 → e .kind ≤ 1 → unword (word e) ≡ e
+pub unword-word : (e : Equation) → e .operator < 256 → e .first < 256 → e .second < 256 → e .kind ≤ 1 → unword (word e) ≡ e
 unword-word e a b c d =
     let q1 : word e / 256 ≡ e .first + 256 * e .second + 65536 * (2 * e .block + e .kind) = omega arith in
     let q2 : (e .first + 256 * e .second + 65536 * (2 * e .block + e .kind)) / 256 ≡ e .second + 256 * (2 * e .block + e .kind) = omega arith in
@@ -58,17 +57,15 @@ unword-word e a b c d =
     let e5 : word e / 256 / 256 / 256 % 2 ≡ e .kind = rw (q1, q2, q3) (omega arith) in
     λ i. record { operator = e1 i; first = e2 i; second = e3 i; block = e4 i; kind = e5 i }
 
-unwords : (z : Sizes) → sizesOk z ≡ true → (i b k : ℕ) (es : List Equation) → k ≤ 1 → equationsOk z i b k es ≡ true → map unword (map word es) ≡ es
-unwords z ok i b k [] h q = refl
-unwords z ok i b k (e ∷ es) h q =
-    let f = simp and-is at q in
-    let o = operands-small z ok (e .operator) (e .first) (e .second) (f .0 .0 .1) in
-    let n : e .kind ≤ 1 =
-    elim (tell true (eqb (suc (e .block)) b)) [
-      | inl t ↦ let g = eqb-is (e .kind) k .0 (rw t at (f .0 .0 .0)) in omega arith
-      | inr t ↦ let g = simp and-is at (rw t at (f .0 .0 .0)) in leb-is _ _ .0 (g .1)
-    ] in
-    ap₂ (λ (x : Equation) (t : List Equation). x ∷ t) (unword-word e (o .0) (o .1) (o .2) n) (unwords z ok (suc i) (suc (e .block)) (e .kind) es n (f .1))
+-- Equations in range are what their words hold.
+pub signs-unwords : (z : Sizes) → sizesOk z ≡ true → (es : List Equation)
+    → ((j : ℕ) → j < length es → signOk z (equationIn es j) ≡ true) → map unword (map word es) ≡ es
+signs-unwords z ok [] h = refl
+signs-unwords z ok (e ∷ es) h =
+    let f = simp and-is at (h 0 (omega arith)) in
+    let o = operands-small z ok (e .operator) (e .first) (e .second) (f .1) in
+    ap₂ (λ (x : Equation) (t : List Equation). x ∷ t) (unword-word e (o .0) (o .1) (o .2) (leb-is (e .kind) 1 .0 (f .0)))
+    (signs-unwords z ok es (λ j l. h (suc j) (omega arith)))
 
 -- Where the check passes, the rooms hold the model that is cut out of them, and it is inside the limits.
 pub session-holds : (s : Session) (l : Rooms) → sessionOk s l ≡ true → WellFormed (held s l) × Holds s l (held s l)
@@ -101,7 +98,7 @@ holds-session s l m w h = (e, ok)
     e =
         let k = simp and-is at w in
         let u : map unword (take (s .sizes .variables) (l .equations)) ≡ m .equations =
-        ap (map unword) (h .equations) ∙ unwords (m .sizes) (k .0 .0 .0 .0 .0) 0 0 0 (m .equations) (omega arith) (k .0 .0 .1) in
+        ap (map unword) (h .equations) ∙ signs-unwords (m .sizes) (k .0 .0 .0 .0 .0) (m .equations) (style-sign (m .sizes) (m .equations) (k .0 .0 .1)) in
         λ i. record { sizes = sym (h .sizes) i; labels = h .labels i; equations = u i; moves = h .moves i }
 
     ok : sessionOk s l ≡ true
@@ -118,7 +115,7 @@ holds-session s l m w h = (e, ok)
 pub fill-length : (new room : List ℕ) → length new ≤ length room → length (fill new room) ≡ length room
 fill-length new room h = simp (length-append, length-drop) (omega arith)
 
--- The rooms that a load lays a model into, with these values, hold it.
+-- The rooms that a load lays a model into, with these values; and they hold it.
 module _ (m : Model) (values : List ℕ) (l : Rooms) where
   abbrev pub laid : Rooms
   laid = record {
@@ -140,7 +137,7 @@ module _ (m : Model) (values : List ℕ) (l : Rooms) where
       let k = simp and-is at w in
       let q = simp tests at r in
       let ls = eqb-is (length (m .labels)) (m .sizes .states) .0 (k .0 .0 .0 .0 .1) in
-      let es = eq-count (m .sizes) 0 0 0 (m .equations) (k .0 .0 .1) in
+      let es = names-well (m .sizes) (m .equations) (k .0 .0 .1) .count in
       let en : length (map word (m .equations)) ≡ m .sizes .variables = rw length-map (omega arith) in
       let zs : List ℕ = replicate (pairsOf (m .sizes)) 0 in
       let rn : length zs ≡ pairsOf (m .sizes) = length-replicate (pairsOf (m .sizes)) 0 in
@@ -161,7 +158,7 @@ module _ (m : Model) (values : List ℕ) (l : Rooms) where
         room = rw (fill-length (m .moves) (l .moves) c) c;
       }
 
--- And so do the rooms after a batch, where n is the model with its new moves.
+-- The rooms after a batch, where n is the model with its new moves; and they hold that.
 module _ (s : Session) (l : Rooms) (m n : Model) (values marks : List ℕ) where
   abbrev pub movedTo : Rooms
   movedTo = record {

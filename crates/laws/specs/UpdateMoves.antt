@@ -19,7 +19,7 @@ use Rattle.systems.specs.Marks.{shiftOf, settleOf, visits}
 use Rattle.systems.specs.Marks as K
 use Rattle.systems.specs.UpTo.{upTo, up-in, up-off, shift-at, settle-at, shift-suc, settle-suc}
 use Rattle.rules.specs.Moves.{target}
-use Rattle.rules.specs.Model.{Model, moveOk}
+use Rattle.rules.specs.Model.{Model, moveOk, blocksOf}
 use Rattle.rules.specs.Rooms.{pairsOf}
 use Rattle.rules.specs.Batch.{Change, inserts, deletes}
 use Rattle.rules.specs.Values.{Values, state, pair, stateOf, termAt, blockOf, greatest, leanings, put, settles, settledSet}
@@ -78,7 +78,7 @@ module _ (m : Model) (cs : List Change) (j : Judged (m .moves) cs) (ok : Sound m
   was-at p h = table-at (pairsOf (m .sizes)) old p h
 
   -- A pair that went from one value to the other did so in the system.
-  went-rose : (i : ℕ) → i < m .sizes .blocks → (v : Values) (q : ℕ) → went (changed cs m) i (greatest (changed cs m) i) old v q ≡ S.rose F i was v q
+  went-rose : (i : ℕ) → i < blocksOf m → (v : Values) (q : ℕ) → went (changed cs m) i (greatest (changed cs m) i) old v q ≡ S.rose F i was v q
   went-rose i lt v q =
       elim (tell true (ltb (blockOf (changed cs m) q) i)) [
         | inl e ↦
@@ -101,7 +101,7 @@ module _ (m : Model) (cs : List Change) (j : Judged (m .moves) cs) (ok : Sound m
   seeds-at b p h = seeds-same m ok cs j old was b p h near
 
   -- Shifting asks for the same pairs.
-  shifts-at : (i : ℕ) → i < m .sizes .blocks → (v : Values) (s : ℕ → Bool) (p : ℕ) → p < pairsOf (m .sizes)
+  shifts-at : (i : ℕ) → i < blocksOf m → (v : Values) (s : ℕ → Bool) (p : ℕ) → p < pairsOf (m .sizes)
       → shifts (changed cs m) cs i old v s p ≡ S.shifts F L M i was v s p
   unfolding shifts S.shifts
   shifts-at i lt v s p h =
@@ -115,7 +115,7 @@ module _ (m : Model) (cs : List Change) (j : Judged (m .moves) cs) (ok : Sound m
       ∙ ap (λ (x : Bool). here && (is (not b) (was p) && (S.seeds L M was b (is b (F .kind p)) p || x)))
       (any-same f g (M p) (λ q. ap (λ (x : Bool). s q || x) (went-rose i lt v q)))
 
-  pub shifts-same : (i : ℕ) → i < m .sizes .blocks → (v : Values) → _≡_ {A = Rule} (shifts (changed cs m) cs i old v) (S.shifts F L M i was v)
+  pub shifts-same : (i : ℕ) → i < blocksOf m → (v : Values) → _≡_ {A = Rule} (shifts (changed cs m) cs i old v) (S.shifts F L M i was v)
   unfolding shifts S.shifts
   shifts-same i lt v = fun-ext (λ s. fun-ext (λ p. elim (tell true (eqb (blockOf (changed cs m) p) i)) [
     | inl e ↦ shifts-at i lt v s p (let k = eqb-out (blockOf (changed cs m) p) i e in block-inside (changed cs m) p (omega arith))
@@ -129,7 +129,7 @@ module _ (m : Model) (cs : List Change) (j : Judged (m .moves) cs) (ok : Sound m
     pub shifted : (p : ℕ) → p < pairsOf (m .sizes) → at (turnTo (changed cs m) cs old i .shifted) p ≡ upTo F (shiftOf F L M was) i p
     pub settled : (p : ℕ) → p < pairsOf (m .sizes) → at (turnTo (changed cs m) cs old i .settled) p ≡ upTo F (settleOf F L M was) i p
 
-  module _ (i : ℕ) (lt : i < m .sizes .blocks) (h : Same i) where
+  module _ (i : ℕ) (lt : i < blocksOf m) (h : Same i) where
     shifted-is : _≡_ {A = Values} (at (shiftedIn (changed cs m) cs old i)) (shifted F L M i was (moveTo F L M was i))
     unfolding S.shifted
     shifted-is =
@@ -174,7 +174,7 @@ module _ (m : Model) (cs : List Change) (j : Judged (m .moves) cs) (ok : Sound m
               ∙ settle-suc F L M was fits-new lt p;
         }
 
-  same-to : (i : ℕ) → i ≤ m .sizes .blocks → Same i
+  same-to : (i : ℕ) → i ≤ blocksOf m → Same i
   unfolding turnTo moveTo
   same-to zero h = record {
     values = refl;
@@ -187,18 +187,18 @@ module _ (m : Model) (cs : List Change) (j : Judged (m .moves) cs) (ok : Sound m
   -- The whole update.
   pub update-values : _≡_ {A = Values} (at (turnAll (changed cs m) cs old .values)) (move F L M was)
   unfolding turnAll move
-  update-values = same-to (m .sizes .blocks) (le-refl (m .sizes .blocks)) .values
+  update-values = same-to (blocksOf m) (le-refl (blocksOf m)) .values
 
-  up-all : (d : ℕ → Bool) (p : ℕ) → p < pairsOf (m .sizes) → upTo F d (m .sizes .blocks) p ≡ d p
-  up-all d p h = up-in F d (m .sizes .blocks) p (pairs-full (changed cs m) ok′ p h)
+  up-all : (d : ℕ → Bool) (p : ℕ) → p < pairsOf (m .sizes) → upTo F d (blocksOf m) p ≡ d p
+  up-all d p h = up-in F d (blocksOf m) p (pairs-full (changed cs m) ok′ p h)
 
   pub update-shifted : (p : ℕ) → p < pairsOf (m .sizes) → at (turnAll (changed cs m) cs old .shifted) p ≡ shiftOf F L M was p
   unfolding turnAll
-  update-shifted p h = same-to (m .sizes .blocks) (le-refl (m .sizes .blocks)) .shifted p h ∙ up-all (shiftOf F L M was) p h
+  update-shifted p h = same-to (blocksOf m) (le-refl (blocksOf m)) .shifted p h ∙ up-all (shiftOf F L M was) p h
 
   pub update-settled : (p : ℕ) → p < pairsOf (m .sizes) → at (turnAll (changed cs m) cs old .settled) p ≡ settleOf F L M was p
   unfolding turnAll
-  update-settled p h = same-to (m .sizes .blocks) (le-refl (m .sizes .blocks)) .settled p h ∙ up-all (settleOf F L M was) p h
+  update-settled p h = same-to (blocksOf m) (le-refl (blocksOf m)) .settled p h ∙ up-all (settleOf F L M was) p h
 
   -- Each pair that shifted, or settled, did so in its own block.
   pub shifted-own : (p : ℕ) → p < pairsOf (m .sizes) → at (turnAll (changed cs m) cs old .shifted) p ≡ at (shiftedIn (changed cs m) cs old (blockOf (changed cs m) p)) p

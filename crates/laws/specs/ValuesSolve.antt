@@ -15,7 +15,7 @@ use Rattle.lists.specs.TableLaws.{table-is, table-past}
 use Rattle.systems.specs.System.{ev, drops, settled}
 use Rattle.systems.specs.System as S
 use Rattle.systems.specs.SolveSolution.{solve-solution, solution-largest, solution-smallest, unique}
-use Rattle.rules.specs.Model.{Model}
+use Rattle.rules.specs.Model.{Model, blocksOf}
 use Rattle.rules.specs.Rooms.{pairsOf}
 use Rattle.rules.specs.Values.{Values, blockOf, greatest, leanings, gives, Solves, Agree, Solution, put, settles, fresh, solveTo, solve}
 use Rattle.laws.specs.ModelSystem.{frame, gives-eval, block-past, block-inside, Sound, pairs-full, model-fits}
@@ -26,12 +26,12 @@ unfolding smallest
 smallest-past n rule p h = table-past n _ p h
 
 -- A pair past the count is in no block.
-pub no-block : (m : Model) (i p : ℕ) → i < m .sizes .blocks → pairsOf (m .sizes) ≤ p → eqb (blockOf m p) i ≡ false
+pub no-block : (m : Model) (i p : ℕ) → i < blocksOf m → pairsOf (m .sizes) ≤ p → eqb (blockOf m p) i ≡ false
 no-block m i p h k = eqb-no (blockOf m p) i .1 (λ e. let b = block-past m p k in omega arith)
 
 module _ (m : Model) where
   -- Settling asks for the same pairs in the model and in its system.
-  pub settles-drops : (i : ℕ) → i < m .sizes .blocks → (v : Values) → _≡_ {A = Rule} (settles m i v) (drops (frame m) (leanings m) i v)
+  pub settles-drops : (i : ℕ) → i < blocksOf m → (v : Values) → _≡_ {A = Rule} (settles m i v) (drops (frame m) (leanings m) i v)
   unfolding settles drops
   settles-drops i lt v = fun-ext (λ s. fun-ext (λ p. same s p))
     where
@@ -53,7 +53,7 @@ module _ (m : Model) where
   solve-past (suc i) p h = table-past (pairsOf (m .sizes)) _ p h
 
   -- A table of the values of the first blocks is those values.
-  solve-to : (i : ℕ) → i ≤ m .sizes .blocks → _≡_ {A = Values} (at (solveTo m i)) (S.solveTo (frame m) (leanings m) i)
+  solve-to : (i : ℕ) → i ≤ blocksOf m → _≡_ {A = Values} (at (solveTo m i)) (S.solveTo (frame m) (leanings m) i)
   unfolding solveTo S.solveTo settled
   solve-to zero h = refl
   solve-to (suc i) h =
@@ -74,12 +74,12 @@ module _ (m : Model) where
 
   pub solve-same : _≡_ {A = Values} (at (solve m)) (S.solve (frame m) (leanings m))
   unfolding solve S.solve
-  solve-same = solve-to (m .sizes .blocks) (le-refl (m .sizes .blocks))
+  solve-same = solve-to (blocksOf m) (le-refl (blocksOf m))
 
   -- Past the pairs there is nothing.
   pub solve-none : (p : ℕ) → pairsOf (m .sizes) ≤ p → at (solve m) p ≡ false
   unfolding solve
-  solve-none p h = solve-past (m .sizes .blocks) p h
+  solve-none p h = solve-past (blocksOf m) p h
 
   -- A solution of the system is one of the model, and the other way round.
   pub solution-in : (v : Values) → S.Solution (frame m) (leanings m) v → Solution m v
@@ -89,7 +89,7 @@ module _ (m : Model) where
     largest = λ i h g u a k p e t. solution-largest (frame m) (leanings m) v s i h u a (solves-in i h u k) p e g t;
   }
     where
-      solves-in : (i : ℕ) → i < m .sizes .blocks → (u : Values) → Solves m i u → S.Solves (frame m) (leanings m) i u
+      solves-in : (i : ℕ) → i < blocksOf m → (u : Values) → Solves m i u → S.Solves (frame m) (leanings m) i u
       solves-in i h u k p e = k p e ∙ gives-eval m u p (block-inside m p (omega arith))
 
   pub solution-out : (v : Values) → Solution m v → S.Solution (frame m) (leanings m) v
@@ -104,7 +104,7 @@ module _ (m : Model) where
     ];
   }
     where
-      solves-out : (i : ℕ) → i < m .sizes .blocks → (u : Values) → S.Solves (frame m) (leanings m) i u → Solves m i u
+      solves-out : (i : ℕ) → i < blocksOf m → (u : Values) → S.Solves (frame m) (leanings m) i u → Solves m i u
       solves-out i h u k p e = k p e ∙ sym (gives-eval m u p (block-inside m p (omega arith)))
 
   module _ (ok : Sound m) where
@@ -131,11 +131,11 @@ module _ (m : Model) where
       largest = λ i h g u a k p b t. sym (e p (block-inside m p (omega arith))) ∙ s .largest i h g u (agree i h u a) k p b t;
     }
       where
-        agree : (i : ℕ) → i < m .sizes .blocks → (u : Values) → Agree m i u w → Agree m i u v
+        agree : (i : ℕ) → i < blocksOf m → (u : Values) → Agree m i u w → Agree m i u v
         agree i h u a p k = a p k ∙ sym (e p (block-inside m p (omega arith)))
 
     -- Two solutions agree on every pair.
     pub solution-one : (v w : Values) → Solution m v → Solution m w → (p : ℕ) → p < pairsOf (m .sizes) → v p ≡ w p
     solution-one v w s t p h =
-        unique (frame m) (leanings m) (model-fits m ok) v w (solution-out v s) (solution-out w t) (m .sizes .blocks) (le-refl (m .sizes .blocks)) p
+        unique (frame m) (leanings m) (model-fits m ok) v w (solution-out v s) (solution-out w t) (blocksOf m) (le-refl (blocksOf m)) p
         (pairs-full m ok p h)

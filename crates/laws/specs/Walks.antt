@@ -1,5 +1,5 @@
--- Every model inside the limits is accepted back from its spelling. Assumes nothing.
-use mathlib.Core.Path.{_≡_, refl, sym, ap, _∙_, subst}
+-- The records of a model inside the limits are passed one by one, and say the model, but for components. Assumes nothing.
+use mathlib.Core.Path.{_≡_, refl, sym, ap, ap₂, _∙_, subst}
 use mathlib.Core.Logic.{_⊎_, inl, inr}
 use mathlib.Core.Bool.{Bool, true, false, cond}
 use mathlib.Core.List.{List, [], _∷_, _++_, append-assoc, append-nil}
@@ -8,24 +8,36 @@ use native.Mathlib.Nat.{add-zero, add-suc}
 use native.Mathlib.Omega.{arith}
 use lib.ListN.{length, replicate}
 use lib.Dec.{eqb, eqb·suc-zero}
-use Rattle.lists.specs.Lists.{all}
-use Rattle.lists.specs.Tests.{tests, tell, and-in, ltb-is, leb-is, eqb-is, and-is, ltb-no, or-in}
+use Rattle.lists.specs.Lists.{all, someBelow}
+use Rattle.lists.specs.Tests.{tests, tell, and-in, ltb-is, leb-is, eqb-is, eqb-no, and-is, ltb-no, or-in}
 use Rattle.rules.specs.Limits.{most-moves, sizesOk}
 use Rattle.rules.specs.Moves.{pack, source, action, target}
-use Rattle.rules.specs.Model.{Equation, Model, labelOk, moveOk, operandsOk, namesOk, runOf, equationsOk, movesOk, wellFormed}
+use Rattle.rules.specs.Model.{Equation, Model, labelOk, moveOk, operandsOk, namesOk, runOf, equationsOk, movesOk, wellFormed, signed, signOk, equationIn, guilty, numbered, styleOk}
 use Rattle.rules.specs.Records.{Rec, next, over}
 use Rattle.rules.specs.Rooms.{Lengths, roomsOk}
-use Rattle.rules.specs.Load.{Sofar, State, before, inside, started, movesDue, blockFits, labelDemands, blockDemands, equationDemands, moveDemands, endDemands, sizesDemands, afterLabel, afterBlock, afterEquation, afterMove, step, put, last}
-use Rattle.rules.specs.Spelling.{labelRecs, equationRec, blockRec, equationRecs, moveRec, moveRecs, records, sizesRec}
+use Rattle.rules.specs.Load.{Sofar, State, before, inside, started, movesDue, blockFits, labelDemands, blockDemands, equationDemands, moveDemands, endDemands, sizesDemands, afterLabel, afterBlock, afterEquation, afterMove, signedDemands, afterSigned, askChains, step, put, last}
+use Rattle.rules.specs.Spelling.{labelRecs, equationRec, blockRec, equationRecs, moveRec, moveRecs, records, sizesRec, signedRec, signedRecs, styleRecs}
 use Rattle.rules.specs.declared.Sizes.{Sizes}
 use Rattle.laws.specs.RecordLaws.{Walks, done, more, met}
+use Rattle.laws.specs.Placed.{withBlock, numbered-length, guilty-same, signs-out}
 
--- what the sizes bound
-pub small : (z : Sizes) → sizesOk z ≡ true → (1 ≤ z .states) × (z .states ≤ 256) × (1 ≤ z .actions) × (z .actions ≤ 16) × (z .propositions ≤ 32) × (1 ≤ z .variables) × (z .variables ≤ 32) × (1 ≤ z .blocks) × (z .blocks ≤ 8)
+-- A list without length is empty, and a number that is not 0 is above it.
+pub nil-of : {A : Type 0} (l : List A) → length l ≡ 0 → l ≡ []
+nil-of [] h = refl
+nil-of (v ∷ l) h = absurd (omega arith)
+
+pub eqb-pos : (b : ℕ) → eqb b 0 ≡ false → 0 < b
+eqb-pos zero e = absurd (eqb-no 0 0 .0 e refl)
+eqb-pos (suc b) e = omega arith
+
+-- What the sizes are at most, and at least.
+pub small : (z : Sizes) → sizesOk z ≡ true
+    → (1 ≤ z .states) × (z .states ≤ 256) × (1 ≤ z .actions) × (z .actions ≤ 16) × (z .propositions ≤ 32) × (1 ≤ z .variables) × (z .variables ≤ 32) × (z .blocks ≤ 8)
 unfolding sizesOk
 small z h = let k = simp tests at h in omega arith
 
--- the equations from i on are all that are left, and those after the last block record are its own
+-- The equations from i on are all that are left; a run is no longer than they are; and after the last block record it is all
+-- of them.
 pub eq-count : (z : Sizes) (i b k : ℕ) (es : List Equation) → equationsOk z i b k es ≡ true → i + length es ≡ z .variables
 eq-count z i b k [] h = let t = simp tests at h in omega arith
 eq-count z i b k (e ∷ es) h =
@@ -52,6 +64,7 @@ run-last z i b k (e ∷ es) h q =
       | inr t ↦ let g = rw t at (f .0 .0 .0) in let k = simp tests at g in absurd (omega arith)
     ]
 
+-- A move in range is the number of its parts.
 pub packed : (z : Sizes) (p : ℕ) → sizesOk z ≡ true → moveOk z (source p) (action p) (target p) ≡ true → pack (source p) (action p) (target p) ≡ p
 unfolding moveOk
 packed z p s h = let k = simp tests at h in let b = small z s in omega arith
@@ -65,7 +78,8 @@ run-none [] = refl
 run-none (e ∷ es) = rw (eqb·suc-zero (e .block)) refl
 
 module _ (l : Lengths) where
-  abbrev pub W : State → List Rec → Model → Type 0
+  -- The records, read from a state on, say the model.
+  abbrev W : State → List Rec → Model → Type 0
   W = Walks (step l) put last
 
   go-on : (x y : Sofar) (r : Rec) {rs : List Rec} {b b′ : Model} → step l (inside x) r ≡ next (inside y) → W (inside y) rs b′ → b ≡ put (inside x) r b′ → W (inside x) (r ∷ rs) b
@@ -84,7 +98,10 @@ module _ (l : Lengths) where
       met (moveDemands l x (source p) (action p) (target p)) _ (d, (k .0 .1, (rw q (k .0 .0), (ltb-is _ _ .1 f, tt)))) ∙ rw q refl in
       go-on x (afterMove x p) (moveRec p) e (moves-in (afterMove x p) ms z d (k .1) (omega arith)) (rw q refl)
 
-  -- the first block record gives the states that are left the empty set
+  labelled : Sofar → ℕ → Sofar
+  labelled x n = record { sizes = x .sizes; labels = n; blocks = x .blocks; signs = x .signs; moves = x .moves }
+
+  -- What is left to say.
   rest : Sofar → List ℕ → List Equation → List ℕ → Model
   rest x ls es ms = record { sizes = x .sizes; labels = ls; equations = es; moves = ms }
 
@@ -107,17 +124,17 @@ module _ (l : Lengths) where
   equation-in x ls e es ms rs d o n b k w =
       go-on x (afterEquation x) (equationRec e) (met (equationDemands x (e .operator) (e .first) (e .second)) _ (ltb-is _ _ .1 d, (o, (n, tt)))) w (rw (← b, ← k) refl)
 
-  equations-in : (ms : List ℕ) (x : Sofar) (es : List Equation) → sizesOk (x .sizes) ≡ true
+  equations-in : (ms : List ℕ) (x : Sofar) (es : List Equation) → sizesOk (x .sizes) ≡ true → 0 < x .sizes .blocks
       → equationsOk (x .sizes) (x .blocks .equations) (x .blocks .count) (x .blocks .kind) es ≡ true → x .blocks .due ≡ runOf (x .blocks .count) es
       → (x .blocks .count ≡ 0) ⊎ (x .labels ≡ x .sizes .states)
       → movesOk (x .sizes) (x .moves .least) ms ≡ true → x .moves .count + length ms ≤ min most-moves (l .moves)
       → W (inside x) (equationRecs (x .blocks .count) es ++ moveRecs ms) (rest x (replicate (x .sizes .states - x .labels) 0) es ms)
   unfolding step put last rest
-  equations-in ms x [] z h d i o n =
+  equations-in ms x [] z bl h d i o n =
       let k = simp tests at h in
       let b = small (x .sizes) z in
-      rw (none-left x (omega arith) i) (moves-in x ms z (and-in (eqb-is _ _ .1 d) (eqb-is _ _ .1 (k .1))) o n)
-  equations-in ms x (e ∷ es) z h d i o n =
+      rw (none-left x (omega arith) i) (moves-in x ms z (and-in (and-in (eqb-is _ _ .1 d) (eqb-is _ _ .1 (k .1))) (eqb-is _ _ .1 (k .0))) o n)
+  equations-in ms x (e ∷ es) z bl h d i o n =
       let f = simp and-is at h in
       elim (tell true (eqb (suc (e .block)) (x .blocks .count))) [
         | inl t ↦
@@ -126,7 +143,7 @@ module _ (l : Lengths) where
             let k = eqb-is (e .kind) (x .blocks .kind) .0 g in
             let u : x .blocks .due ≡ suc (runOf (x .blocks .count) es) = rw t at d in
             rw t (equation-in x _ e es ms (equationRecs (x .blocks .count) es ++ moveRecs ms) (omega arith) (f .0 .0 .1) (rw (u, ← c) (f .0 .1)) (omega arith) k
-            (equations-in ms (afterEquation x) es z (rw (← c, ← k) (f .1)) (omega arith) i o n))
+            (equations-in ms (afterEquation x) es z bl (rw (← c, ← k) (f .1)) (omega arith) i o n))
         | inr t ↦
             let g = simp and-is at (rw t at (f .0 .0 .0)) in
             let c = eqb-is (e .block) (x .blocks .count) .0 (g .0 .0) in
@@ -140,42 +157,112 @@ module _ (l : Lengths) where
             let s0 : x .sizes .states - x .sizes .states ≡ 0 = omega arith in
             let b : e .block ≡ suc (x .blocks .count) - 1 = omega arith in
             let w : W (inside (afterEquation y)) (equationRecs (suc (e .block)) es ++ moveRecs ms) (rest x [] es ms) =
-            subst (λ (k : ℕ). W (inside (afterEquation y)) (equationRecs (suc k) es ++ moveRecs ms) (rest x [] es ms)) (sym c) (rw s0 at (equations-in ms (afterEquation y) es z (rw c at (f .1)) (rw c (omega arith)) (inr refl) o n)) in
+            subst (λ (k : ℕ). W (inside (afterEquation y)) (equationRecs (suc k) es ++ moveRecs ms) (rest x [] es ms)) (sym c)
+            (rw s0 at (equations-in ms (afterEquation y) es z bl (rw c at (f .1)) (rw c (omega arith)) (inr refl) o n)) in
             rw t (go-on x y (blockRec (e .kind) (suc r))
             (met (blockDemands x (e .kind) (suc r)) _ (and-in (eqb-is _ _ .1 (rw t at d)) (g .0 .1), (block-fits x (suc r) (omega arith) (omega arith) full, (g .1, tt))))
             (equation-in y [] e es ms _ (omega arith) (f .0 .0 .1) (f .0 .1) b refl w) (rw append-nil refl))
       ]
 
-  -- k states without a label stand before
-  labels-in : (ls : List ℕ) (k : ℕ) (x : Sofar) (es : List Equation) (ms : List ℕ) → sizesOk (x .sizes) ≡ true
-      → x .labels + k + length ls ≡ x .sizes .states → all (labelOk (x .sizes)) ls ≡ true → x .blocks .count ≡ 0 → x .blocks .due ≡ 0
-      → equationsOk (x .sizes) (x .blocks .equations) 0 (x .blocks .kind) es ≡ true
+  -- Equations with signs: what is said of them has no component yet.
+  raw : ℕ → ℕ
+  raw i = 0
+
+  chains-asked : (x : Sofar) → (x .blocks .equations ≡ x .sizes .variables → someBelow (length (x .signs)) (guilty (x .signs)) ≡ false) → askChains x ≡ next (inside x)
+  chains-asked x f =
+      elim (tell true (eqb (x .blocks .equations) (x .sizes .variables))) [
+        | inl t ↦ let e = f (eqb-is (x .blocks .equations) (x .sizes .variables) .0 t) in rw (t, e) refl
+        | inr t ↦ rw t refl
+      ]
+
+  signs-in : (ms : List ℕ) (x : Sofar) (i : ℕ) (es : List Equation) → sizesOk (x .sizes) ≡ true → x .sizes .blocks ≡ 0 → x .blocks .count ≡ 0 → x .blocks .due ≡ 0
+      → x .blocks .equations + length es ≡ x .sizes .variables → (0 < length es) ⊎ (x .labels ≡ x .sizes .states)
+      → ((j : ℕ) → j < length es → signOk (x .sizes) (equationIn es j) ≡ true)
+      → someBelow (length (x .signs ++ numbered raw i es)) (guilty (x .signs ++ numbered raw i es)) ≡ false
       → movesOk (x .sizes) (x .moves .least) ms ≡ true → x .moves .count + length ms ≤ min most-moves (l .moves)
-      → W (inside x) (labelRecs (x .labels + k) ls ++ (equationRecs 0 es ++ moveRecs ms)) (rest x (replicate k 0 ++ ls) es ms)
-  unfolding step put last rest
-  labels-in [] k x es ms z h a b d q o n =
+      → W (inside x) (signedRecs es ++ moveRecs ms) (rest x (replicate (x .sizes .states - x .labels) 0) (numbered raw i es) ms)
+  unfolding step put last rest raw
+  signs-in ms x i [] z bl c d n lb g f o r =
+      let lb′ : x .labels ≡ x .sizes .states = elim lb [ inl h ↦ absurd (omega arith) | inr h ↦ h ] in
+      let s0 : x .sizes .states - x .labels ≡ 0 = omega arith in
+      let n0 : x .blocks .equations ≡ x .sizes .variables = omega arith in
+      rw s0 (moves-in x ms z (and-in (and-in (eqb-is _ _ .1 d) (eqb-is _ _ .1 (c ∙ sym bl))) (eqb-is _ _ .1 n0)) o r)
+  signs-in ms x i (e ∷ es) z bl c d n lb g f o r =
+      let y = afterSigned x (withBlock 0 e) in
+      let app : x .signs ++ numbered raw i (e ∷ es) ≡ y .signs ++ numbered raw (suc i) es = sym (append-assoc (x .signs) (withBlock 0 e ∷ []) (numbered raw (suc i) es)) in
+      let f′ : someBelow (length (y .signs ++ numbered raw (suc i) es)) (guilty (y .signs ++ numbered raw (suc i) es)) ≡ false =
+      subst (λ (q : List Equation). someBelow (length q) (guilty q) ≡ false) app f in
+      let asked : askChains y ≡ next (inside y) = chains-asked y (λ q.
+      let nil = nil-of es (omega arith) in
+      let h : y .signs ++ numbered raw (suc i) es ≡ y .signs = rw nil (append-nil (y .signs)) in
+      subst (λ (q : List Equation). someBelow (length q) (guilty q) ≡ false) h f′) in
+      let lt : x .blocks .equations < x .sizes .variables = omega arith in
+      let w = signs-in ms y (suc i) es z bl c d (omega arith) (inr refl) (λ j h. g (suc j) (omega arith)) f′ o r in
+      let s0 : x .sizes .states - x .sizes .states ≡ 0 = omega arith in
+      go-on x y (signedRec e)
+      (met (signedDemands x (withBlock 0 e)) (askChains y) (and-in (eqb-is _ _ .1 bl) (ltb-is _ _ .1 lt), (g 0 (omega arith), tt)) ∙ asked)
+      (rw s0 at w) (rw append-nil refl)
+
+  -- k states without a label stand before. Whatever may follow the labels is rs; what it says of the equations is es.
+  labels-in : (ls : List ℕ) (k : ℕ) (x : Sofar) (es : List Equation) (ms : List ℕ) (rs : List Rec)
+      → x .labels + k + length ls ≡ x .sizes .states → all (labelOk (x .sizes)) ls ≡ true → x .blocks .count ≡ 0 → x .blocks .equations ≡ 0
+      → ((n : ℕ) → n ≤ x .sizes .states → W (inside (labelled x n)) rs (rest x (replicate (x .sizes .states - n) 0) es ms))
+      → W (inside x) (labelRecs (x .labels + k) ls ++ rs) (rest x (replicate k 0 ++ ls) es ms)
+  unfolding step put last rest labelled
+  labels-in [] k x es ms rs h a b d w =
       let s0 : k ≡ x .sizes .states - x .labels = omega arith in
-      let r : x .blocks .due ≡ runOf (x .blocks .count) es = rw (b, run-none es) d in
-      let w = equations-in ms x es z (rw b q) r (inl b) o n in
-      rw (append-nil, s0) (subst (λ (c : ℕ). W (inside x) (equationRecs c es ++ moveRecs ms) (rest x (replicate (x .sizes .states - x .labels) 0) es ms)) b w)
-  labels-in (zero ∷ ls) k x es ms z h a b d q o n =
+      rw (append-nil, s0) (w (x .labels) (omega arith))
+  labels-in (zero ∷ ls) k x es ms rs h a b d w =
       let p = simp and-is at a in
-      rw (← add-suc (x .labels) k, ← zeros k ls) (labels-in ls (suc k) x es ms z (omega arith) (p .1) b d q o n)
-  labels-in (suc v ∷ ls) k x es ms z h a b d q o n =
+      rw (← add-suc (x .labels) k, ← zeros k ls) (labels-in ls (suc k) x es ms rs (omega arith) (p .1) b d w)
+  labels-in (suc v ∷ ls) k x es ms rs h a b d w =
       let p = simp and-is at a in
       let s0 : x .labels + k - x .labels ≡ k = omega arith in
       let lt : x .labels + k < x .sizes .states = omega arith in
       let ge : x .labels ≤ x .labels + k = omega arith in
-      let w = labels-in ls 0 (afterLabel x (x .labels + k)) es ms z (omega arith) (p .1) b d q o n in
+      let t = labels-in ls 0 (afterLabel x (x .labels + k)) es ms rs (omega arith) (p .1) b d w in
       go-on x (afterLabel x (x .labels + k)) (record { kind = 2; body = (x .labels + k) ∷ suc v ∷ [] })
-      (met (labelDemands x (x .labels + k) (suc v)) _ (eqb-is _ _ .1 b, (and-in (and-in (ltb-is _ _ .1 lt) (ltb-is 0 (suc v) .1 (omega arith))) (p .0), (leb-is _ _ .1 ge, tt))))
-      (rw add-zero at w) (rw (s0, append-assoc) refl)
+      (met (labelDemands x (x .labels + k) (suc v)) _
+      (and-in (eqb-is _ _ .1 b) (eqb-is _ _ .1 d), (and-in (and-in (ltb-is _ _ .1 lt) (ltb-is 0 (suc v) .1 (omega arith))) (p .0), (leb-is _ _ .1 ge, tt))))
+      (rw add-zero at t) (rw (s0, append-assoc) refl)
 
-  pub walks-records : (m : Model) → wellFormed m ≡ true → roomsOk l (m .sizes) ≡ true → length (m .moves) ≤ l .moves → W before (records m) m
-  unfolding wellFormed step put last rest records
-  walks-records m h r n =
+  -- What is read of a model: with signs, the components come after.
+  abbrev pub unplaced : Model → Model
+  unplaced m = record {
+    sizes = m .sizes;
+    labels = m .labels;
+    equations = cond (signed (m .sizes)) (numbered (λ i. 0) 0 (m .equations)) (m .equations);
+    moves = m .moves;
+  }
+
+  style-in : (m : Model) → wellFormed m ≡ true → length (m .moves) ≤ l .moves → (n : ℕ) → n ≤ m .sizes .states
+      → W (inside (labelled (started (m .sizes)) n)) (styleRecs (m .sizes) (m .equations) ++ moveRecs (m .moves))
+      (record { sizes = m .sizes; labels = replicate (m .sizes .states - n) 0; equations = unplaced m .equations; moves = m .moves })
+  unfolding wellFormed styleOk rest labelled raw
+  style-in m h q n le =
       let k = simp and-is at h in
       let c = leb-is (length (m .moves)) most-moves .0 (k .1) in
+      let z = small (m .sizes) (k .0 .0 .0 .0 .0) in
+      elim (tell true (signed (m .sizes))) [
+        | inl t ↦
+            let s = signs-out (m .sizes) (m .equations) (rw t at (k .0 .0 .1)) in
+            let e = s .count in
+            let p : someBelow (length (numbered raw 0 (m .equations))) (guilty (numbered raw 0 (m .equations))) ≡ false =
+            ap₂ someBelow (numbered-length raw 0 (m .equations)) (guilty-same raw (m .equations)) ∙ s .pure in
+            rw t (signs-in (m .moves) (labelled (started (m .sizes)) n) 0 (m .equations) (k .0 .0 .0 .0 .0) (eqb-is _ _ .0 t) refl refl (omega arith)
+            (inl (omega arith)) (s .good) p (k .0 .1) (omega arith))
+        | inr t ↦
+            let b = eqb-pos (m .sizes .blocks) t in
+            rw t (equations-in (m .moves) (labelled (started (m .sizes)) n) (m .equations) (k .0 .0 .0 .0 .0) b (rw t at (k .0 .0 .1)) (sym (run-none (m .equations)))
+            (inl refl) (k .0 .1) (omega arith))
+      ]
+
+  -- The records of a model inside the limits are passed, and say it.
+  pub walks-records : (m : Model) → wellFormed m ≡ true → roomsOk l (m .sizes) ≡ true → length (m .moves) ≤ l .moves → W before (records m) (unplaced m)
+  unfolding wellFormed step put last rest records labelled
+  walks-records m h r n =
+      let k = simp and-is at h in
       let e = eqb-is (length (m .labels)) (m .sizes .states) .0 (k .0 .0 .0 .0 .1) in
-      let w = labels-in (m .labels) 0 (started (m .sizes)) (m .equations) (m .moves) (k .0 .0 .0 .0 .0) (omega arith) (k .0 .0 .0 .1) refl refl (k .0 .0 .1) (k .0 .1) (omega arith) in
+      let w = labels-in (m .labels) 0 (started (m .sizes)) (unplaced m .equations) (m .moves)
+      (styleRecs (m .sizes) (m .equations) ++ moveRecs (m .moves)) (omega arith) (k .0 .0 .0 .1) refl refl (style-in m h n) in
       more {st = before} {st′ = inside (started (m .sizes))} (sizesRec (m .sizes)) (met (sizesDemands l (sizesRec (m .sizes))) _ (refl, (k .0 .0 .0 .0 .0, (r, tt)))) w refl

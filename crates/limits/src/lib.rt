@@ -43,7 +43,7 @@ pub fn sizes_ok(z: Sizes) -> bool
         & ((1 <= z.actions) & (z.actions <= MOST_ACTIONS))
         & (z.propositions <= MOST_PROPOSITIONS)
         & ((1 <= z.variables) & (z.variables <= MOST_VARIABLES))
-        & ((1 <= z.blocks) & (z.blocks <= MOST_BLOCKS))
+        & (z.blocks <= MOST_BLOCKS)
 }
 
 // How many pairs there are.

@@ -7,3 +7,5 @@ pub mod Sets
 pub mod Counts
 pub mod SmallestLaws
 pub mod Entries
+pub mod Ranges
+pub mod Masks

@@ -1,7 +1,7 @@
 -- Questions about lists, and sums: the words that the rules are written in. Definitions only.
-use mathlib.Core.Bool.{Bool, true, false, not, _&&_, _||_}
+use mathlib.Core.Bool.{Bool, true, false, not, cond, _&&_, _||_}
 use mathlib.Core.List.{List, [], _∷_, _++_}
-use Prim.Native.Nat.{ℕ, zero, suc, _+_}
+use Prim.Native.Nat.{ℕ, zero, suc, _+_, _^_}
 use lib.ListN.{length, drop}
 use lib.Dec.{eqb}
 
@@ -52,3 +52,20 @@ listed i (suc n) f = f i ∷ listed (suc i) n f
 -- The room with its first places filled; the places past these are as they were.
 abbrev pub fill : List ℕ → List ℕ → List ℕ
 fill new room = new ++ drop (length new) room
+
+-- The numbers below n that pass the test, as one number: bit p for number p.
+abbrev pub mask : ℕ → (ℕ → Bool) → ℕ
+mask n f = sum n (λ p. cond (f p) (2 ^ p) 0)
+
+-- Some number below n passes the test; each does; the lowest that does, or n where none does.
+abbrev pub someBelow : ℕ → (ℕ → Bool) → Bool
+someBelow zero f = false
+someBelow (suc n) f = someBelow n f || f n
+
+abbrev pub eachBelow : ℕ → (ℕ → Bool) → Bool
+eachBelow zero f = true
+eachBelow (suc n) f = eachBelow n f && f n
+
+abbrev pub lowest : ℕ → (ℕ → Bool) → ℕ
+lowest zero f = 0
+lowest (suc n) f = cond (someBelow n f) (lowest n f) (cond (f n) n (suc n))

@@ -72,5 +72,4 @@ cut-is-outside room =
       cut-below (getD room 3 0) 255 32 (omega arith),
       cut-above (getD room 3 0) 255 1 (omega arith),
       cut-below (getD room 4 0) 255 8 (omega arith),
-      cut-above (getD room 4 0) 255 1 (omega arith),
     ) refl

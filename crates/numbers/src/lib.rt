@@ -67,7 +67,7 @@ pub fn number_of(why: Refusal) -> u32
         Refusal::NotDue => 2,
         Refusal::BadSize => 3,
         Refusal::BadNumber => 4,
-        Refusal::LaterBlock => 5,
+        Refusal::Tangled => 5,
         Refusal::OutOfOrder => 6,
         Refusal::Present => 7,
         Refusal::Absent => 8,

@@ -3,23 +3,22 @@ use mathlib.Core.Path.{_≡_, refl, sym, ap, _∙_, subst}
 use mathlib.Core.Logic.{inl, inr}
 use mathlib.Core.Bool.{Bool, true, false, not, cond, _&&_, _||_}
 use mathlib.Core.List.{List, [], _∷_, map}
-use Prim.Native.Nat.{ℕ, zero, suc, _+_, _*_, _/_, _%_, _^_, _≤_, _<_}
-use native.Mathlib.Nat.{not-suc-le-zero, le-of-suc-le-suc, mod-lt}
+use Prim.Native.Nat.{ℕ, suc, _+_, _*_, _/_, _%_, _^_, _≤_, _<_}
+use native.Mathlib.Nat.{mod-lt}
 use native.Mathlib.Omega.{arith}
-use lib.ListN.{length, getD, take, drop, length-take}
-use lib.Seq.{slice, getD-take, take-take}
-use lib.Dec.{eqb, ltb}
-use Rattle.lists.specs.Lists.{is, any, all, bit}
+use lib.ListN.{getD, take}
+use lib.Seq.{getD-take}
+use lib.Dec.{eqb}
+use Rattle.lists.specs.Lists.{is, any, all}
 use Rattle.lists.specs.Tests.{tests, tell, and-is, ltb-no, ltb-is, eqb-out, eqb-no}
 use Rattle.rules.specs.Moves.{target}
-use Rattle.rules.specs.Model.{Equation, Model, operandsOk, equationsOk, wellFormed}
+use Rattle.rules.specs.Model.{Equation, Model, operandsOk, wellFormed}
 use Rattle.rules.specs.Rooms.{pairsOf}
 use Rattle.rules.specs.Calls.{valueAt}
 use Rattle.rules.specs.Values.{Values, constant, state, terms, termOf, termAt, holds, targets, givesBy, gives}
 use Rattle.rules.specs.declared.Sizes.{Sizes}
 use Rattle.rules.specs.declared.State.{State}
 use Rattle.laws.specs.Walks.{small}
-use Rattle.laws.specs.Named.{equationAt}
 use Rattle.pairs.specs.Drawn.{tableOf, Drawn}
 use Rattle.pairs.specs.Words.{ReadsAs, wordOf, leadsTo}
 use Rattle.pairs.specs.Part.{ownMoves, part-targets}
@@ -71,13 +70,6 @@ by-step m values s a b o l e h k =
     (ap (any (λ t. valueAt values (b * m .sizes .states + t))) e ∙ some-leads (m .sizes) values b l)
     (ap (all (λ t. valueAt values (b * m .sizes .states + t))) e ∙ none-leads (m .sizes) values b l)
 
--- Each equation's operator is at most 7, and what it uses lies below its count.
-operands-at : (z : Sizes) (i b k : ℕ) (es : List Equation) (j : ℕ) → equationsOk z i b k es ≡ true → j < length es
-    → operandsOk z (equationAt es j .operator) (equationAt es j .first) (equationAt es j .second) ≡ true
-operands-at z i b k [] j h l = absurd (not-suc-le-zero l)
-operands-at z i b k (e ∷ es) zero h l = simp and-is at h .0 .0 .1
-operands-at z i b k (e ∷ es) (suc j) h l = operands-at z (suc i) (suc (e .block)) (e .kind) es j (simp and-is at h .1) (le-of-suc-le-suc l)
-
 from-four : (z : Sizes) (o a b : ℕ) → operandsOk z o a b ≡ true → 4 ≤ o → o < 6 → (a < z .variables) × (b < z .variables)
 unfolding operandsOk
 from-four z o a b h k l = simp tests at (rw (ltb-no o 2 .1 (omega arith), ltb-no o 4 .1 k, ltb-is o 6 .1 l) at h)
@@ -103,10 +95,10 @@ module _ (z : Sizes) (labels equations moves : List ℕ) (n : ℕ) (d : Drawn z 
   operands-read =
       let m = tableOf z labels equations moves n in
       let ok = drawn-sound z labels equations moves n d in
-      let c = ok .count in
+      let c = ok .names .count in
       let v = variable-in z labels equations moves n d p h in
       let e = subst (λ (e : Equation). operandsOk z (e .operator) (e .first) (e .second) ≡ true) (formula-word z labels equations moves n d (p / z .states) v)
-      (operands-at z 0 0 0 (m .equations) (p / z .states) (ok .equations) (omega arith)) in
+      (ok .names .operands (p / z .states) (omega arith)) in
       rw (r .is-operator, r .is-first, r .is-second) e
 
   -- A diamond or a box names an action and a variable.

@@ -10,10 +10,10 @@ use lib.ListN.{length}
 use Rattle.lists.specs.Tests.{tests, tell, and-left}
 use Rattle.rules.specs.Limits.{sizesOk}
 use Rattle.rules.specs.Model.{Model}
-use Rattle.rules.specs.Records.{Rec, widths, known, bodyOf, bytes, bytesOf, Parts, ends, broken, part, partsFrom, parts, Outcome, refused, accepted, Turn, no, next, over, onto, atEnd, onTurn, run}
+use Rattle.rules.specs.Records.{Rec, widths, known, bodyOf, bytes, bytesOf, Parts, ends, broken, part, partsFrom, parts, Outcome, refused, accepted, Turn, no, back, next, over, onto, atEnd, onTurn, run}
 use Rattle.rules.specs.Spelling.{records, encode}
 use Rattle.rules.specs.Rooms.{Rooms, Lengths, lengthsOf}
-use Rattle.rules.specs.Load.{readModel, step, put, last, before}
+use Rattle.rules.specs.Load.{readModel, step, put, last, before, settleStyle}
 use Rattle.rules.specs.Batch.{Change, Batch, changeRecs, encodeBatch, stepBatch, putBatch, emptyBatch, first, readBatch, judge}
 use Rattle.rules.specs.Session.{held, countsOk, sessionDemands}
 use Rattle.rules.specs.Calls.{asked, andThen, loadBy, load, judged, batchBy, batch}
@@ -61,6 +61,7 @@ module _ {S B : Type 0} (n : ℕ) (step : S → Rec → Turn S) (put : S → Rec
   turn-placed : (k : S → Outcome B) → ((st : S) → Placed n (k st)) → (st : S) (p : ℕ) (r : Rec) (t : Parts) → p ≤ n → Within n t → (u : Turn S)
       → Placed n (onTurn step put last k st p r t u)
   turn-placed k f st p r t h w (no m) = h
+  turn-placed k f st p r t h w (back m d) = omega arith
   turn-placed k f st p r t h w (next st′) = onto-placed (put st r) (k st′) (f st′)
   turn-placed k f st p r t h w over = end-placed st t w
 
@@ -108,7 +109,8 @@ read-placed z w n h = run-placed n (stepBatch z) putBatch emptyBatch (parts w) f
 -- And so for a model.
 model-placed : (l : Lengths) (w : List ℕ) (n : ℕ) → length w ≤ n → Placed n (readModel l w)
 unfolding readModel
-model-placed l w n h = run-placed n (step l) put last (parts w) before (parts-within n 0 0 w (omega arith))
+model-placed l w n h =
+    onto-placed n (step l) put last settleStyle (run (step l) put last before (parts w)) (run-placed n (step l) put last (parts w) before (parts-within n 0 0 w (omega arith)))
 
 -- Fewer bytes than six are never a batch.
 short-batch : (z : Sizes) (w : List ℕ) → sizesOk z ≡ true → AreBytes w → length w < 6 → Short (readBatch z w)

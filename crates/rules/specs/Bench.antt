@@ -10,7 +10,8 @@ use Rattle.lists.specs.Lists.{fill}
 use Rattle.lists.specs.Smallest.{smallest}
 use Rattle.rules.specs.Limits.{sizesOk}
 use Rattle.rules.specs.Moves.{stampOf}
-use Rattle.rules.specs.Model.{labelOk, moveOk, operandsOk, namesOk, wellFormed}
+use Rattle.rules.specs.Model.{labelOk, moveOk, operandsOk, namesOk, guilty, componentIn, placed, signsOk, styleOk, wellFormed}
+use Rattle.rules.specs.Chains.{leads, together, mixed, reach, stands, component}
 use Rattle.rules.specs.Records.{Outcome, refused, accepted, widths, partsFrom, run}
 use Rattle.rules.specs.Rooms.{Rooms, roomsOk}
 use Rattle.rules.specs.Load.{blockFits, step, put, last, readModel}
@@ -151,5 +152,60 @@ pub bench :
 unfolding
     load readModel run partsFrom widths step put last sizesOk roomsOk blockFits labelOk moveOk operandsOk namesOk solve solveTo settles smallest
     blockOf greatest termAt gives leanings write writable countsOk restOk wellFormed stampOf records batch judged readBatch stepBatch putBatch judge edited
-    turnAll turnTo turnBlock shifts visitsOn
+    turnAll turnTo turnBlock shifts visitsOn styleOk
 bench = refl
+
+-- Equations with signs. E rewritten: X1 is component 0, X0 and X2 are component 1.
+abbrev eSigned : List ℕ
+eSigned =
+    1 ∷ 2 ∷ 0 ∷ 1 ∷ 1 ∷ 3 ∷ 0
+    ∷ 2 ∷ 1 ∷ 0 ∷ 1 ∷ 0 ∷ 0 ∷ 0
+    ∷ 11 ∷ 0 ∷ 4 ∷ 1 ∷ 2 ∷ 11 ∷ 0 ∷ 2 ∷ 0 ∷ 0 ∷ 11 ∷ 0 ∷ 6 ∷ 0 ∷ 0
+    ∷ 5 ∷ 0 ∷ 0 ∷ 0 ∷ 0 ∷ 0 ∷ 5 ∷ 0 ∷ 0 ∷ 0 ∷ 1 ∷ 0 ∷ 6 ∷ []
+
+-- One state, one action, no moves, and n equations with signs.
+abbrev signs : ℕ → List ℕ → List ℕ
+signs n es = 1 ∷ 1 ∷ 0 ∷ 1 ∷ 0 ∷ n ∷ 0 ∷ es
+
+-- X0 = false; X1 = X2 and X2, greatest; X2 = X1 or X1, least. The lowest equation on a mixed chain is X1. No end record: 5
+-- is asked before the next record is.
+abbrev second : List ℕ
+second = signs 3 (11 ∷ 0 ∷ 0 ∷ 0 ∷ 0 ∷ 11 ∷ 1 ∷ 5 ∷ 2 ∷ 2 ∷ 11 ∷ 0 ∷ 4 ∷ 1 ∷ 1 ∷ [])
+
+-- X0 = X1 or X1 and X1 = X0 or X2, both greatest; X2 = X1 or X1, least. X0 is on a mixed chain that holds X1 twice.
+abbrev repeated : List ℕ
+repeated = signs 3 (11 ∷ 1 ∷ 4 ∷ 1 ∷ 1 ∷ 11 ∷ 1 ∷ 4 ∷ 0 ∷ 2 ∷ 11 ∷ 0 ∷ 4 ∷ 1 ∷ 1 ∷ 6 ∷ [])
+
+-- X0 = X1 or X1, least; X1 = X1 and X1, greatest: two components, the named one first.
+abbrev upward : List ℕ
+upward = signs 2 (11 ∷ 0 ∷ 4 ∷ 1 ∷ 1 ∷ 11 ∷ 1 ∷ 5 ∷ 1 ∷ 1 ∷ 6 ∷ [])
+
+-- X0 = X1 or X1, least, and X1 = X0 and X0, greatest, are a mixed chain; but chains are asked after the last equation, and X2
+-- has an operator over 7.
+abbrev late : List ℕ
+late = signs 3 (11 ∷ 0 ∷ 4 ∷ 1 ∷ 1 ∷ 11 ∷ 1 ∷ 5 ∷ 0 ∷ 0 ∷ 11 ∷ 0 ∷ 8 ∷ 0 ∷ 0 ∷ [])
+
+-- The other style's record is not due.
+abbrev otherStyle : List ℕ
+otherStyle = signs 1 (4 ∷ 0 ∷ 0 ∷ 0 ∷ 6 ∷ [])
+
+abbrev signedCases : List (List Seen)
+signedCases = see eSigned (E ∷ F ∷ []) ∷ see second [] ∷ see repeated [] ∷ see upward [] ∷ see late [] ∷ see otherStyle [] ∷ []
+
+pub signed-bench :
+    signedCases
+    ≡ (loaded (room 7 (1 ∷ 1 ∷ 0 ∷ 1 ∷ 1 ∷ 0 ∷ [])) 259 (wrote eSigned) (short eSigned)
+    ∷ moved (room 7 (0 ∷ 1 ∷ 0 ∷ 1 ∷ 0 ∷ 0 ∷ [])) (room 7 (1 ∷ 0 ∷ 0 ∷ 0 ∷ 1 ∷ 0 ∷ [])) (negsuc 1) 2 0 1
+    ∷ moved (room 7 (0 ∷ 1 ∷ 0 ∷ 1 ∷ 0 ∷ 0 ∷ [])) (room 7 (0 ∷ 0 ∷ 0 ∷ 0 ∷ 0 ∷ 0 ∷ [])) (pos 0) 0 0 1
+    ∷ [])
+    ∷ (no 5 12 ∷ [])
+    ∷ (no 5 7 ∷ [])
+    ∷ (loaded (room 7 (1 ∷ 1 ∷ [])) 0 (wrote upward) (short upward) ∷ [])
+    ∷ (no 4 17 ∷ [])
+    ∷ (no 2 7 ∷ [])
+    ∷ []
+unfolding
+    load readModel run partsFrom widths step put last sizesOk roomsOk blockFits labelOk moveOk operandsOk namesOk solve solveTo settles smallest
+    blockOf greatest termAt gives leanings write writable countsOk restOk wellFormed stampOf records batch judged readBatch stepBatch putBatch judge edited
+    turnAll turnTo turnBlock shifts visitsOn styleOk signsOk guilty componentIn placed leads together mixed reach stands component
+signed-bench = refl

@@ -1,5 +1,6 @@
 pub mod Limits
 pub mod Moves
+pub mod Chains
 pub mod Model
 pub mod Records
 pub mod Rooms

@@ -28,8 +28,8 @@ most-changes = 64
 abbrev between : ℕ → ℕ → ℕ → Bool
 between low high n = leb low n && leb n high
 
--- Each size lies between its least and its most.
+-- Each size lies between its least and its most. Blocks may be 0: then equations have signs of their own.
 unfoldable pub sizesOk : Sizes → Bool
 sizesOk z =
     between 1 most-states (z .states) && between 1 most-actions (z .actions) && leb (z .propositions) most-propositions
-    && between 1 most-variables (z .variables) && between 1 most-blocks (z .blocks)
+    && between 1 most-variables (z .variables) && leb (z .blocks) most-blocks

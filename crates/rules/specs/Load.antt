@@ -1,13 +1,14 @@
 -- How a model is read, record by record: every refusal of a load, with its number and its place. Definitions only.
 use mathlib.Core.Bool.{Bool, cond, _&&_, _||_}
 use mathlib.Core.List.{List, [], _∷_, _++_}
-use Prim.Native.Nat.{ℕ, suc, _+_, _-_, min}
-use lib.ListN.{replicate}
+use Prim.Native.Nat.{ℕ, suc, _+_, _-_, _*_, min}
+use lib.ListN.{length, replicate}
 use lib.Dec.{eqb, ltb, leb}
+use Rattle.lists.specs.Lists.{someBelow, lowest}
 use Rattle.rules.specs.Limits.{most-moves, sizesOk}
 use Rattle.rules.specs.Moves.{pack}
-use Rattle.rules.specs.Model.{Equation, Model, labelOk, moveOk, operandsOk, namesOk}
-use Rattle.rules.specs.Records.{Rec, field, Turn, no, next, over, demand, Outcome, run, parts}
+use Rattle.rules.specs.Model.{Equation, Model, labelOk, moveOk, operandsOk, namesOk, signed, signOk, guilty, placed}
+use Rattle.rules.specs.Records.{Rec, field, Turn, no, back, next, over, demand, Outcome, onto, run, parts}
 use Rattle.rules.specs.Rooms.{Lengths, roomsOk}
 use Rattle.rules.specs.declared.Sizes.{Sizes}
 
@@ -24,11 +25,12 @@ pub record Moves : Type 0 where
   pub count : ℕ
   pub least : ℕ
 
--- What has been read so far, in numbers. Labels have passed the states below `labels`.
+-- What has been read so far: numbers, and the equations with signs. Labels have passed the states below `labels`.
 pub record Sofar : Type 0 where
   pub sizes : Sizes
   pub labels : ℕ
   pub blocks : Blocks
+  pub signs : List Equation
   pub moves : Moves
 
 -- Before the sizes record, and after it.
@@ -50,20 +52,21 @@ started z =
       sizes = z;
       labels = 0;
       blocks = record { count = 0; kind = 0; due = 0; equations = 0 };
+      signs = [];
       moves = record { count = 0; least = 0 };
     }
 
--- A label of state s with the set v: due before the first block; a state, a set that is not empty and not too high; in
--- order.
+-- A label of state s with the set v: due before the first block or equation; a state, a set that is not empty and not too
+-- high; in order.
 abbrev pub labelDemands : Sofar → ℕ → ℕ → List (ℕ × Bool)
 labelDemands x s v =
-    (2, eqb (x .blocks .count) 0)
+    (2, eqb (x .blocks .count) 0 && eqb (x .blocks .equations) 0)
     ∷ (4, ltb s (x .sizes .states) && ltb 0 v && labelOk (x .sizes) v)
     ∷ (6, leb (x .labels) s)
     ∷ []
 
 abbrev pub afterLabel : Sofar → ℕ → Sofar
-afterLabel x s = record { sizes = x .sizes; labels = suc s; blocks = x .blocks; moves = x .moves }
+afterLabel x s = record { sizes = x .sizes; labels = suc s; blocks = x .blocks; signs = x .signs; moves = x .moves }
 
 -- A block of kind k with n variables: due where no equation is and blocks are left; it takes 1 to all of the variables
 -- that remain, and the last block all; its kind is 0 or 1.
@@ -82,6 +85,7 @@ afterBlock x k n =
       sizes = x .sizes;
       labels = x .sizes .states;
       blocks = record { count = suc (x .blocks .count); kind = k; due = n; equations = x .blocks .equations };
+      signs = x .signs;
       moves = x .moves;
     }
 
@@ -99,12 +103,37 @@ afterEquation x =
       sizes = x .sizes;
       labels = x .labels;
       blocks = record { count = x .blocks .count; kind = x .blocks .kind; due = x .blocks .due - 1; equations = suc (x .blocks .equations) };
+      signs = x .signs;
       moves = x .moves;
     }
 
+-- An equation with a sign: due where the sizes give no blocks, and equations are left; its sign and its numbers in range.
+abbrev pub signedDemands : Sofar → Equation → List (ℕ × Bool)
+signedDemands x e =
+    (2, signed (x .sizes) && ltb (x .blocks .equations) (x .sizes .variables)) ∷ (4, signOk (x .sizes) e) ∷ []
+
+abbrev pub afterSigned : Sofar → Equation → Sofar
+afterSigned x e =
+    record {
+      sizes = x .sizes;
+      labels = x .sizes .states;
+      blocks = record { count = x .blocks .count; kind = x .blocks .kind; due = x .blocks .due; equations = suc (x .blocks .equations) };
+      signs = x .signs ++ (e ∷ []);
+      moves = x .moves;
+    }
+
+-- After the last equation with a sign no closed chain may hold both signs. The place is that of the lowest equation on such
+-- a chain: records of kind 11 have 5 bytes each, and follow one another.
+abbrev pub askChains : Sofar → Turn State
+askChains x =
+    cond (eqb (x .blocks .equations) (x .sizes .variables) && someBelow (length (x .signs)) (guilty (x .signs)))
+    (back 5 (5 * (length (x .signs) - suc (lowest (length (x .signs)) (guilty (x .signs))))))
+    (next (inside x))
+
 -- A move: due after the last equation; in range; in order; and there is room for it. The end record is due there too.
 abbrev pub movesDue : Sofar → Bool
-movesDue x = eqb (x .blocks .due) 0 && eqb (x .blocks .count) (x .sizes .blocks)
+movesDue x =
+    eqb (x .blocks .due) 0 && eqb (x .blocks .count) (x .sizes .blocks) && eqb (x .blocks .equations) (x .sizes .variables)
 
 abbrev pub moveDemands : Lengths → Sofar → ℕ → ℕ → ℕ → List (ℕ × Bool)
 moveDemands l x s a t =
@@ -116,27 +145,47 @@ moveDemands l x s a t =
 
 abbrev pub afterMove : Sofar → ℕ → Sofar
 afterMove x q =
-    record { sizes = x .sizes; labels = x .labels; blocks = x .blocks; moves = record { count = suc (x .moves .count); least = suc q } }
+    record {
+      sizes = x .sizes;
+      labels = x .labels;
+      blocks = x .blocks;
+      signs = x .signs;
+      moves = record { count = suc (x .moves .count); least = suc q };
+    }
 
 abbrev pub endDemands : Sofar → List (ℕ × Bool)
 endDemands x = (2, movesDue x) ∷ []
 
--- One record after the sizes, by its kind k and its numbers a, b, c. The kinds 1, 7, 8 and 9 are never due there.
+-- The equation that the numbers of kind 11 say, and a record of it. Its component is known once all are read.
+abbrev pub signedOf : ℕ → ℕ → ℕ → ℕ → Equation
+signedOf k o a b = record { operator = o; first = a; second = b; block = 0; kind = k }
+
+abbrev pub signOf : Rec → Equation
+signOf r = signedOf (field r 0) (field r 1) (field r 2) (field r 3)
+
+-- Where all demands are met, the reading goes on with x.
 abbrev pub go : List (ℕ × Bool) → Sofar → Turn State
 go ds x = demand ds (next (inside x))
 
-abbrev pub stepIn : Lengths → Sofar → ℕ → ℕ → ℕ → ℕ → Turn State
-stepIn l x k a b c =
+-- One record after the sizes, by its kind k and its numbers a, b, c, d; `ask` is what is asked after an equation with a
+-- sign. The kinds 1, 7, 8 and 9 are never due there.
+abbrev pub stepIn : (Sofar → Turn State) → Lengths → Sofar → ℕ → ℕ → ℕ → ℕ → ℕ → Turn State
+stepIn ask l x k a b c d =
     cond (eqb k 2) (go (labelDemands x a b) (afterLabel x a))
     (cond (eqb k 3) (go (blockDemands x a b) (afterBlock x a b))
     (cond (eqb k 4) (go (equationDemands x a b c) (afterEquation x))
     (cond (eqb k 5) (go (moveDemands l x a b c) (afterMove x (pack a b c)))
     (cond (eqb k 6) (demand (endDemands x) over)
-    (no 2)))))
+    (cond (eqb k 11) (demand (signedDemands x (signedOf a b c d)) (ask (afterSigned x (signedOf a b c d))))
+    (no 2))))))
 
+abbrev pub stepBy : (Sofar → Turn State) → Lengths → State → Rec → Turn State
+stepBy ask l before r = go (sizesDemands l r) (started (sizesOf r))
+stepBy ask l (inside x) r = stepIn ask l x (r .kind) (field r 0) (field r 1) (field r 2) (field r 3)
+
+-- One record, where chains are asked after the last equation with a sign.
 unfoldable pub step : Lengths → State → Rec → Turn State
-step l before r = go (sizesDemands l r) (started (sizesOf r))
-step l (inside x) r = stepIn l x (r .kind) (field r 0) (field r 1) (field r 2)
+step l st r = stepBy askChains l st r
 
 -- What a record says, in front of what the later ones say. States without a label have the empty set.
 abbrev pub putLabels : List ℕ → Model → Model
@@ -151,17 +200,18 @@ putMove q m = record { sizes = m .sizes; labels = m .labels; equations = m .equa
 abbrev pub equationOf : Sofar → ℕ → ℕ → ℕ → Equation
 equationOf x o a b = record { operator = o; first = a; second = b; block = x .blocks .count - 1; kind = x .blocks .kind }
 
-abbrev pub sayIn : Sofar → ℕ → ℕ → ℕ → ℕ → Model → Model
-sayIn x k a b c m =
+abbrev pub sayIn : Sofar → ℕ → ℕ → ℕ → ℕ → ℕ → Model → Model
+sayIn x k a b c d m =
     cond (eqb k 2) (putLabels (replicate (a - x .labels) 0 ++ (b ∷ [])) m)
     (cond (eqb k 3) (putLabels (replicate (x .sizes .states - x .labels) 0) m)
     (cond (eqb k 4) (putEquation (equationOf x a b c) m)
     (cond (eqb k 5) (putMove (pack a b c) m)
-    m)))
+    (cond (eqb k 11) (putLabels (replicate (x .sizes .states - x .labels) 0) (putEquation (signedOf a b c d) m))
+    m))))
 
 unfoldable pub put : State → Rec → Model → Model
 put before r m = m
-put (inside x) r m = sayIn x (r .kind) (field r 0) (field r 1) (field r 2) m
+put (inside x) r m = sayIn x (r .kind) (field r 0) (field r 1) (field r 2) (field r 3) m
 
 abbrev pub lastOf : Sizes → Model
 lastOf z = record { sizes = z; labels = []; equations = []; moves = [] }
@@ -170,6 +220,16 @@ unfoldable pub last : State → Model
 last before = lastOf (record { states = 0; actions = 0; propositions = 0; variables = 0; blocks = 0 })
 last (inside x) = lastOf (x .sizes)
 
+-- The model once all is read: with signs, the components take the place of blocks.
+abbrev pub settleStyle : Model → Model
+settleStyle m =
+    record {
+      sizes = m .sizes;
+      labels = m .labels;
+      equations = cond (signed (m .sizes)) (placed (m .equations)) (m .equations);
+      moves = m .moves;
+    }
+
 -- The model that the bytes spell, or the refusal, where the rooms lent have these lengths.
 unfoldable pub readModel : Lengths → List ℕ → Outcome Model
-readModel l s = run (step l) put last before (parts s)
+readModel l s = onto settleStyle (run (step l) put last before (parts s))

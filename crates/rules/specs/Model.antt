@@ -1,16 +1,17 @@
 -- What a model is, and which models are inside the limits. Definitions only.
 use mathlib.Core.Path.{_≡_}
-use mathlib.Core.Bool.{Bool, true, cond, _&&_}
+use mathlib.Core.Bool.{Bool, true, not, cond, _&&_}
 use mathlib.Core.List.{List, [], _∷_}
-use Prim.Native.Nat.{ℕ, suc, _+_, _^_}
-use lib.ListN.{length}
+use Prim.Native.Nat.{ℕ, suc, _+_, _^_, max}
+use lib.ListN.{length, getD}
 use lib.Dec.{eqb, ltb, leb}
-use Rattle.lists.specs.Lists.{all}
+use Rattle.lists.specs.Lists.{all, someBelow, eachBelow}
 use Rattle.rules.specs.Limits.{most-moves, sizesOk}
 use Rattle.rules.specs.Moves.{source, action, target}
+use Rattle.rules.specs.Chains.{Names, mixed, component}
 use Rattle.rules.specs.declared.Sizes.{Sizes}
 
--- A variable's equation as the wire has it, the number of its block, and the block's kind: 0 least, 1 greatest.
+-- A variable's equation as the wire has it, the number of its block or component, and the kind of that: 0 least, 1 greatest.
 pub record Equation : Type 0 where
   pub operator : ℕ
   pub first : ℕ
@@ -61,6 +62,67 @@ equationsOk z i b k (e ∷ l) =
     && namesOk (i + suc (runOf (suc (e .block)) l)) (e .operator) (e .first) (e .second)
     && equationsOk z (suc i) (suc (e .block)) (e .kind) l
 
+-- The equations have signs of their own: the sizes give blocks as 0.
+abbrev pub signed : Sizes → Bool
+signed z = eqb (z .blocks) 0
+
+-- What stands where there is no equation. It names nothing.
+abbrev pub nothing : Equation
+nothing = record { operator = 0; first = 0; second = 0; block = 0; kind = 0 }
+
+-- The equation of variable x.
+abbrev pub equationIn : List Equation → ℕ → Equation
+equationIn es x = getD es x nothing
+
+-- The variables that an equation names.
+abbrev pub namesOf : Equation → List ℕ
+namesOf e = cond (ltb (e .operator) 4) [] (cond (ltb (e .operator) 6) (e .first ∷ e .second ∷ []) (e .second ∷ []))
+
+-- The variables that the equation of each variable names.
+abbrev pub namesIn : List Equation → Names
+namesIn es x = namesOf (equationIn es x)
+
+-- Equation x lies on a closed chain that holds both signs.
+unfoldable pub guilty : List Equation → ℕ → Bool
+guilty es x = mixed (length es) (namesIn es) (λ y. equationIn es y .kind) x
+
+-- The number of the component of variable x.
+unfoldable pub componentIn : List Equation → ℕ → ℕ
+componentIn es x = component (length es) (namesIn es) x
+
+-- The equations from number i on, each with the number that `at` gives for its block.
+abbrev pub numbered : (ℕ → ℕ) → ℕ → List Equation → List Equation
+numbered at i [] = []
+numbered at i (e ∷ l) =
+    record { operator = e .operator; first = e .first; second = e .second; block = at i; kind = e .kind } ∷ numbered at (suc i) l
+
+-- Each equation with its component for its block.
+unfoldable pub placed : List Equation → List Equation
+placed es = numbered (componentIn es) 0 es
+
+-- An equation with a sign of its own: 0 or 1, and its numbers in range.
+abbrev pub signOk : Sizes → Equation → Bool
+signOk z e = leb (e .kind) 1 && operandsOk z (e .operator) (e .first) (e .second)
+
+-- Equations with signs: one for each variable, in range; no closed chain holds both signs; and each one's block is its
+-- component.
+unfoldable pub signsOk : Sizes → List Equation → Bool
+signsOk z es =
+    eqb (length es) (z .variables) && eachBelow (length es) (λ x. signOk z (equationIn es x))
+    && not (someBelow (length es) (guilty es)) && eachBelow (length es) (λ x. eqb (equationIn es x .block) (componentIn es x))
+
+-- How many blocks or components there are: one more than the highest number, in equations and in a model.
+abbrev pub blocksIn : List Equation → ℕ
+blocksIn [] = 0
+blocksIn (e ∷ l) = max (suc (e .block)) (blocksIn l)
+
+abbrev pub blocksOf : Model → ℕ
+blocksOf m = blocksIn (m .equations)
+
+-- The equations are well formed in the style that the sizes tell.
+unfoldable pub styleOk : Sizes → List Equation → Bool
+styleOk z es = cond (signed z) (signsOk z es) (equationsOk z 0 0 0 es)
+
 -- The moves are in range and strictly ascend, the first from `least` on.
 abbrev pub movesOk : Sizes → ℕ → List ℕ → Bool
 movesOk z least [] = true
@@ -70,7 +132,7 @@ movesOk z least (q ∷ l) = leb least q && moveOk z (source q) (action q) (targe
 unfoldable pub wellFormed : Model → Bool
 wellFormed m =
     sizesOk (m .sizes) && eqb (length (m .labels)) (m .sizes .states) && all (labelOk (m .sizes)) (m .labels)
-    && equationsOk (m .sizes) 0 0 0 (m .equations) && movesOk (m .sizes) 0 (m .moves) && leb (length (m .moves)) most-moves
+    && styleOk (m .sizes) (m .equations) && movesOk (m .sizes) 0 (m .moves) && leb (length (m .moves)) most-moves
 
 abbrev pub WellFormed : Model → Type 0
 WellFormed m = wellFormed m ≡ true

@@ -1,15 +1,15 @@
 -- Records on the wire: how one is read and written, and how a run of them is judged. Definitions only.
-use mathlib.Core.Bool.{Bool, cond, _&&_}
+use mathlib.Core.Bool.{Bool, not, cond, _&&_}
 use mathlib.Core.List.{List, [], _∷_, _++_}
-use Prim.Native.Nat.{ℕ, zero, suc, _+_, _*_, _/_, _%_}
+use Prim.Native.Nat.{ℕ, zero, suc, _+_, _-_, _*_, _/_, _%_}
 use lib.ListN.{length, getD, drop}
-use lib.Dec.{ltb, leb}
+use lib.Dec.{eqb, ltb, leb}
 use Rattle.lists.specs.Lists.{sumOf}
 use Rattle.rules.specs.declared.Move.{Move}
 use Rattle.rules.specs.declared.Record.{Record}
 use Rattle.rules.specs.declared.Record.the-variants as R
 
--- The numbers of a body, each by its width in bytes, for the kinds 0 to 9. (There is no kind 0.)
+-- The numbers of a body, each by its width in bytes, for the kinds 0 to 11. There is no kind 0 and no kind 10.
 abbrev pub bodies : List (List ℕ)
 bodies =
     []
@@ -23,12 +23,14 @@ bodies =
     ∷ (2 ∷ 1 ∷ 2 ∷ [])
     ∷ (2 ∷ 1 ∷ 2 ∷ [])
     ∷ []
+    ∷ (1 ∷ 1 ∷ 1 ∷ 1 ∷ [])
+    ∷ []
 
 unfoldable pub widths : ℕ → List ℕ
 widths k = getD bodies k []
 
 abbrev pub known : ℕ → Bool
-known k = ltb 0 k && ltb k 10
+known k = ltb 0 k && ltb k 12 && not (eqb k 10)
 
 -- The length of a body.
 abbrev pub bodyOf : List ℕ → ℕ
@@ -76,6 +78,7 @@ numbersOf R.End = record { kind = 6; body = [] }
 numbersOf (R.Stamp n) = record { kind = 7; body = n ∷ [] }
 numbersOf (R.Insert m) = record { kind = 8; body = moveNumbers m }
 numbersOf (R.Delete m) = record { kind = 9; body = moveNumbers m }
+numbersOf (R.Signed k o a b) = record { kind = 11; body = k ∷ o ∷ a ∷ b ∷ [] }
 
 -- The bytes of a record, and of several.
 abbrev pub bytes : Rec → List ℕ
@@ -109,9 +112,11 @@ pub data Outcome (B : Type 0) : Type 0 where
   refused : ℕ → ℕ → Outcome B
   accepted : B → Outcome B
 
--- What one record does to what has been read so far: a refusal, the state after it, or the end of the run.
+-- What one record does to what has been read so far: a refusal; a refusal at a record so many bytes before; the state
+-- after it; or the end of the run.
 pub data Turn (S : Type 0) : Type 0 where
   no : ℕ → Turn S
+  back : ℕ → ℕ → Turn S
   next : S → Turn S
   over : Turn S
 
@@ -134,6 +139,7 @@ module _ {S B : Type 0} (step : S → Rec → Turn S) (put : S → Rec → B →
 
   abbrev pub onTurn : (S → Outcome B) → S → ℕ → Rec → Parts → Turn S → Outcome B
   onTurn k st p r t (no n) = refused n p
+  onTurn k st p r t (back n d) = refused n (p - d)
   onTurn k st p r t (next st′) = onto (put st r) (k st′)
   onTurn k st p r t over = atEnd st t
 

@@ -8,7 +8,7 @@ use lib.Dec.{eqb, ltb}
 use Rattle.lists.specs.Lists.{is, any, bit, count, sum}
 use Rattle.lists.specs.Smallest.{table, at, smallest}
 use Rattle.rules.specs.Moves.{target}
-use Rattle.rules.specs.Model.{Model}
+use Rattle.rules.specs.Model.{Model, blocksOf}
 use Rattle.rules.specs.Rooms.{pairsOf}
 use Rattle.rules.specs.Batch.{Change, inserts, deletes, edited}
 use Rattle.rules.specs.Values.{Values, Term, constant, proposition, join, step, state, pair, stateOf, termAt, blockOf, greatest, own, leanings, put, settledSet}
@@ -93,7 +93,7 @@ turnTo m cs old (suc i) = turnBlock m cs old i (turnTo m cs old i)
 
 -- The whole update: m is the model with its new moves, cs the changes that made them, old the values before.
 unfoldable pub turnAll : Model → List Change → Values → Turned
-turnAll m cs old = turnTo m cs old (m .sizes .blocks)
+turnAll m cs old = turnTo m cs old (blocksOf m)
 
 -- 0 never turned, 1 shifted and stayed, 2 shifted and came back, 3 turned by settling only.
 abbrev pub markOf : Bool → Bool → ℕ

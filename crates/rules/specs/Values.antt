@@ -1,5 +1,5 @@
--- What the equations say: leanings, what an equation gives, and the values of a model, block by block.
--- Definitions only.
+-- What the equations say: leanings, what an equation gives, and the values of a model, block by block. Where equations have
+-- signs, a block is a component. Definitions only.
 use mathlib.Core.Path.{_≡_}
 use mathlib.Core.Bool.{Bool, true, false, not, cond, _&&_, _||_}
 use mathlib.Core.List.{List, [], _∷_, map}
@@ -9,7 +9,7 @@ use lib.Dec.{eqb, ltb}
 use Rattle.lists.specs.Lists.{is, any, all}
 use Rattle.lists.specs.Smallest.{table, at, smallest}
 use Rattle.rules.specs.Moves.{source, action, target}
-use Rattle.rules.specs.Model.{Equation, Model}
+use Rattle.rules.specs.Model.{Equation, Model, nothing, blocksOf}
 use Rattle.rules.specs.Rooms.{pairsOf}
 use Rattle.rules.specs.declared.State.{State}
 use Rattle.rules.specs.declared.Action.{Action}
@@ -59,9 +59,6 @@ terms a b =
 abbrev pub termOf : Equation → Term
 termOf e = getD (terms (e .first) (e .second)) (e .operator) (constant false)
 
-abbrev pub nothing : Equation
-nothing = record { operator = 0; first = 0; second = 0; block = 0; kind = 0 }
-
 -- The equation of a variable.
 abbrev pub equationAt : Model → Variable → Equation
 equationAt m x = getD (m .equations) (x .0) nothing
@@ -72,7 +69,7 @@ termAt m p = termOf (equationAt m (variableOf (m .sizes) p))
 
 -- The block of a pair. What is no pair lies past the last block.
 unfoldable pub blockOf : Model → ℕ → ℕ
-blockOf m p = cond (ltb p (pairsOf (m .sizes))) (equationAt m (variableOf (m .sizes) p) .block) (m .sizes .blocks)
+blockOf m p = cond (ltb p (pairsOf (m .sizes))) (equationAt m (variableOf (m .sizes) p) .block) (blocksOf m)
 
 -- Is block i greatest? Its equations say so.
 abbrev pub greatestIn : ℕ → List Equation → Bool
@@ -127,10 +124,10 @@ Agree m i u v = (p : ℕ) → blockOf m p < i → u p ≡ v p
 -- The values of a model. Blocks in order: with earlier blocks fixed, a least block has the smallest assignment to its
 -- pairs that solves its equations, a greatest block the largest.
 pub record Solution (m : Model) (v : Values) : Type 0 where
-  pub solves : (i : ℕ) → i < m .sizes .blocks → Solves m i v
-  pub smallest : (i : ℕ) → i < m .sizes .blocks → greatest m i ≡ false → (u : Values) → Agree m i u v → Solves m i u
+  pub solves : (i : ℕ) → i < blocksOf m → Solves m i v
+  pub smallest : (i : ℕ) → i < blocksOf m → greatest m i ≡ false → (u : Values) → Agree m i u v → Solves m i u
       → (p : ℕ) → blockOf m p ≡ i → v p ≡ true → u p ≡ true
-  pub largest : (i : ℕ) → i < m .sizes .blocks → greatest m i ≡ true → (u : Values) → Agree m i u v → Solves m i u
+  pub largest : (i : ℕ) → i < blocksOf m → greatest m i ≡ true → (u : Values) → Agree m i u v → Solves m i u
       → (p : ℕ) → blockOf m p ≡ i → u p ≡ true → v p ≡ true
 
 -- The values v, but c at the pairs of a set.
@@ -161,4 +158,4 @@ solveTo m (suc i) =
     table n (put (not (greatest m i)) (at v) (at (settledSet m i (at v))))
 
 unfoldable pub solve : Model → List Bool
-solve m = solveTo m (m .sizes .blocks)
+solve m = solveTo m (blocksOf m)

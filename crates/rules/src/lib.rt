@@ -36,7 +36,7 @@ pub enum Refusal {
     NotDue,
     BadSize,
     BadNumber,
-    LaterBlock,
+    Tangled,
     OutOfOrder,
     Present,
     Absent,
@@ -94,4 +94,5 @@ pub enum Record {
     Stamp(u32),
     Insert(Move),
     Delete(Move),
+    Signed(u8, u8, u8, u8),
 }

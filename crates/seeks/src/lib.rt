@@ -116,27 +116,28 @@ fn seek_phase(
     }
 }
 
-// The place of the next look.
+// The place of the next look, where there are so many blocks.
 pub fn seek_look(
     sizes: Sizes,
     labels: &[u32],
     equations: &[u32],
     moves: &[u32],
     n: usize,
+    blocks: usize,
     block: usize,
     settling: bool,
     place: usize,
 ) -> Spot
     requires { ⌜ Drawn sizes (now labels) (now equations) (now moves) n ⌝ }
-    requires { ⌜ (place ≤ pairsOf sizes) × (block < 1000) ⌝ }
+    requires { ⌜ (place ≤ pairsOf sizes) × ((block < 1000) × (blocks < 1000)) ⌝ }
     ensures { λ r. ⌜ placeOf (r .block) (r .settling) (r .place)
-        ≡ seek (frame (tableOf sizes (now (labels .entry)) (now (equations .entry)) (now (moves .entry)) n)) (phases (sizes .blocks - block) settling) block settling place ⌝ }
+        ≡ seek (frame (tableOf sizes (now (labels .entry)) (now (equations .entry)) (now (moves .entry)) n)) (phases (blocks - block) settling) block settling place ⌝ }
 {
     let mut at = Spot {
         block: block,
         settling: settling,
         place: place,
-        left: phases_left(sizes.blocks as usize, block, settling),
+        left: phases_left(blocks, block, settling),
     };
     while 0 < at.left {
         at = seek_phase(sizes, labels, equations, moves, n, at);

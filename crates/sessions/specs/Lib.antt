@@ -2,3 +2,4 @@ pub mod Tested
 pub mod EquationWalk
 pub mod MoveWalk
 pub mod CheckedMoves
+pub mod SignedWords

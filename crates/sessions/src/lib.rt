@@ -1,11 +1,12 @@
 // The check of a whole session: its counts, its rooms, and whether they hold a model inside the limits.
 ghost use mathlib.Core.Path.{_≡_};
 ghost use mathlib.Core.List.{map};
-ghost use Prim.Native.Nat.{_+_, _<_};
+ghost use Prim.Native.Nat.{_+_, _≤_, _<_};
 ghost use lib.ListN.{take};
 ghost use lib.Dec.{leb};
 ghost use Rattle.lists.specs.Lists.{all};
-ghost use Rattle.rules.specs.Model.{labelOk, runOf, equationsOk, movesOk, wellFormed};
+ghost use Rattle.rules.specs.Model.{labelOk, runOf, equationsOk, movesOk, wellFormed, signOk, signsOk, styleOk};
+ghost use Rattle.sessions.specs.SignedWords.{eachSign};
 ghost use Rattle.rules.specs.Session.{unword, restOk};
 ghost use Rattle.sessions.specs.Tested.{countsBy, roomsOf, heldIn, goesOn, equationOk};
 ghost use Rattle.sessions.specs.EquationWalk.{equationsFrom};
@@ -134,6 +135,51 @@ fn equations_ok(sizes: Sizes, equations: &[u32], n: usize) -> bool
     ok & ((i == sizes.variables as usize) & (b == sizes.blocks as u32))
 }
 
+// Whether an equation with a sign has its sign and its numbers in range.
+fn sign_ok(sizes: Sizes, w: u32) -> bool
+    ensures { λ r. ⌜ r ≡ signOk sizes (unword w) ⌝ }
+{
+    let o = (w % 256) as u8;
+    let first = (w / 256 % 256) as u8;
+    let second = (w / 256 / 256 % 256) as u8;
+    (kind_of(w) <= 1) & limits::operands_ok(sizes, o, first, second)
+}
+
+// Whether each of the first n equations has.
+fn each_sign_ok(sizes: Sizes, equations: &[u32], n: usize) -> bool
+    ensures { λ r. ⌜ r ≡ eachSign sizes (now (equations .entry)) n ⌝ }
+{
+    let mut x: usize = 0;
+    let mut ok = true;
+    while x < n {
+        ok = ok & sign_ok(sizes, rooms::word_at(equations, x));
+        x = x + 1;
+    }
+    ok
+}
+
+// Whether the first n equations are those of a model with signs.
+fn signs_ok(sizes: Sizes, equations: &[u32], n: usize) -> bool
+    requires { ⌜ (n ≡ sizes .variables) × (n ≤ 32) ⌝ }
+    ensures { λ r. ⌜ r ≡ signsOk sizes (map unword (take n (now (equations .entry)))) ⌝ }
+{
+    if equations.len() < n {
+        return false;
+    }
+    each_sign_ok(sizes, equations, n) & components::chains_ok(equations, n)
+}
+
+// Whether the first n equations are those of a model, in the style that the sizes tell.
+fn style_ok(sizes: Sizes, equations: &[u32], n: usize) -> bool
+    requires { ⌜ (n ≡ sizes .variables) × (n ≤ 32) ⌝ }
+    ensures { λ r. ⌜ r ≡ styleOk sizes (map unword (take n (now (equations .entry)))) ⌝ }
+{
+    if sizes.blocks == 0 {
+        return signs_ok(sizes, equations, n);
+    }
+    equations_ok(sizes, equations, n)
+}
+
 // Whether the rooms hold a model inside the limits.
 pub fn model_ok(session: Session, labels: &[u32], equations: &[u32], moves: &[u32]) -> bool
     ensures { λ r. ⌜ r ≡ wellFormed (heldIn session (now (labels .entry)) (now (equations .entry)) (now (moves .entry))) ⌝ }
@@ -141,10 +187,12 @@ pub fn model_ok(session: Session, labels: &[u32], equations: &[u32], moves: &[u3
     let sizes = session.sizes;
     let states = sizes.states as usize;
     let count = session.moves as usize;
-    limits::sizes_ok(sizes)
-        & (table::least(states, labels.len()) == states)
+    if !limits::sizes_ok(sizes) {
+        return false;
+    }
+    (table::least(states, labels.len()) == states)
         & labels_ok(sizes, labels, states)
-        & equations_ok(sizes, equations, sizes.variables as usize)
+        & style_ok(sizes, equations, sizes.variables as usize)
         & moves_ok(sizes, moves, count)
         & (table::least(count, moves.len()) <= limits::MOST_MOVES)
 }

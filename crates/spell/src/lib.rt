@@ -5,8 +5,8 @@ ghost use Prim.Native.Nat.{_%_, _<_};
 ghost use lib.Seq.{sets};
 ghost use Rattle.rules.specs.Records.{bytes};
 ghost use Rattle.rules.specs.Session.{unword};
-ghost use Rattle.rules.specs.Spelling.{sizesRec, blockRec, equationRec, moveRec, endRec};
-ghost use Rattle.spell.specs.Written.{labelRec};
+ghost use Rattle.rules.specs.Spelling.{sizesRec, blockRec, equationRec, signedRec, moveRec, endRec};
+ghost use Rattle.spell.specs.Written.{labelRec, operatorBytes};
 use rules::Sizes;
 
 // Two bytes written from a place on, three, and four.
@@ -39,6 +39,14 @@ fn low(x: u32) -> u8
     ensures { λ r. ⌜ r ≡ x % 256 ⌝ }
 {
     (x % 256) as u8
+}
+
+// The operator of an equation and what it speaks of.
+fn put_operator(out: &mut [u8], at: usize, w: u32)
+    requires { ⌜ at < 65552 ⌝ }
+    ensures { λ _. ⌜ now (out .exit) ≡ sets (now (out .entry)) at (operatorBytes (unword w)) ⌝ }
+{
+    put3(out, at, low(w), low(w / 256), low(w / 256 / 256));
 }
 
 // Each kind of record of a model, written from a place on.
@@ -77,7 +85,16 @@ pub fn write_equation(out: &mut [u8], at: usize, w: u32)
     requires { ⌜ at < 65536 ⌝ }
     ensures { λ _. ⌜ now (out .exit) ≡ sets (now (out .entry)) at (bytes (equationRec (unword w))) ⌝ }
 {
-    put4(out, at, 4, low(w), low(w / 256), low(w / 256 / 256));
+    rooms::set_byte(out, at, 4);
+    put_operator(out, at + 1, w);
+}
+
+pub fn write_signed(out: &mut [u8], at: usize, w: u32)
+    requires { ⌜ at < 65536 ⌝ }
+    ensures { λ _. ⌜ now (out .exit) ≡ sets (now (out .entry)) at (bytes (signedRec (unword w))) ⌝ }
+{
+    put2(out, at, 11, low(w / 256 / 256 / 256 % 2));
+    put_operator(out, at + 2, w);
 }
 
 pub fn write_move(out: &mut [u8], at: usize, q: u32)

@@ -1,2 +1,3 @@
 pub mod Starts
 pub mod Differences
+pub mod BlockCount

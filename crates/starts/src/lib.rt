@@ -1,12 +1,15 @@
 // What is done once for each update, before its first unit and after its last: rooms are set to where the machine starts,
-// and the pairs that are true are counted.
+// and blocks and true pairs are counted.
 use rules::Sizes;
 ghost use mathlib.Core.Path.{_≡_};
-ghost use Prim.Native.Nat.{_≤_, _<_};
+ghost use mathlib.Core.List.{map};
+ghost use Prim.Native.Nat.{suc, _≤_, _<_, max};
 ghost use lib.IntN.{pos, _-ℤ_};
-ghost use lib.ListN.{length, replicate};
+ghost use lib.ListN.{length, getD, take, replicate};
 ghost use lib.Dec.{eqb};
 ghost use Rattle.lists.specs.Lists.{bit, fill};
+ghost use Rattle.rules.specs.Model.{blocksIn};
+ghost use Rattle.rules.specs.Session.{unword};
 ghost use Rattle.rules.specs.Update.{trues};
 ghost use Rattle.rules.specs.Calls.{valueAt, bits};
 ghost use Rattle.pairs.specs.Words.{kindIn};
@@ -45,6 +48,32 @@ pub fn own_values(sizes: Sizes, equations: &[u32], n: usize, values: &mut [u8])
         rooms::set_byte(values, p, v);
         p = p + 1;
     }
+}
+
+// One more than the block of variable x, or the count where that is no less.
+fn with_block(equations: &[u32], x: usize, count: usize) -> usize
+    ensures { λ r. ⌜ r ≡ max (suc (unword (getD (now (equations .entry)) x 0) .block)) count ⌝ }
+{
+    let e = pairs::formula_at(equations, x);
+    let past = e.block as usize + 1;
+    if count < past {
+        return past;
+    }
+    count
+}
+
+// How many blocks or components the first n equations have: one more than the highest number.
+pub fn count_blocks(equations: &[u32], n: usize) -> usize
+    requires { ⌜ n ≤ length (now equations) ⌝ }
+    ensures { λ r. ⌜ r ≡ blocksIn (map unword (take n (now (equations .entry)))) ⌝ }
+{
+    let mut r: usize = 0;
+    let mut x: usize = 0;
+    while x < n {
+        r = with_block(equations, x, r);
+        x = x + 1;
+    }
+    r
 }
 
 // 1 for a true pair, 0 for a false one.

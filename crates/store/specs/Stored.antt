@@ -1,22 +1,25 @@
 -- What a model leaves in the rooms for labels, equations and moves. Definitions only.
 use mathlib.Core.Path.{_≡_}
+use mathlib.Core.Bool.{cond}
 use mathlib.Core.List.{List, map}
 use Prim.Native.Nat.{ℕ, _-_}
 use lib.ListN.{length, set, replicate}
 use lib.Seq.{sets}
 use Rattle.lists.specs.Lists.{fill}
-use Rattle.rules.specs.Load.{Sofar, equationOf, readModel}
+use Rattle.rules.specs.Load.{Sofar, equationOf, signedOf, readModel}
 use Rattle.rules.specs.Rooms.{Lengths}
 use Rattle.judge.specs.Progress.{sofarOf}
 use Rattle.judge.specs.Turning.{readSays, summary}
 use Rattle.judge.specs.declared.OneTurn.{OneTurn}
 use Rattle.judge.specs.declared.OneTurn.the-variants as T
 use Rattle.judge.specs.declared.ReadModel.{ReadModel}
-use Rattle.rules.specs.Model.{Model}
+use Rattle.rules.specs.Model.{Model, signed, placed}
 use Rattle.rules.specs.Moves.{pack, wrap}
 use Rattle.rules.specs.Records.{Outcome, refused, accepted}
 use Rattle.rules.specs.Session.{word}
 use Rattle.rules.specs.declared.Record.{Record}
+use Rattle.rules.specs.declared.Sizes.{Sizes}
+use Rattle.components.specs.Stored.{held}
 use Rattle.rules.specs.declared.Record.the-variants as R
 
 -- The three rooms that a reading fills.
@@ -29,7 +32,7 @@ abbrev pub three : List ℕ → List ℕ → List ℕ → Stored
 three labels equations moves = record { labels = labels; equations = equations; moves = moves }
 
 -- What one record does to them: a label with zeros for the states before it, zeros for the states after the last label,
--- an equation, a move.
+-- an equation, a move. An equation with a sign is stored without its component.
 unfoldable pub putRooms : Sofar → Record → Stored → Stored
 putRooms x (R.Sizes z) t = t
 putRooms x (R.Label s v) t =
@@ -44,6 +47,12 @@ putRooms x R.End t = t
 putRooms x (R.Stamp n) t = t
 putRooms x (R.Insert m) t = t
 putRooms x (R.Delete m) t = t
+putRooms x (R.Signed k o a b) t =
+    record {
+      labels = sets (t .labels) (x .labels) (replicate (x .sizes .states - x .labels) 0);
+      equations = set (t .equations) (x .blocks .equations) (word (signedOf k o a b));
+      moves = t .moves;
+    }
 
 -- What the record of a turn does to them, after what the turn before it had read.
 abbrev pub putTurn : OneTurn → OneTurn → Stored → Stored
@@ -59,6 +68,10 @@ laid x m t =
       equations = sets (t .equations) (x .blocks .equations) (map word (m .equations));
       moves = sets (t .moves) (x .moves .count) (m .moves);
     }
+
+-- Equations with signs and their components; equations in blocks as they are.
+unfoldable pub withComponents : Sizes → List ℕ → List ℕ
+withComponents z ws = cond (signed z) (fill (map word (placed (held (z .variables) ws))) ws) ws
 
 -- The rooms after a reading: unchanged where it refused, with the model in front where it accepted.
 abbrev pub storedBy : Outcome Model → Stored → Stored

@@ -1,23 +1,25 @@
 // A model that was judged good, stored into the rooms lent for it.
 ghost use mathlib.Core.Path.{_≡_};
-ghost use Prim.Native.Nat.{_-_};
-ghost use lib.ListN.{set, replicate};
+ghost use Prim.Native.Nat.{_-_, _≤_};
+ghost use lib.ListN.{length, set, replicate};
 ghost use lib.Seq.{sets};
-ghost use Rattle.rules.specs.Load.{started, readModel, equationOf};
+ghost use Rattle.rules.specs.Load.{started, equationOf};
 ghost use Rattle.rules.specs.Model.{Model};
 ghost use Rattle.rules.specs.Moves.{pack, wrap};
 ghost use Rattle.rules.specs.Records.{accepted};
 ghost use Rattle.rules.specs.Session.{word};
 ghost use Rattle.limits.specs.Lent.{lengthsBy};
+ghost use Rattle.judge.specs.Plain.{readPlain};
 ghost use Rattle.judge.specs.Progress.{sofarOf, Kept};
 ghost use Rattle.judge.specs.Going.{KeptTurn};
-ghost use Rattle.store.specs.Stored.{Stored, putRooms, putTurn, laid, ReadInto};
+ghost use Rattle.store.specs.Stored.{Stored, putRooms, putTurn, laid, withComponents, ReadInto};
 use judge::OneTurn;
 use judge::Progress;
 use judge::ReadModel;
 use limits::Lent;
 use rules::Move;
 use rules::Record;
+use rules::Sizes;
 
 // Zeros from one place up to another.
 fn zeros(room: &mut [u32], from: usize, to: usize)
@@ -79,6 +81,14 @@ fn put_record(labels: &mut [u32], equations: &mut [u32], moves: &mut [u32], x: P
         Record::Equation(o, a, b) => {
             rooms::set_word(equations, x.blocks.equations as usize, word_of(x, o, a, b));
         }
+        Record::Signed(k, o, a, b) => {
+            zeros(labels, x.labels as usize, x.sizes.states as usize);
+            rooms::set_word(
+                equations,
+                x.blocks.equations as usize,
+                judge::signed_word(k, o, a, b),
+            );
+        }
         Record::Move(m) => {
             rooms::set_word(moves, x.moves.count as usize, packed(m));
         }
@@ -100,9 +110,10 @@ fn put_turn(labels: &mut [u32], equations: &mut [u32], moves: &mut [u32], t: One
     put_record(labels, equations, moves, x, rec);
 }
 
-// The whole model, read through one reader from record to record, and stored.
+// The whole model, read through one reader from record to record, and stored. Chains are not asked again, and components are
+// not put in.
 fn store_model(bytes: &[u8], l: Lent, labels: &mut [u32], equations: &mut [u32], moves: &mut [u32])
-    ensures { λ _. ⌜ ((m : Model) → readModel (lengthsBy l) (now (bytes .entry)) ≡ accepted m → _≡_ {A = Stored} (record { labels = now (labels .exit); equations = now (equations .exit); moves = now (moves .exit) }) (laid (started (m .sizes)) m (record { labels = now (labels .entry); equations = now (equations .entry); moves = now (moves .entry) }))) ⌝ }
+    ensures { λ _. ⌜ ((m : Model) → readPlain (lengthsBy l) (now (bytes .entry)) ≡ accepted m → _≡_ {A = Stored} (record { labels = now (labels .exit); equations = now (equations .exit); moves = now (moves .exit) }) (laid (started (m .sizes)) m (record { labels = now (labels .entry); equations = now (equations .entry); moves = now (moves .entry) }))) ⌝ }
 {
     let mut r = wire::reader_at(bytes, 0);
     let mut t = judge::first_turn(wire::next(r), l);
@@ -115,6 +126,16 @@ fn store_model(bytes: &[u8], l: Lent, labels: &mut [u32], equations: &mut [u32],
         let u = judge::turn(wire::next(r), l, t, bytes.len());
         put_turn(labels, equations, moves, t, u);
         t = u;
+    }
+}
+
+// In a model with signs each equation gets the number of its component; in one with blocks nothing changes.
+fn put_components(equations: &mut [u32], z: Sizes)
+    requires { ⌜ (z .variables ≤ 32) × (z .variables ≤ length (now equations)) ⌝ }
+    ensures { λ _. ⌜ now (equations .exit) ≡ withComponents z (now (equations .entry)) ⌝ }
+{
+    if z.blocks == 0 {
+        components::number_all(equations, z.variables as usize);
     }
 }
 
@@ -137,9 +158,10 @@ pub fn read_model(
         moves: moves.len(),
     };
     let answer = judge::judge_model(bytes, l);
-    let ReadModel::Good(_, _) = answer else {
+    let ReadModel::Good(z, _) = answer else {
         return answer;
     };
     store_model(bytes, l, labels, equations, moves);
+    put_components(equations, z);
     answer
 }

@@ -28,3 +28,4 @@ pub mod Seeks
 pub mod ListUnits
 pub mod ListsMove
 pub mod LoadSolves
+pub mod FinerBlocks

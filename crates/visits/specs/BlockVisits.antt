@@ -1,11 +1,10 @@
 -- The visits of all variables of a block, along the block's chain. Assumes nothing.
 use mathlib.Core.Path.{_≡_, refl, sym, ap, _∙_}
-use mathlib.Core.Bool.{Bool, true, false, cond}
-use mathlib.Core.List.{List, [], _∷_, _++_}
+use mathlib.Core.Bool.{Bool, cond}
+use mathlib.Core.List.{List, [], _++_}
 use Prim.Native.Nat.{ℕ, zero, suc, _+_, _*_, _/_, _%_, _≤_, _<_}
 use native.Mathlib.Omega.{arith}
 use lib.ListN.{length, getD, length-append}
-use lib.Dec.{eqb}
 use Rattle.lists.specs.Tests.{eqb-in, eqb-no}
 use Rattle.rules.specs.Rooms.{pairsOf}
 use Rattle.rules.specs.Session.{unword}
@@ -13,10 +12,9 @@ use Rattle.rules.specs.Values.{state, variable}
 use Rattle.rules.specs.declared.Sizes.{Sizes}
 use Rattle.laws.specs.ModelLeaners.{leanersOn, leanersTo, leanersOf}
 use Rattle.pairs.specs.Drawn.{tableOf, Drawn}
-use Rattle.pairs.specs.EquationWords.{drawn-sound, variable-in, block-word}
+use Rattle.pairs.specs.EquationWords.{variable-in}
 use Rattle.pairs.specs.Words.{blockIn}
-use Rattle.pairs.specs.DrawnLimits.{limits}
-use Rattle.laws.specs.ModelSystem.{pairs-full}
+use Rattle.pairs.specs.DrawnLimits.{limits, block-few}
 use Rattle.chains.specs.Chains.{lastTo}
 use Rattle.visits.specs.Visits.{Visit, visited}
 use Rattle.visits.specs.ChainVisits.{Adds, OnChain, chain-begins, chain-goes, chain-ends}
@@ -50,11 +48,7 @@ module _ (z : Sizes) (labels equations moves : List ℕ) (n : ℕ) (d : Drawn z 
 
   -- The block of a pair has a head, and so has its variable's place.
   pub block-low : (q : ℕ) → q < pairsOf z → blockIn z equations q < 32
-  block-low q h =
-      let e = block-word z labels equations moves n d q h in
-      let g = pairs-full (tableOf z labels equations moves n) (drawn-sound z labels equations moves n d) q h in
-      let c = limits z labels equations moves n d in
-      omega arith
+  block-low q h = block-few z labels equations moves n d (q / z .states) (variable-in z labels equations moves n d q h)
 
   -- The walk begins at the head of the block, goes on by a variable, and ends with all who lean on q visited.
   module _ (ph : Bool) (vs : List ℕ) (q : ℕ) (h : q < pairsOf z) (start : Visit) where

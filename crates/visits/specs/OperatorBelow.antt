@@ -1,19 +1,16 @@
 -- Each equation of a good model has an operator below 8. Assumes nothing.
-use mathlib.Core.Path.{_≡_, ap, _∙_}
+use mathlib.Core.Path.{_≡_, ap}
 use mathlib.Core.Logic.{inl, inr}
-use mathlib.Core.Bool.{Bool, true, false}
-use mathlib.Core.List.{List, [], _∷_}
-use Prim.Native.Nat.{ℕ, zero, suc, _<_}
-use native.Mathlib.Nat.{not-suc-le-zero, le-of-suc-le-suc}
+use mathlib.Core.Bool.{true}
+use mathlib.Core.List.{List}
+use Prim.Native.Nat.{ℕ, _<_}
 use native.Mathlib.Omega.{arith}
-use lib.ListN.{length, getD}
+use lib.ListN.{getD}
 use lib.Dec.{ltb}
-use Rattle.lists.specs.Tests.{tests, tell, and-is, ltb-is}
-use Rattle.rules.specs.Model.{Equation, operandsOk, equationsOk}
+use Rattle.lists.specs.Tests.{tests, tell, ltb-is}
+use Rattle.rules.specs.Model.{Equation, operandsOk}
 use Rattle.rules.specs.Session.{unword}
-use Rattle.rules.specs.Values.{nothing, variable, equationAt}
 use Rattle.rules.specs.declared.Sizes.{Sizes}
-use Rattle.laws.specs.ModelSystem.{Sound}
 use Rattle.pairs.specs.Drawn.{Drawn, tableOf}
 use Rattle.pairs.specs.EquationWords.{formula-word, drawn-sound}
 
@@ -31,17 +28,12 @@ below-eight z o a b h =
       ]
     ]
 
-operator-at : (z : Sizes) (i b k : ℕ) (es : List Equation) (j : ℕ) → equationsOk z i b k es ≡ true → j < length es → getD es j nothing .operator < 8
-operator-at z i b k [] j h l = absurd (not-suc-le-zero l)
-operator-at z i b k (e ∷ es) zero h l = let f = simp and-is at h in below-eight z (e .operator) (e .first) (e .second) (f .0 .0 .1)
-operator-at z i b k (e ∷ es) (suc j) h l = operator-at z (suc i) (suc (e .block)) (e .kind) es j (simp and-is at h .1) (le-of-suc-le-suc l)
-
 pub operator-below : (z : Sizes) (labels equations moves : List ℕ) (n : ℕ) → Drawn z labels equations moves n → (x : ℕ) → x < z .variables
     → unword (getD equations x 0) .operator < 8
 operator-below z labels equations moves n d x h =
     let m = tableOf z labels equations moves n in
     let s = drawn-sound z labels equations moves n d in
-    let c = s .count in
+    let c = s .names .count in
     let e = ap (λ (y : Equation). y .operator) (formula-word z labels equations moves n d x h) in
-    let k = operator-at z 0 0 0 (m .equations) x (s .equations) (omega arith) in
+    let k = below-eight z _ _ _ (s .names .operands x (omega arith)) in
     omega arith

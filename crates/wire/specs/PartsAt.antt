@@ -8,7 +8,7 @@ use native.Mathlib.Omega.{arith}
 use lib.ListN.{length, getD, drop, length-drop, drop-of-length-le}
 use lib.Seq.{drop-cons, drop-drop}
 use lib.Dec.{eqb, ltb, leb}
-use Rattle.lists.specs.Tests.{tests, tell, leb-is, ltb-is, ltb-no, eqb-no}
+use Rattle.lists.specs.Tests.{tests, tell, and-is, leb-is, ltb-is, ltb-no, eqb-no}
 use Rattle.rules.specs.Records.{widths, known, bodyOf, number, reads, Rec, Parts, ends, broken, part, partsFrom, numbersOf}
 use Rattle.laws.specs.RecordLaws.{skipped}
 use Rattle.wire.specs.declared.Read.{Read}
@@ -52,6 +52,10 @@ move-body : (s : List ℕ) (b : ℕ)
     → reads (2 ∷ 1 ∷ 2 ∷ []) (drop b s) ≡ (moveAt s b .source .0 ∷ moveAt s b .action .0 ∷ moveAt s b .target .0 ∷ [])
 move-body s b = let e : b + 2 + 1 ≡ b + 3 = omega arith in simp (drop-drop, number1, number2, e)
 
+-- There is no kind over 11.
+unknown : (k : ℕ) → known (suc (suc (suc (suc (suc (suc (suc (suc (suc (suc (suc (suc k)))))))))))) ≡ true → ⊥
+unknown k h = let f = simp and-is at h in let g = ltb-is (suc (suc (suc (suc (suc (suc (suc (suc (suc (suc (suc (suc k)))))))))))) 12 .0 (f .0 .1) in omega arith
+
 -- The enum's kind and numbers are those of the record's bytes.
 enum-numbers : (k : ℕ) (s : List ℕ) (b : ℕ) → known k ≡ true → numbersOf (recordOf k s b) ≡ record { kind = k; body = reads (widths k) (drop b s) }
 unfolding recordOf widths
@@ -69,7 +73,12 @@ enum-numbers (suc (suc (suc (suc (suc (suc zero)))))) s b h = refl
 enum-numbers (suc (suc (suc (suc (suc (suc (suc zero))))))) s b h = simp number4
 enum-numbers (suc (suc (suc (suc (suc (suc (suc (suc zero)))))))) s b h = ap (ofKind 8) (sym (move-body s b))
 enum-numbers (suc (suc (suc (suc (suc (suc (suc (suc (suc zero))))))))) s b h = ap (ofKind 9) (sym (move-body s b))
-enum-numbers (suc (suc (suc (suc (suc (suc (suc (suc (suc (suc k)))))))))) s b h = let f = simp tests at h in absurd (omega arith)
+enum-numbers (suc (suc (suc (suc (suc (suc (suc (suc (suc (suc zero)))))))))) s b h = absurd (false≢true h)
+enum-numbers (suc (suc (suc (suc (suc (suc (suc (suc (suc (suc (suc zero))))))))))) s b h =
+    let e2 : b + 1 + 1 ≡ b + 2 = omega arith in
+    let e3 : b + 2 + 1 ≡ b + 3 = omega arith in
+    simp (drop-drop, number1, e2, e3)
+enum-numbers (suc (suc (suc (suc (suc (suc (suc (suc (suc (suc (suc (suc k)))))))))))) s b h = absurd (unknown k h)
 
 -- The length of a known kind's body is the sum of its widths; an unknown kind's is over 6.
 body-known : (k : ℕ) → known k ≡ true → (bodyLen k ≡ bodyOf (widths k)) × (bodyLen k ≤ 6)
@@ -84,7 +93,9 @@ body-known (suc (suc (suc (suc (suc (suc zero)))))) h = (refl, omega arith)
 body-known (suc (suc (suc (suc (suc (suc (suc zero))))))) h = (refl, omega arith)
 body-known (suc (suc (suc (suc (suc (suc (suc (suc zero)))))))) h = (refl, omega arith)
 body-known (suc (suc (suc (suc (suc (suc (suc (suc (suc zero))))))))) h = (refl, omega arith)
-body-known (suc (suc (suc (suc (suc (suc (suc (suc (suc (suc k)))))))))) h = let f = simp tests at h in absurd (omega arith)
+body-known (suc (suc (suc (suc (suc (suc (suc (suc (suc (suc zero)))))))))) h = absurd (false≢true h)
+body-known (suc (suc (suc (suc (suc (suc (suc (suc (suc (suc (suc zero))))))))))) h = (refl, omega arith)
+body-known (suc (suc (suc (suc (suc (suc (suc (suc (suc (suc (suc (suc k)))))))))))) h = absurd (unknown k h)
 
 body-unknown : (k : ℕ) → known k ≡ false → bodyLen k ≡ 255
 unfolding bodyLen
@@ -98,10 +109,12 @@ body-unknown (suc (suc (suc (suc (suc (suc zero)))))) h = absurd (false≢true (
 body-unknown (suc (suc (suc (suc (suc (suc (suc zero))))))) h = absurd (false≢true (sym h))
 body-unknown (suc (suc (suc (suc (suc (suc (suc (suc zero)))))))) h = absurd (false≢true (sym h))
 body-unknown (suc (suc (suc (suc (suc (suc (suc (suc (suc zero))))))))) h = absurd (false≢true (sym h))
-body-unknown (suc (suc (suc (suc (suc (suc (suc (suc (suc (suc k)))))))))) h =
-    rw (off 1 (omega arith), off 2 (omega arith), off 3 (omega arith), off 4 (omega arith), off 5 (omega arith), off 6 (omega arith), off 7 (omega arith), off 8 (omega arith), off 9 (omega arith)) refl
+body-unknown (suc (suc (suc (suc (suc (suc (suc (suc (suc (suc zero)))))))))) h = refl
+body-unknown (suc (suc (suc (suc (suc (suc (suc (suc (suc (suc (suc zero))))))))))) h = absurd (false≢true (sym h))
+body-unknown (suc (suc (suc (suc (suc (suc (suc (suc (suc (suc (suc (suc k)))))))))))) h =
+    rw (off 1 (omega arith), off 2 (omega arith), off 3 (omega arith), off 4 (omega arith), off 5 (omega arith), off 6 (omega arith), off 7 (omega arith), off 8 (omega arith), off 9 (omega arith), off 11 (omega arith)) refl
   where
-    off : (j : ℕ) → j < 10 → eqb (suc (suc (suc (suc (suc (suc (suc (suc (suc (suc k)))))))))) j ≡ false
+    off : (j : ℕ) → j < 12 → eqb (suc (suc (suc (suc (suc (suc (suc (suc (suc (suc (suc (suc k)))))))))))) j ≡ false
     off j l = eqb-no _ j .1 (λ e. omega arith)
 
 -- What a read record, or the lack of one, says of the parts.

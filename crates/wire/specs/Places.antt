@@ -39,7 +39,8 @@ bodyLen k =
     (cond (eqb k 7) 4
     (cond (eqb k 8) 5
     (cond (eqb k 9) 5
-    255))))))))
+    (cond (eqb k 11) 4
+    255)))))))))
 
 -- The record of a kind whose body stands at b.
 unfoldable pub recordOf : ℕ → List ℕ → ℕ → Record
@@ -52,7 +53,8 @@ recordOf k s b =
     (cond (eqb k 7) (R.Stamp (le32 s b))
     (cond (eqb k 8) (R.Insert (moveAt s b))
     (cond (eqb k 9) (R.Delete (moveAt s b))
-    R.End)))))))
+    (cond (eqb k 11) (R.Signed (getD s b 0) (getD s (b + 1) 0) (getD s (b + 2) 0) (getD s (b + 3) 0))
+    R.End))))))))
 
 -- The record at a place and the place after it. Past the end, at an unknown kind and at a record that is cut off, nothing.
 unfoldable pub recordAt : List ℕ → ℕ → Read

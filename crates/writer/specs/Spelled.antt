@@ -1,6 +1,6 @@
 -- The bytes of a model as they are written from its rooms, place by place. Definitions only.
 use mathlib.Core.Path.{_≡_}
-use mathlib.Core.Bool.{cond}
+use mathlib.Core.Bool.{Bool, cond}
 use mathlib.Core.List.{List, [], _∷_, map}
 use Prim.Native.Nat.{ℕ, suc, _+_, _-_}
 use lib.Dec.{eqb}
@@ -8,9 +8,9 @@ use lib.ListN.{length, getD}
 use lib.Seq.{sets}
 use Rattle.lists.specs.Lists.{listed}
 use Rattle.rules.specs.Model.{Equation, Model, runOf}
-use Rattle.rules.specs.Records.{bytesOf}
+use Rattle.rules.specs.Records.{bytes, bytesOf}
 use Rattle.rules.specs.Session.{unword}
-use Rattle.rules.specs.Spelling.{labelRecs, blockRec, equationRec, equationRecs, moveRecs}
+use Rattle.rules.specs.Spelling.{labelRecs, blockRec, equationRec, equationRecs, signedRec, signedRecs, moveRecs}
 use Rattle.rules.specs.declared.Sizes.{Sizes}
 
 -- The entries of a room from place i up to place n; what lies past the room's end is 0.
@@ -28,14 +28,18 @@ oneLabel s v = bytesOf (labelRecs s (v ∷ []))
 unfoldable pub labelBytes : List ℕ → ℕ → ℕ → List ℕ
 labelBytes room i n = bytesOf (labelRecs i (rest room i n))
 
--- One equation's bytes, with its block's record where b blocks stand before and it is in another; and those of the
--- equations from variable i on.
-unfoldable pub oneEquation : ℕ → Equation → List Equation → List ℕ
-oneEquation b e l =
+-- One equation's bytes, with its block's record where b blocks stand before and it is in another.
+unfoldable pub inBlock : ℕ → Equation → List Equation → List ℕ
+inBlock b e l =
     bytesOf (cond (eqb (suc (e .block)) b) (equationRec e ∷ []) (blockRec (e .kind) (suc (runOf (suc (e .block)) l)) ∷ equationRec e ∷ []))
 
-unfoldable pub equationBytes : ℕ → List ℕ → ℕ → ℕ → List ℕ
-equationBytes b room i n = bytesOf (equationRecs b (map unword (rest room i n)))
+-- One equation's bytes where equations have signs, or else as in its block; and those of the equations from variable i on.
+unfoldable pub oneEquation : Bool → ℕ → Equation → List Equation → List ℕ
+oneEquation signs b e l = cond signs (bytes (signedRec e)) (inBlock b e l)
+
+unfoldable pub equationBytes : Bool → ℕ → List ℕ → ℕ → ℕ → List ℕ
+equationBytes signs b room i n =
+    bytesOf (cond signs (signedRecs (map unword (rest room i n))) (equationRecs b (map unword (rest room i n))))
 
 -- The bytes of the moves from number i on, and of the end.
 unfoldable pub moveBytes : List ℕ → ℕ → ℕ → List ℕ

@@ -1,7 +1,7 @@
 -- Writing place by place writes the spelling. Assumes nothing.
 use mathlib.Core.Path.{_≡_, refl, sym, ap, _∙_}
 use mathlib.Core.Logic.{inl, inr}
-use mathlib.Core.Bool.{true}
+use mathlib.Core.Bool.{Bool, true, false}
 use mathlib.Core.List.{List, [], _∷_, _++_, append-assoc, append-nil, map}
 use Prim.Native.Nat.{ℕ, zero, suc, _+_, _-_, _*_, _≤_, _<_}
 use native.Mathlib.Nat.{add-zero, zero-add}
@@ -11,17 +11,17 @@ use lib.ListN.{length, getD, take, drop, length-append}
 use lib.Seq.{sets-eq, drop-cons}
 use Rattle.lists.specs.Lists.{listed, fill}
 use Rattle.lists.specs.TableLaws.{listed-length}
-use Rattle.lists.specs.Tests.{tell, eqb-is, eqb-no}
-use Rattle.rules.specs.Model.{Equation, runOf, WellFormed}
+use Rattle.lists.specs.Tests.{tell, eqb-is, eqb-no, cond-yes, cond-no}
+use Rattle.rules.specs.Model.{Equation, runOf, signed, WellFormed}
 use Rattle.rules.specs.Records.{Rec, bytes, bytesOf, widths}
 use Rattle.rules.specs.Rooms.{Rooms}
 use Rattle.rules.specs.Session.{unword, held}
-use Rattle.rules.specs.Spelling.{labelRecs, blockRec, equationRec, equationRecs, moveRec, moveRecs, endRec, sizesRec, records, encode}
+use Rattle.rules.specs.Spelling.{labelRecs, blockRec, equationRec, equationRecs, signedRec, styleRecs, moveRec, moveRecs, endRec, sizesRec, records, encode}
 use Rattle.rules.specs.declared.Session.{Session}
 use Rattle.rules.specs.declared.Sizes.{Sizes}
-use Rattle.laws.specs.SpellingLength.{labelled, encode-length}
+use Rattle.laws.specs.SpellingLength.{labelled, equationSize, encode-length}
 use Rattle.spell.specs.Written.{labelRec, sets-append}
-use Rattle.writer.specs.Spelled.{rest, Wrote, oneLabel, labelBytes, oneEquation, equationBytes, moveBytes, heldIn}
+use Rattle.writer.specs.Spelled.{rest, Wrote, oneLabel, labelBytes, inBlock, oneEquation, equationBytes, moveBytes, heldIn}
 
 -- The entries from a place on are the one there, and those after it.
 pub rest-step : (room : List ℕ) (i n : ℕ) → i < n → rest room i n ≡ getD room i 0 ∷ rest room (i + 1) n
@@ -85,32 +85,45 @@ run-other room b i n h e = rw (rest-step room i n h, eqb-no _ b .1 e) refl
 pub run-end : (room : List ℕ) (b i n : ℕ) → n ≤ i → runOf b (map unword (rest room i n)) ≡ 0
 run-end room b i n h = rw (rest-end room i n h) refl
 
+-- An equation of the block before it, and one of another.
+pub block-same : (b w : ℕ) (l : List Equation) → suc (unword w .block) ≡ b → inBlock b (unword w) l ≡ bytes (equationRec (unword w))
+unfolding inBlock
+block-same b w l e = rw (eqb-is _ b .1 e) (append-nil (bytes (equationRec (unword w))))
+
+pub block-new : (b w : ℕ) (l : List Equation) → (suc (unword w .block) ≡ b → ⊥)
+    → inBlock b (unword w) l ≡ bytes (blockRec (unword w .kind) (suc (runOf (suc (unword w .block)) l))) ++ bytes (equationRec (unword w))
+unfolding inBlock
+block-new b w l e = rw (eqb-no _ b .1 e) (rw (append-nil (bytes (equationRec (unword w)))) refl)
+
+-- An equation in either style, by what code has in hand.
+pub equation-signed : (signs : Bool) (b : ℕ) (e : Equation) (l : List Equation) → signs ≡ true → oneEquation signs b e l ≡ bytes (signedRec e)
+unfolding oneEquation
+equation-signed signs b e l t = cond-yes (bytes (signedRec e)) (inBlock b e l) t
+
+pub equation-block : (signs : Bool) (b : ℕ) (e : Equation) (l : List Equation) → signs ≡ false → oneEquation signs b e l ≡ inBlock b e l
+unfolding oneEquation
+equation-block signs b e l t = cond-no (bytes (signedRec e)) (inBlock b e l) t
+
 -- One equation, and the equations after it.
-pub equation-same : (b w : ℕ) (l : List Equation) → suc (unword w .block) ≡ b → oneEquation b (unword w) l ≡ bytes (equationRec (unword w))
-unfolding oneEquation
-equation-same b w l e = rw (eqb-is _ b .1 e) (append-nil (bytes (equationRec (unword w))))
-
-pub equation-new : (b w : ℕ) (l : List Equation) → (suc (unword w .block) ≡ b → ⊥)
-    → oneEquation b (unword w) l ≡ bytes (blockRec (unword w .kind) (suc (runOf (suc (unword w .block)) l))) ++ bytes (equationRec (unword w))
-unfolding oneEquation
-equation-new b w l e = rw (eqb-no _ b .1 e) (rw (append-nil (bytes (equationRec (unword w)))) refl)
-
-equation-split : (b : ℕ) (e : Equation) (l : List Equation) → bytesOf (equationRecs b (e ∷ l)) ≡ oneEquation b e l ++ bytesOf (equationRecs (suc (e .block)) l)
-unfolding oneEquation
-equation-split b e l =
+block-split : (b : ℕ) (e : Equation) (l : List Equation) → bytesOf (equationRecs b (e ∷ l)) ≡ inBlock b e l ++ bytesOf (equationRecs (suc (e .block)) l)
+unfolding inBlock
+block-split b e l =
     elim (tell true (eqb (suc (e .block)) b)) [
       | inl t ↦ let c = eqb-is (suc (e .block)) b .0 t in rw (t, ← c) (bytes-append (equationRec e ∷ []) (equationRecs (suc (e .block)) l))
       | inr t ↦ rw t (bytes-append (blockRec (e .kind) (suc (runOf (suc (e .block)) l)) ∷ equationRec e ∷ []) (equationRecs (suc (e .block)) l))
     ]
 
-pub equation-step : (room : List ℕ) (b i n : ℕ) → i < n
-    → equationBytes b room i n ≡ oneEquation b (unword (getD room i 0)) (map unword (rest room (i + 1) n)) ++ equationBytes (suc (unword (getD room i 0) .block)) room (i + 1) n
-unfolding equationBytes
-equation-step room b i n h = rw (rest-step room i n h) (equation-split b (unword (getD room i 0)) (map unword (rest room (i + 1) n)))
+pub equation-step : (signs : Bool) (room : List ℕ) (b i n : ℕ) → i < n
+    → equationBytes signs b room i n
+    ≡ oneEquation signs b (unword (getD room i 0)) (map unword (rest room (i + 1) n)) ++ equationBytes signs (suc (unword (getD room i 0) .block)) room (i + 1) n
+unfolding equationBytes oneEquation
+equation-step true room b i n h = rw (rest-step room i n h) refl
+equation-step false room b i n h = rw (rest-step room i n h) (block-split b (unword (getD room i 0)) (map unword (rest room (i + 1) n)))
 
-pub equation-end : (room : List ℕ) (b i n : ℕ) → n ≤ i → equationBytes b room i n ≡ []
+pub equation-end : (signs : Bool) (room : List ℕ) (b i n : ℕ) → n ≤ i → equationBytes signs b room i n ≡ []
 unfolding equationBytes
-equation-end room b i n h = rw (rest-end room i n h) refl
+equation-end true room b i n h = rw (rest-end room i n h) refl
+equation-end false room b i n h = rw (rest-end room i n h) refl
 
 -- One move, and the moves after it.
 pub move-step : (room : List ℕ) (i n : ℕ) → i < n → moveBytes room i n ≡ bytes (moveRec (getD room i 0)) ++ moveBytes room (i + 1) n
@@ -142,12 +155,13 @@ labelled-one (suc v) h = refl
 -- The spelling is the sizes, the labels, the equations, and the moves with the end.
 pub spelled : (z : Sizes) (n : ℕ) (labels equations moves : List ℕ)
     → encode (heldIn z n labels equations moves)
-    ≡ bytes (sizesRec z) ++ (labelBytes labels 0 (z .states) ++ (equationBytes 0 equations 0 (z .variables) ++ moveBytes moves 0 n))
+    ≡ bytes (sizesRec z) ++ (labelBytes labels 0 (z .states) ++ (equationBytes (signed z) 0 equations 0 (z .variables) ++ moveBytes moves 0 n))
 unfolding records labelBytes equationBytes moveBytes
 spelled z n labels equations moves =
-    ap (λ (l : List ℕ). bytes (sizesRec z) ++ l)
-    (bytes-append (labelRecs 0 (rest labels 0 (z .states))) (equationRecs 0 (map unword (rest equations 0 (z .variables))) ++ moveRecs (rest moves 0 n))
-    ∙ ap (λ (l : List ℕ). bytesOf (labelRecs 0 (rest labels 0 (z .states))) ++ l) (bytes-append (equationRecs 0 (map unword (rest equations 0 (z .variables)))) (moveRecs (rest moves 0 n))))
+    let ls = labelRecs 0 (rest labels 0 (z .states)) in
+    let es = styleRecs z (map unword (rest equations 0 (z .variables))) in
+    let ms = moveRecs (rest moves 0 n) in
+    ap (λ (l : List ℕ). bytes (sizesRec z) ++ l) (bytes-append ls (es ++ ms) ∙ ap (λ (l : List ℕ). bytesOf ls ++ l) (bytes-append es ms))
 
 -- The entries of a room that is long enough are its first ones.
 listed-take : (room : List ℕ) (i k : ℕ) → i + k ≤ length room → listed i k (λ p. getD room p 0) ≡ take k (drop i room)
@@ -163,9 +177,17 @@ pub held-is : (s : Session) (l : Rooms) → s .sizes .states ≤ length (l .labe
     → heldIn (s .sizes) (s .moves) (l .labels) (l .equations) (l .moves) ≡ held s l
 held-is s l a b c = rw (rest-take (l .labels) (s .sizes .states) a, rest-take (l .equations) (s .sizes .variables) b, rest-take (l .moves) (s .moves) c) refl
 
+-- An equation's length in either style, by what code has in hand.
+pub size-signed : (z : Sizes) → z .blocks ≡ 0 → equationSize z ≡ 5
+size-signed z e = cond-yes 5 4 (eqb-is (z .blocks) 0 .1 e)
+
+pub size-block : (z : Sizes) → (z .blocks ≡ 0 → ⊥) → equationSize z ≡ 4
+size-block z e = cond-no 5 4 (eqb-no (z .blocks) 0 .1 e)
+
 -- The length that is foretold is the spelling's.
 pub length-is : (z : Sizes) (n : ℕ) (labels equations moves : List ℕ) → WellFormed (heldIn z n labels equations moves)
-    → length (encode (heldIn z n labels equations moves)) ≡ 8 + 7 * labelled (rest labels 0 (z .states)) + 3 * z .blocks + 4 * z .variables + 6 * n
+    → length (encode (heldIn z n labels equations moves))
+    ≡ 8 + 7 * labelled (rest labels 0 (z .states)) + 3 * z .blocks + equationSize z * z .variables + 6 * n
 unfolding rest
 length-is z n labels equations moves h =
     let k = encode-length (heldIn z n labels equations moves) h in

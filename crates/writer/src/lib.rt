@@ -5,8 +5,8 @@ ghost use Prim.Native.Nat.{suc, _+_, _*_, _/_, _≤_, _<_};
 ghost use lib.ListN.{getD};
 ghost use Rattle.rules.specs.Model.{runOf};
 ghost use Rattle.rules.specs.Session.{unword};
-ghost use Rattle.laws.specs.SpellingLength.{labelled};
-ghost use Rattle.writer.specs.Spelled.{rest, Wrote, oneLabel, labelBytes, oneEquation, equationBytes, moveBytes, heldIn};
+ghost use Rattle.laws.specs.SpellingLength.{labelled, equationSize};
+ghost use Rattle.writer.specs.Spelled.{rest, Wrote, oneLabel, labelBytes, inBlock, oneEquation, equationBytes, moveBytes, heldIn};
 ghost use Rattle.rules.specs.Spelling.{encode};
 use rules::Sizes;
 
@@ -61,9 +61,9 @@ fn run_of(room: &[u32], b: u32, start: usize, n: usize) -> u32
 }
 
 // An equation, with a block's record before the first of each block.
-fn put_equation(out: &mut [u8], at: usize, room: &[u32], b: u32, i: usize, n: usize) -> usize
+fn put_in_block(out: &mut [u8], at: usize, room: &[u32], b: u32, i: usize, n: usize) -> usize
     requires { ⌜ (at < 65000) × ((i < n) × (n ≤ 32)) ⌝ }
-    ensures { λ r. ⌜ Wrote (now (out .entry)) at (oneEquation b (unword (getD (now (room .entry)) i 0)) (map unword (rest (now (room .entry)) (i + 1) n))) (now (out .exit)) r × (r ≤ at + 7) ⌝ }
+    ensures { λ r. ⌜ Wrote (now (out .entry)) at (inBlock b (unword (getD (now (room .entry)) i 0)) (map unword (rest (now (room .entry)) (i + 1) n))) (now (out .exit)) r × (r ≤ at + 7) ⌝ }
 {
     let w = rooms::word_at(room, i);
     let after = block_after(w);
@@ -77,16 +77,36 @@ fn put_equation(out: &mut [u8], at: usize, room: &[u32], b: u32, i: usize, n: us
     at + 7
 }
 
-// The n equations, block by block.
-fn write_equations(out: &mut [u8], start: usize, room: &[u32], n: usize) -> usize
+// An equation with its sign, or in its block.
+fn put_equation(
+    out: &mut [u8],
+    at: usize,
+    room: &[u32],
+    signs: bool,
+    b: u32,
+    i: usize,
+    n: usize,
+) -> usize
+    requires { ⌜ (at < 65000) × ((i < n) × (n ≤ 32)) ⌝ }
+    ensures { λ r. ⌜ Wrote (now (out .entry)) at (oneEquation signs b (unword (getD (now (room .entry)) i 0)) (map unword (rest (now (room .entry)) (i + 1) n))) (now (out .exit)) r × (r ≤ at + 7) ⌝ }
+{
+    if signs {
+        spell::write_signed(out, at, rooms::word_at(room, i));
+        return at + 5;
+    }
+    put_in_block(out, at, room, b, i, n)
+}
+
+// The n equations, each with its sign, or block by block.
+fn write_equations(out: &mut [u8], start: usize, room: &[u32], signs: bool, n: usize) -> usize
     requires { ⌜ (start < 3000) × (n ≤ 32) ⌝ }
-    ensures { λ r. ⌜ Wrote (now (out .entry)) start (equationBytes 0 (now (room .entry)) 0 n) (now (out .exit)) r × (r ≤ start + 7 * n) ⌝ }
+    ensures { λ r. ⌜ Wrote (now (out .entry)) start (equationBytes signs 0 (now (room .entry)) 0 n) (now (out .exit)) r × (r ≤ start + 7 * n) ⌝ }
 {
     let mut at = start;
     let mut b: u32 = 0;
     let mut i: usize = 0;
     while i < n {
-        at = put_equation(out, at, room, b, i, n);
+        at = put_equation(out, at, room, signs, b, i, n);
         b = block_after(rooms::word_at(room, i));
         i = i + 1;
     }
@@ -133,12 +153,22 @@ fn count_labels(room: &[u32], n: u16) -> usize
     k
 }
 
+// The length of all equations: one with a sign of its own takes a byte more.
+fn equations_length(z: Sizes) -> usize
+    ensures { λ r. ⌜ (r ≡ equationSize z * z .variables) × (r ≤ 1275) ⌝ }
+{
+    if z.blocks == 0 {
+        return 5 * (z.variables as usize);
+    }
+    4 * (z.variables as usize)
+}
+
 // The length of a model's spelling.
 pub fn spelled_length(z: Sizes, n: u32, labels: &[u32]) -> usize
-    ensures { λ r. ⌜ r ≡ 8 + 7 * labelled (rest (now (labels .entry)) 0 (z .states)) + 3 * z .blocks + 4 * z .variables + 6 * n ⌝ }
+    ensures { λ r. ⌜ r ≡ 8 + 7 * labelled (rest (now (labels .entry)) 0 (z .states)) + 3 * z .blocks + equationSize z * z .variables + 6 * n ⌝ }
 {
     let k = count_labels(labels, z.states);
-    8 + 7 * k + 3 * (z.blocks as usize) + 4 * (z.variables as usize) + 6 * (n as usize)
+    8 + 7 * k + 3 * (z.blocks as usize) + equations_length(z) + 6 * (n as usize)
 }
 
 // A model's spelling, written from the front of the room on.
@@ -155,6 +185,6 @@ pub fn write_model(
 {
     spell::write_sizes(out, 0, z);
     let a = write_labels(out, 7, labels, z.states as usize);
-    let b = write_equations(out, a, equations, z.variables as usize);
+    let b = write_equations(out, a, equations, z.blocks == 0, z.variables as usize);
     write_moves(out, b, moves, n)
 }

@@ -12,7 +12,7 @@ use Rattle.rules.specs.Spelling.{encode}
 use Rattle.rules.specs.Session.{held}
 use Rattle.rules.specs.Calls.{write}
 use Rattle.rules.specs.declared.Session.{Session}
-use Rattle.laws.specs.SpellingLength.{labelled}
+use Rattle.laws.specs.SpellingLength.{labelled, equationSize}
 use Rattle.calls.specs.Checks.{checkOf, checkedSays}
 use Rattle.calls.specs.Passed.{passed-fits}
 use Rattle.calls.specs.WriteLaws.{wrote, good-length, write-short, write-good}
@@ -32,7 +32,7 @@ module _ (s : Session) (l : Rooms) (out : List ℕ) (found : Checked) (h : check
   good-held = let f = passed-fits s l found h g in held-is s l (f .labels-room) (f .equations-room) (f .moves-room)
 
   -- A number n that was counted as the length.
-  module _ (n : ℕ) (e : n ≡ 8 + 7 * labelled (rest (l .labels) 0 (s .sizes .states)) + 3 * s .sizes .blocks + 4 * s .sizes .variables + 6 * s .moves) where
+  module _ (n : ℕ) (e : n ≡ 8 + 7 * labelled (rest (l .labels) 0 (s .sizes .states)) + 3 * s .sizes .blocks + equationSize (s .sizes) * s .sizes .variables + 6 * s .moves) where
     -- It is the spelling's length.
     counted-is : n ≡ length (encode (held s l))
     counted-is =

@@ -1,5 +1,7 @@
 //! The proved checker for Rust: a [`Checker`] owns the rooms that the four proved calls are lent.
 //!
+//! A model has its equations in blocks, or a sign on each equation and no blocks; `write` gives back the style that was loaded.
+//!
 //! ```
 //! use huepaxochi::{Checker, State, Variable};
 //!
@@ -24,7 +26,7 @@ pub struct State(pub u16);
 #[derive(Clone, Copy, Debug, PartialEq, Eq)]
 pub struct Variable(pub u8);
 
-/// Why a call was refused: document 01's number, 1 to 13, and the place in the bytes.
+/// Why a call was refused: the number, 1 to 13, as embed/huepaxochi.h tells them, and the place in the bytes.
 #[derive(Clone, Copy, Debug, PartialEq, Eq)]
 pub struct Refusal {
     pub number: u32,
@@ -72,8 +74,8 @@ impl Lengths {
 const SESSION: usize = 7;
 const REPORT: usize = 3;
 
-/// The most bytes that a model within the limits is spelled with.
-const MOST_BYTES: usize = 8 + 7 * 256 + 3 * 8 + 4 * 32 + 6 * 1024;
+/// The most bytes that a model within the limits is spelled with: one whose 32 equations have signs.
+const MOST_BYTES: usize = 8 + 7 * 256 + 5 * 32 + 6 * 1024;
 
 /// A session with its rooms. A refusal leaves all of them as they were.
 #[derive(Clone, Debug, PartialEq, Eq)]
@@ -117,7 +119,7 @@ impl Checker {
         }
     }
 
-    /// Reads a model and finds the value of every pair.
+    /// Reads a model of either style and finds the value of every pair.
     pub fn load(&mut self, bytes: &[u8]) -> Result<(), Refusal> {
         told(ffi::load(
             bytes,
@@ -152,7 +154,7 @@ impl Checker {
         })
     }
 
-    /// The bytes of the model that the session holds, as `load` reads them.
+    /// The bytes of the model that the session holds, as `load` reads them, in the style that was loaded.
     pub fn write(&self) -> Result<Vec<u8>, Refusal> {
         let mut out = vec![0; MOST_BYTES];
         let n = self.write_into(&mut out)?;

@@ -4,6 +4,9 @@ use super::*;
 
 const G: [u8; 15] = [1, 2, 0, 1, 0, 1, 1, 3, 1, 1, 4, 6, 0, 0, 6];
 
+/// G with a sign on its equation in place of the block.
+const SIGNED_G: [u8; 13] = [1, 2, 0, 1, 0, 1, 0, 11, 1, 6, 0, 0, 6];
+
 /// A batch of changes: 8 to insert, 9 to delete, with source, action, target.
 fn changes(stamp: u32, of: &[(u8, u16, u8, u16)]) -> Vec<u8> {
     let mut bytes = vec![7];
@@ -366,4 +369,91 @@ fn a_question_is_refused_by_its_numbers_and_its_byte() {
         })
     );
     assert_eq!(checker.ask(State(0), Variable(0)), Ok(false));
+}
+
+/// A model of two states, one action, one proposition, which holds at state 1, and no move: each equation is sign, operator,
+/// first, second.
+fn with_signs(equations: &[[u8; 4]]) -> Vec<u8> {
+    let mut bytes = vec![1, 2, 0, 1, 1, equations.len() as u8, 0];
+    bytes.extend([2, 1, 0, 1, 0, 0, 0]);
+    for parts in equations {
+        bytes.push(11);
+        bytes.extend(parts);
+    }
+    bytes.push(6);
+    bytes
+}
+
+/// X0 = X1 and X3, greatest; X1 = X2 or X4 and X2 = diamond 0 X1, least; X3 = box 0 X0, greatest; X4 = proposition 0, least.
+const RULES: [[u8; 4]; 5] = [
+    [1, 5, 1, 3],
+    [0, 4, 2, 4],
+    [0, 6, 0, 1],
+    [1, 7, 0, 0],
+    [0, 2, 0, 0],
+];
+
+#[test]
+fn a_with_a_sign() {
+    let mut checker = Checker::new();
+    checker.load(&SIGNED_G).unwrap();
+    assert_eq!(checker.session, [2, 1, 0, 1, 0, 0, 0]);
+    assert_eq!(checker.equations[0], 6 + (1 << 24));
+    assert_eq!(checker.batch(&changes(0, &[(8, 0, 0, 0)])), report(1, 0, 1));
+    assert_eq!((checker.marks(), checker.stamp()), (&[1, 0][..], 1));
+    assert_eq!(checker.ask(State(0), Variable(0)), Ok(true));
+    let mut written = SIGNED_G.to_vec();
+    written.splice(12..12, [5, 0, 0, 0, 0, 0]);
+    assert_eq!(checker.write().unwrap(), written);
+}
+
+#[test]
+fn components_stand_for_blocks() {
+    let mut checker = Checker::new();
+    checker.load(&with_signs(&RULES)).unwrap();
+    assert_eq!(checker.write().unwrap(), with_signs(&RULES));
+    let tops: Vec<u32> = checker.equations[..5].iter().map(|w| w >> 24).collect();
+    assert_eq!(tops, [5, 2, 2, 5, 0]);
+    let holds = |checker: &Checker, x| [0, 1].map(|s| checker.ask(State(s), Variable(x)).unwrap());
+    assert_eq!(holds(&checker, 0), [false, true]);
+    checker.batch(&changes(0, &[(8, 0, 0, 1)])).unwrap();
+    assert_eq!(holds(&checker, 0), [true, true]);
+    assert_eq!(holds(&checker, 2), [true, false]);
+    let mut again = Checker::new();
+    again.load(&checker.write().unwrap()).unwrap();
+    assert_eq!(again.values, checker.values);
+}
+
+#[test]
+fn signs_that_load_refuses() {
+    let mut checker = filled();
+    let before = checker.clone();
+    let mut mixed = RULES;
+    mixed[3][0] = 0;
+    let mut unknown = RULES;
+    unknown[4][0] = 2;
+    let mut block = SIGNED_G.to_vec();
+    block.splice(7..12, G[7..14].iter().copied());
+    let mut sign = G.to_vec();
+    sign.splice(7..14, SIGNED_G[7..12].iter().copied());
+    for (bytes, number, place) in [
+        (with_signs(&mixed), 5, 14),
+        (with_signs(&unknown), 4, 34),
+        (block, 2, 7),
+        (sign, 2, 7),
+    ] {
+        let mut tried = Checker::new();
+        assert_eq!(tried.load(&bytes), Err(Refusal { number, place }));
+        assert_eq!(tried, Checker::new());
+    }
+    assert!(checker.load(&SIGNED_G).is_ok());
+    assert_eq!(checker.labels[2..], before.labels[2..]);
+    checker.equations[0] += 2 << 24;
+    assert_eq!(
+        checker.write(),
+        Err(Refusal {
+            number: 12,
+            place: 0
+        })
+    );
 }

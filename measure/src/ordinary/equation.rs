@@ -5,7 +5,7 @@ pub const AND: u32 = 5;
 pub const DIAMOND: u32 = 6;
 pub const BOX: u32 = 7;
 
-/// An equation taken out of its word.
+/// An equation taken out of its word. Where the model has no blocks, the block is the variable's component.
 #[derive(Clone, Copy, Debug, Default)]
 pub struct Equation {
     pub operator: u32,
@@ -31,6 +31,15 @@ impl Equation {
     pub fn pack(self) -> u32 {
         let top = self.block << 1 | u32::from(self.greatest);
         self.operator | self.first << 8 | self.second << 16 | top << 24
+    }
+
+    /// The set of the variables that the equation names.
+    pub fn names(&self) -> u32 {
+        match self.operator {
+            OR | AND => 1 << self.first | 1 << self.second,
+            DIAMOND | BOX => 1 << self.second,
+            _ => 0,
+        }
     }
 
     /// Whether every variable that the equation names lies below `end`.

@@ -1,10 +1,11 @@
-//! Document 01 in ordinary Rust: safe, quick, and with no more care than a test asks for. It keeps nothing between calls but
-//! the rooms, as the proved library does, so every call checks what it is lent and builds its own indexes. Each call stays a
-//! call, as the library's are, however small.
+//! Document 01, with document 02's signs on equations, in ordinary Rust: safe, quick, and with no more care than a test asks
+//! for. It keeps nothing between calls but the rooms, as the proved library does, so every call checks what it is lent and
+//! builds its own indexes. Each call stays a call, as the library's are, however small.
 #![forbid(unsafe_code)]
 
 mod apply;
 mod changes;
+mod components;
 mod equation;
 mod index;
 mod model;

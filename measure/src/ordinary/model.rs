@@ -1,5 +1,6 @@
 //! A model read from the wire and judged, then stored in the rooms.
 
+use super::components;
 use super::equation::Equation;
 use super::moves;
 use super::records::{read as read_record, Record, Triple};
@@ -36,7 +37,10 @@ pub fn read(bytes: &[u8], rooms: &Rooms) -> Result<Model, Refusal> {
     let mut reader = Reader { bytes, at: 0 };
     let sizes = read_sizes(&mut reader, rooms)?;
     let labels = read_labels(&mut reader, sizes)?;
-    let equations = read_blocks(&mut reader, sizes)?;
+    let equations = match sizes.blocks {
+        0 => read_signed(&mut reader, sizes)?,
+        _ => read_blocks(&mut reader, sizes)?,
+    };
     let moves = read_moves(&mut reader, sizes, rooms.moves.len())?;
     demand(reader.at == bytes.len(), 2, reader.at)?;
     Ok(Model {
@@ -123,6 +127,51 @@ fn read_equation(
     demand(equation.names_below(end), 5, reader.at)?;
     reader.at = next;
     Ok(equation.pack())
+}
+
+/// The equations of a model without blocks, packed with their components; no component may hold both signs.
+fn read_signed(reader: &mut Reader, sizes: Sizes) -> Result<Vec<u32>, Refusal> {
+    let mut equations = Vec::with_capacity(sizes.variables as usize);
+    let mut places = Vec::with_capacity(sizes.variables as usize);
+    for _ in 0..sizes.variables {
+        places.push(reader.at);
+        equations.push(read_sign(reader, sizes)?);
+    }
+    let numbers = components::numbers(&equations);
+    if let Some(x) = components::first_mixed(&equations, &numbers) {
+        return refuse(5, places[x]);
+    }
+    let packed = equations
+        .iter()
+        .zip(numbers)
+        .map(|(e, block)| Equation { block, ..*e }.pack());
+    Ok(packed.collect())
+}
+
+/// One equation with its sign, its component not yet known.
+fn read_sign(reader: &mut Reader, sizes: Sizes) -> Result<Equation, Refusal> {
+    let (
+        Record::Signed {
+            kind,
+            operator,
+            first,
+            second,
+        },
+        next,
+    ) = reader.peek()?
+    else {
+        return refuse(2, reader.at);
+    };
+    let good = kind <= 1 && sizes.hold_operands(operator, first, second);
+    demand(good, 4, reader.at)?;
+    reader.at = next;
+    Ok(Equation {
+        operator,
+        first,
+        second,
+        block: 0,
+        greatest: kind == 1,
+    })
 }
 
 /// The moves, ascending, and the end record.

@@ -19,6 +19,12 @@ pub enum Record {
         first: u32,
         second: u32,
     },
+    Signed {
+        kind: u32,
+        operator: u32,
+        first: u32,
+        second: u32,
+    },
     Move(Triple),
     End,
     Stamp(u32),
@@ -89,6 +95,17 @@ fn equation(body: &[u8]) -> Option<Record> {
     })
 }
 
+/// The body of an equation record with a sign.
+fn signed(body: &[u8]) -> Option<Record> {
+    let [kind, operator, first, second] = *body.first_chunk()?;
+    Some(Record::Signed {
+        kind: kind.into(),
+        operator: operator.into(),
+        first: first.into(),
+        second: second.into(),
+    })
+}
+
 /// The record at a place and the place after it; nothing where the kind is unknown or the bytes end too soon.
 pub fn read(bytes: &[u8], at: usize) -> Option<(Record, usize)> {
     let (kind, body) = bytes.get(at..)?.split_first()?;
@@ -102,6 +119,7 @@ pub fn read(bytes: &[u8], at: usize) -> Option<(Record, usize)> {
         7 => (Record::Stamp(u32::from_le_bytes(*body.first_chunk()?)), 4),
         8 => (Record::Insert(triple(body)?), 5),
         9 => (Record::Delete(triple(body)?), 5),
+        11 => (signed(body)?, 4),
         _ => return None,
     };
     Some((record, at + 1 + length))

@@ -1,5 +1,6 @@
 //! Whether a session is one that load accepts.
 
+use super::components;
 use super::equation::Equation;
 use super::moves;
 use super::sizes::{Sizes, MOST_MOVES};
@@ -44,8 +45,31 @@ fn moves_ok(sizes: Sizes, table: &[u32]) -> bool {
     in_range && ascends
 }
 
-/// Whether the equations stand in blocks numbered from 0 on, each of one kind, and name nothing of a later block.
+/// Whether the equations are ones that load accepts, in either style.
 fn equations_ok(sizes: Sizes, words: &[u32]) -> bool {
+    match sizes.blocks {
+        0 => signed_ok(sizes, words),
+        _ => blocks_ok(sizes, words),
+    }
+}
+
+/// Whether each equation has the number of its component, and no component holds both signs.
+fn signed_ok(sizes: Sizes, words: &[u32]) -> bool {
+    let equations: Vec<Equation> = words.iter().map(|word| Equation::unpack(*word)).collect();
+    let held = |e: &Equation| sizes.hold_operands(e.operator, e.first, e.second);
+    if !equations.iter().all(held) {
+        return false;
+    }
+    let numbers = components::numbers(&equations);
+    let numbered = equations
+        .iter()
+        .map(|e| e.block)
+        .eq(numbers.iter().copied());
+    numbered && components::first_mixed(&equations, &numbers).is_none()
+}
+
+/// Whether the equations stand in blocks numbered from 0 on, each of one kind, and name nothing of a later block.
+fn blocks_ok(sizes: Sizes, words: &[u32]) -> bool {
     let mut blocks = 0;
     let mut end = 0;
     for block in words.chunk_by(|one, next| one >> 24 == next >> 24) {

@@ -17,6 +17,7 @@ pub struct Sizes {
     pub actions: u32,
     pub propositions: u32,
     pub variables: u32,
+    /// 0 where each equation has a sign of its own.
     pub blocks: u32,
 }
 
@@ -39,7 +40,7 @@ impl Sizes {
             && (1..=MOST_ACTIONS).contains(&self.actions)
             && self.propositions <= MOST_PROPOSITIONS
             && (1..=MOST_VARIABLES).contains(&self.variables)
-            && (1..=MOST_BLOCKS).contains(&self.blocks)
+            && self.blocks <= MOST_BLOCKS
     }
 
     /// How many pairs there are.

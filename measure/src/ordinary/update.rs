@@ -1,49 +1,39 @@
 //! How the values follow a batch: block by block, shift and settle, each with a stack of pairs whose leaners are still to be
 //! visited.
 
-use std::ops::Range;
-
 use super::changes::Change;
 use super::equation::{BOX, DIAMOND};
 use super::moves;
+use super::sizes::MOST_VARIABLES;
 use super::system::System;
 use crate::answers::Report;
 
-/// The value that a greatest (1) or least (0) block tends to, and the block's variables.
-#[derive(Clone, Copy)]
+/// The value that a greatest (1) or least (0) block or component tends to, and the set of its variables.
+#[derive(Clone, Copy, Default)]
 struct Block {
     own: u8,
-    first: usize,
-    end: usize,
+    set: u32,
 }
 
 impl Block {
     /// The block's variables.
-    fn variables(self) -> Range<usize> {
-        self.first..self.end
-    }
-
-    /// The same as a set.
-    fn set(self) -> u32 {
-        let below = |n: usize| ((1u64 << n) - 1) as u32;
-        below(self.end) & !below(self.first)
+    fn variables(self) -> impl Iterator<Item = usize> {
+        (0..MOST_VARIABLES as usize).filter(move |x| self.set >> x & 1 == 1)
     }
 }
 
-/// The blocks of a system in order.
-fn blocks<'a>(system: &'a System) -> impl Iterator<Item = Block> + 'a {
-    let groups = system
-        .equations
-        .chunk_by(|one, next| one.block == next.block);
-    groups.scan(0, |end, group| {
-        let first = *end;
-        *end += group.len();
-        Some(Block {
-            own: group[0].greatest.into(),
-            first,
-            end: *end,
-        })
-    })
+/// The blocks of a system in order, or the components where it has none.
+fn blocks(system: &System) -> Vec<Block> {
+    let mut blocks = Vec::new();
+    for (x, e) in system.equations.iter().enumerate() {
+        let number = e.block as usize;
+        if blocks.len() <= number {
+            blocks.resize(number + 1, Block::default());
+        }
+        blocks[number].own = e.greatest.into();
+        blocks[number].set |= 1 << x;
+    }
+    blocks
 }
 
 /// An update under way.
@@ -63,9 +53,8 @@ struct Run<'a> {
 /// The values before any change: the solution of the equations. The marks become 0.
 pub fn solve(system: &System, values: &mut [u8], marks: &mut [u8]) {
     marks.fill(0);
-    for block in blocks(system) {
-        let pairs = block.first * system.states..block.end * system.states;
-        values[pairs].fill(block.own);
+    for (of_variable, e) in values.chunks_mut(system.states).zip(&system.equations) {
+        of_variable.fill(e.greatest.into());
     }
     let mut run = Run::new(system, values, marks);
     for block in blocks(system) {
@@ -133,7 +122,7 @@ impl<'a> Run<'a> {
         for (x, s) in &gone {
             let (x, s) = (usize::from(*x), usize::from(*s));
             if self.values[system.pair(x, s)] == block.own {
-                system.leaners(x, s, block.set(), |y, r| self.shift_pair(block, y, r));
+                system.leaners(x, s, block.set, |y, r| self.shift_pair(block, y, r));
             }
         }
         self.gone = gone;
@@ -174,7 +163,7 @@ impl<'a> Run<'a> {
     fn shift(&mut self, block: Block) {
         let system = self.system;
         while let Some((x, s)) = self.stack.pop() {
-            system.leaners(x.into(), s.into(), block.set(), |y, r| {
+            system.leaners(x.into(), s.into(), block.set, |y, r| {
                 self.report.shift_visits += 1;
                 self.shift_pair(block, y, r);
             });
@@ -190,7 +179,7 @@ impl<'a> Run<'a> {
             }
         }
         while let Some((x, s)) = self.stack.pop() {
-            system.leaners(x.into(), s.into(), block.set(), |y, r| {
+            system.leaners(x.into(), s.into(), block.set, |y, r| {
                 self.report.settle_visits += 1;
                 self.settle_pair(block, y, r);
             });

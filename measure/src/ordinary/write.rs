@@ -10,7 +10,11 @@ pub fn length(sizes: Sizes, rooms: &Rooms) -> usize {
     let labels = &rooms.labels[..sizes.states as usize];
     let labelled = labels.iter().filter(|set| **set != 0).count();
     let (variables, blocks) = (sizes.variables as usize, sizes.blocks as usize);
-    7 + 7 * labelled + 3 * blocks + 4 * variables + 6 * rooms.table().len() + 1
+    let equations = match blocks {
+        0 => 5 * variables,
+        _ => 3 * blocks + 4 * variables,
+    };
+    7 + 7 * labelled + equations + 6 * rooms.table().len() + 1
 }
 
 /// A room that is written from its front on.
@@ -41,7 +45,11 @@ pub fn spell(sizes: Sizes, rooms: &Rooms, out: &mut [u8]) {
     .map(|n| n as u8);
     out.put([1, low, high, actions, propositions, variables, blocks]);
     spell_labels(&rooms.labels[..sizes.states as usize], &mut out);
-    spell_blocks(&rooms.equations[..sizes.variables as usize], &mut out);
+    let equations = &rooms.equations[..sizes.variables as usize];
+    match sizes.blocks {
+        0 => spell_signed(equations, &mut out),
+        _ => spell_blocks(equations, &mut out),
+    }
     for packed in rooms.table() {
         let [s, t, ..] = moves::source(*packed).to_le_bytes();
         let [u, v, ..] = moves::target(*packed).to_le_bytes();
@@ -56,6 +64,14 @@ fn spell_labels(labels: &[u32], out: &mut Out) {
         let [s, t] = (state as u16).to_le_bytes();
         let [a, b, c, d] = set.to_le_bytes();
         out.put([2, s, t, a, b, c, d]);
+    }
+}
+
+/// The equation records with their signs.
+fn spell_signed(words: &[u32], out: &mut Out) {
+    for word in words {
+        let [operator, first, second, top] = word.to_le_bytes();
+        out.put([11, top & 1, operator, first, second]);
     }
 }
 

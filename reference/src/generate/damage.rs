@@ -11,7 +11,7 @@ pub fn damage(random: &mut Random, bytes: &mut Vec<u8>, from: usize) {
         return;
     }
     let place = random.between(from, bytes.len() - 1);
-    match random.below(9) {
+    match random.below(10) {
         0 | 1 => bytes[place] ^= 1 << random.below(8),
         2 => bytes[place] = random.byte(),
         3 => bytes.insert(place, random.byte() & 15),
@@ -22,6 +22,7 @@ pub fn damage(random: &mut Random, bytes: &mut Vec<u8>, from: usize) {
         5 => bytes[place] ^= 1,
         6 => swap_records(random, bytes, from),
         7 => double_record(random, bytes, from),
+        8 => turn_record(random, bytes, from),
         _ => drop_record(random, bytes, from),
     }
 }
@@ -79,6 +80,21 @@ fn drop_record(random: &mut Random, bytes: &mut Vec<u8>, from: usize) {
     bytes.drain(start..end);
 }
 
+/// Gives a block or an equation with a sign the other kind, or the sizes the other style.
+fn turn_record(random: &mut Random, bytes: &mut [u8], from: usize) {
+    let mut records = split(bytes, from);
+    records.retain(|(start, _)| matches!(bytes[*start], 1 | 3 | 11));
+    if records.is_empty() {
+        return;
+    }
+    let (start, end) = random.pick(&records);
+    match bytes[start] {
+        1 if bytes[end - 1] == 0 => bytes[end - 1] = random.between(1, 8) as u8,
+        1 => bytes[end - 1] = 0,
+        _ => bytes[start + 1] ^= 1,
+    }
+}
+
 /// A stream without a plan: nothing, a few bytes, or whole records of any kinds.
 pub fn noise(random: &mut Random) -> Vec<u8> {
     match random.below(4) {
@@ -90,7 +106,7 @@ pub fn noise(random: &mut Random) -> Vec<u8> {
         }
         _ => {
             let length = random.between(1, 30);
-            let kinds = [1, 2, 3, 4, 5, 6, 7, 8, 9];
+            let kinds = [1, 2, 3, 4, 5, 6, 7, 8, 9, 11];
             let records: Vec<_> = (0..length).map(|_| any_record(random, &kinds)).collect();
             spell_all(&records)
         }

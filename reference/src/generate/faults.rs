@@ -4,10 +4,11 @@ use std::collections::BTreeSet;
 
 use crate::limits::{MOST_CHANGES, MOST_MOVES};
 use crate::random::Random;
-use crate::records::{spell_all, Block, Equation, Record, Sizes};
+use crate::records::{spell_all, Block, Equation, Record, Sizes, Style};
 use crate::table::{Move, State};
 
 use super::models::any_move;
+use super::signed::mix_signs;
 
 /// The numbers for which a fault can be put into a batch without ending the run.
 pub const BATCH_NUMBERS: [u8; 8] = [2, 3, 4, 7, 8, 9, 10, 11];
@@ -15,7 +16,10 @@ pub const BATCH_NUMBERS: [u8; 8] = [2, 3, 4, 7, 8, 9, 10, 11];
 /// Puts one fault into a good model and gives its bytes with the number it must be refused with.
 pub fn fault_in_model(random: &mut Random, model: Vec<Record>) -> (Vec<u8>, u8) {
     loop {
-        let number = random.pick(&[1, 2, 2, 3, 3, 4, 4, 4, 5, 5, 6, 6, 10]);
+        let number = match sizes_of(&model).style() {
+            Style::Blocks => random.pick(&[1, 2, 2, 3, 3, 4, 4, 4, 5, 5, 6, 6, 10]),
+            Style::Signs => random.pick(&[1, 2, 2, 3, 3, 4, 4, 4, 5, 5, 5, 5, 6, 10]),
+        };
         let mut records = model.clone();
         if number == 1 {
             return (cut_or_unknown(random, &records), 1);
@@ -24,7 +28,7 @@ pub fn fault_in_model(random: &mut Random, model: Vec<Record>) -> (Vec<u8>, u8) 
             2 => not_due(random, &mut records),
             3 => bad_size(random, &mut records),
             4 => bad_number(random, &mut records),
-            5 => later_block(random, &mut records),
+            5 => bad_names(random, &mut records),
             6 => not_ascending(random, &mut records),
             _ => too_many_moves(random, &mut records),
         };
@@ -41,7 +45,7 @@ pub fn cut_or_unknown(random: &mut Random, records: &[Record]) -> Vec<u8> {
         bytes.truncate(random.below(bytes.len()));
     } else {
         let place = spell_all(&records[..random.below(records.len())]).len();
-        bytes[place] = random.pick(&[0, 10, 11, 0x80, 0xff]);
+        bytes[place] = random.pick(&[0, 10, 12, 0x80, 0xff]);
     }
     bytes
 }
@@ -69,18 +73,19 @@ pub fn any_record(random: &mut Random, kinds: &[u8]) -> Record {
         (bits >> 20) as u8 & 3,
         (bits >> 40) as u16 & 7,
     );
-    let (a, b, c) = (
-        bits as u8 & 7,
-        (bits >> 8) as u8 & 7,
-        (bits >> 16) as u8 & 7,
-    );
+    let [a, b, c] = [0, 8, 16].map(|from| (bits >> from) as u8 & 7);
+    let equation = Equation {
+        operator: a,
+        first: b,
+        second: c,
+    };
     match random.pick(kinds) {
         1 => Record::Sizes(Sizes {
             states: bits as u16 & 0x1ff,
             actions: a,
             propositions: b,
             variables: c,
-            blocks: 1,
+            blocks: a & 1,
         }),
         2 => Record::Label {
             state: State(bits as u16 & 7),
@@ -90,27 +95,38 @@ pub fn any_record(random: &mut Random, kinds: &[u8]) -> Record {
             kind: a & 1,
             variables: b,
         }),
-        4 => Record::Equation(Equation {
-            operator: a,
-            first: b,
-            second: c,
-        }),
+        4 => Record::Equation(equation),
         5 => Record::Move(what),
         6 => Record::End,
         7 => Record::Stamp(bits as u32),
         8 => Record::Insert(what),
-        _ => Record::Delete(what),
+        9 => Record::Delete(what),
+        _ => Record::Signed {
+            sign: bits.count_ones() as u8 & 1,
+            equation,
+        },
     }
 }
 
-/// 2 in a model: a record of a kind that is never due there, the sizes or an equation missing, or
-/// a block too many.
+/// Whether a record is an equation of either style.
+fn is_equation(record: &Record) -> bool {
+    matches!(record, Record::Equation(_) | Record::Signed { .. })
+}
+
+/// 2 in a model: a record of a kind that is never due there, of the other style too; the sizes or
+/// an equation missing; a rule too many; or the other style in the sizes.
 fn not_due(random: &mut Random, records: &mut Vec<Record>) -> bool {
-    let equations = places(records, |r| matches!(r, Record::Equation(_)));
-    match random.below(4) {
+    let mut sizes = sizes_of(records);
+    let equations = places(records, is_equation);
+    let other_style: &[u8] = match sizes.style() {
+        Style::Blocks => &[11, 11],
+        Style::Signs => &[3, 4],
+    };
+    match random.below(5) {
         0 => {
             let at = random.between(1, records.len() - 1);
-            records.insert(at, any_record(random, &[1, 7, 8, 9]));
+            let kinds = [&[1, 7, 8, 9], other_style].concat();
+            records.insert(at, any_record(random, &kinds));
         }
         1 => {
             records.remove(0);
@@ -118,9 +134,14 @@ fn not_due(random: &mut Random, records: &mut Vec<Record>) -> bool {
         2 => {
             records.remove(random.pick(&equations));
         }
-        _ => {
+        3 => {
             let at = equations[equations.len() - 1] + 1;
-            records.insert(at, any_record(random, &[2, 3, 4]));
+            records.insert(at, any_record(random, &[2, 3, 4, 11]));
+        }
+        _ => {
+            let blocks = random.between(1, 8) as u8;
+            sizes.blocks = if sizes.blocks == 0 { blocks } else { 0 };
+            records[0] = Record::Sizes(sizes);
         }
     }
     true
@@ -135,7 +156,8 @@ fn bad_size(random: &mut Random, records: &mut [Record]) -> bool {
         1 => sizes.actions = random.pick(&[0, 17, 255]),
         2 => sizes.propositions = random.pick(&[33, 255]),
         3 => sizes.variables = random.pick(&[0, 33, 255]),
-        4 => sizes.blocks = random.pick(&[0, 9, 255]),
+        4 => sizes.blocks = random.pick(&[9, 10, 255]),
+        _ if blocks.is_empty() => return false,
         5 if sizes.variables < 32 => sizes.variables += 1,
         _ => {
             let at = random.pick(&blocks);
@@ -162,6 +184,8 @@ fn bad_number(random: &mut Random, records: &mut [Record]) -> bool {
         },
         Record::Block(block) => block.kind = random.pick(&[2, 3, 255]),
         Record::Equation(equation) => *equation = bad_equation(random, &sizes),
+        Record::Signed { sign, .. } if random.chance(30) => *sign = random.pick(&[2, 3, 255]),
+        Record::Signed { equation, .. } => *equation = bad_equation(random, &sizes),
         Record::Move(m) => bad_move(random, &sizes, m),
         _ => return false,
     }
@@ -199,7 +223,37 @@ fn bad_move(random: &mut Random, sizes: &Sizes, m: &mut Move) {
     }
 }
 
-/// 5 in a model: an equation of a block before the last names the last variable.
+/// 5 in a model of either style.
+fn bad_names(random: &mut Random, records: &mut Vec<Record>) -> bool {
+    match sizes_of(records).style() {
+        Style::Blocks => later_block(random, records),
+        Style::Signs => mixed_chain(random, records),
+    }
+}
+
+/// 5 with signs: a closed chain with both signs. What follows the last equation doesn't count, so
+/// it is spoiled now and then.
+fn mixed_chain(random: &mut Random, records: &mut Vec<Record>) -> bool {
+    let sizes = sizes_of(records);
+    let equations = places(records, is_equation);
+    let (first, end) = (equations[0], equations[equations.len() - 1] + 1);
+    if !mix_signs(random, &sizes, &mut records[first..end]) {
+        return false;
+    }
+    match random.below(6) {
+        0 => records.insert(end, any_record(random, &[1, 2, 3, 4, 5, 7, 8, 9, 11])),
+        1 => records.truncate(end),
+        2 => {
+            let mut m = any_move(random, &sizes);
+            bad_move(random, &sizes, &mut m);
+            records.insert(end, Record::Move(m));
+        }
+        _ => {}
+    }
+    true
+}
+
+/// 5 with blocks: an equation of a block before the last names the last variable.
 fn later_block(random: &mut Random, records: &mut [Record]) -> bool {
     let sizes = sizes_of(records);
     let blocks = places(records, |r| matches!(r, Record::Block(_)));
@@ -323,8 +377,8 @@ impl Draft {
             self.records.remove(0);
         } else {
             let at = self.inside(random);
-            self.records
-                .insert(at, any_record(random, &[1, 2, 3, 4, 5, 7]));
+            let kinds = [1, 2, 3, 4, 5, 7, 11];
+            self.records.insert(at, any_record(random, &kinds));
         }
         true
     }

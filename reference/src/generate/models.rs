@@ -4,10 +4,11 @@ use std::collections::BTreeSet;
 
 use crate::model::{load, Loaded};
 use crate::random::Random;
-use crate::records::{spell_all, Block, Equation, Record, Sizes};
+use crate::records::{spell_all, Block, Equation, Record, Sizes, Style};
 use crate::session::Session;
 use crate::table::{Move, State};
 
+use super::signed::signed_rules;
 use super::Family;
 
 /// How large a model is to be.
@@ -41,9 +42,9 @@ fn draw_sizes(random: &mut Random, states: (usize, usize), most: [usize; 3]) -> 
     }
 }
 
-/// A random shape for a family.
+/// A random shape for a family, with blocks 0 one time in three and then 32 variables more often.
 fn shape(random: &mut Random, family: Family) -> Shape {
-    let sizes = match family {
+    let mut sizes = match family {
         Family::Tiny => draw_sizes(random, (1, 3), [2, 2, 4]),
         Family::Small => draw_sizes(random, (2, 8), [3, 4, 10]),
         Family::Chain => {
@@ -61,6 +62,13 @@ fn shape(random: &mut Random, family: Family) -> Shape {
         Family::Large => draw_sizes(random, (100, 256), [16, 32, 32]),
         _ => draw_sizes(random, (8, 64), [16, 32, 32]),
     };
+    if random.chance(33) {
+        sizes.blocks = 0;
+        let small = matches!(family, Family::Tiny | Family::Small);
+        if !small && random.chance(15) {
+            sizes.variables = 32;
+        }
+    }
     let states = usize::from(sizes.states);
     let universe = states * states * usize::from(sizes.actions);
     let moves = match family {
@@ -127,11 +135,11 @@ fn labels(random: &mut Random, sizes: &Sizes) -> Vec<Record> {
     labels
 }
 
-/// Splits the variables into blocks of at least one variable each.
-fn blocks(random: &mut Random, sizes: &Sizes) -> Vec<Block> {
+/// Splits variables into so many blocks of at least one variable each.
+pub fn blocks(random: &mut Random, variables: u8, count: u8) -> Vec<Block> {
     let mut blocks = Vec::new();
-    let mut remain = usize::from(sizes.variables);
-    for due in (1..=usize::from(sizes.blocks)).rev() {
+    let mut remain = usize::from(variables);
+    for due in (1..=usize::from(count)).rev() {
         let most = remain + 1 - due;
         let fair = (2 * remain / due).min(most);
         let variables = if due == 1 {
@@ -200,7 +208,7 @@ fn free(random: &mut Random, sizes: &Sizes, first: u8, end: u8) -> Equation {
 
 /// The equations of one block: groups of three that loop through a move (X = Y op Z, Y a base,
 /// Z = diamond or box of X), and free equations between them.
-fn equations(random: &mut Random, sizes: &Sizes, first: u8, end: u8) -> Vec<Equation> {
+pub fn equations(random: &mut Random, sizes: &Sizes, first: u8, end: u8) -> Vec<Equation> {
     let mut equations = Vec::new();
     let mut at = first;
     let looping = random.pick(&[0, 50, 100]);
@@ -227,20 +235,30 @@ fn equations(random: &mut Random, sizes: &Sizes, first: u8, end: u8) -> Vec<Equa
     equations
 }
 
-/// A random good model of a family.
-pub fn model(random: &mut Random, family: Family) -> Vec<Record> {
-    let shape = shape(random, family);
-    let mut records = vec![Record::Sizes(shape.sizes)];
-    records.extend(labels(random, &shape.sizes));
+/// The records of blocks with their equations.
+fn block_rules(random: &mut Random, sizes: &Sizes) -> Vec<Record> {
+    let mut records = Vec::new();
     let mut first = 0;
-    for block in blocks(random, &shape.sizes) {
+    for block in blocks(random, sizes.variables, sizes.blocks) {
         let end = first + block.variables;
         records.push(Record::Block(block));
-        for equation in equations(random, &shape.sizes, first, end) {
+        for equation in equations(random, sizes, first, end) {
             records.push(Record::Equation(equation));
         }
         first = end;
     }
+    records
+}
+
+/// A random good model of a family, in either style.
+pub fn model(random: &mut Random, family: Family) -> Vec<Record> {
+    let shape = shape(random, family);
+    let mut records = vec![Record::Sizes(shape.sizes)];
+    records.extend(labels(random, &shape.sizes));
+    records.extend(match shape.sizes.style() {
+        Style::Blocks => block_rules(random, &shape.sizes),
+        Style::Signs => signed_rules(random, &shape.sizes),
+    });
     let plan = match family {
         Family::Chain => random.pick(&[Plan::Chain, Plan::BackChain, Plan::Ring, Plan::Tree]),
         _ => random.pick(&[Plan::Scattered, Plan::Scattered, Plan::Ring, Plan::Star]),

@@ -2,19 +2,62 @@
 
 use std::collections::BTreeSet;
 
-use reference::model::{Formula, Kind, Model, Span};
+use reference::model::{Formula, Group, Kind, Model};
 use reference::update::{Act, Change, Outcome};
-use reference::{State, Variable};
+use reference::{State, Style, Variable};
 
 /// A pair of a state and a variable.
 pub type Pair = (State, Variable);
 
-/// All pairs of a block.
-pub fn pairs(model: &Model, span: Span) -> Vec<Pair> {
+/// All pairs of a group.
+pub fn pairs(model: &Model, group: &Group) -> Vec<Pair> {
     let states = (0..model.sizes.states).map(State);
     states
-        .flat_map(|s| (span.first..span.end).map(move |x| (s, Variable(x))))
+        .flat_map(|s| group.variables.iter().map(move |x| (s, *x)))
         .collect()
+}
+
+/// For any two variables whether a chain of names, of one name or more, leads from the first to
+/// the second: the names, closed under going on through each variable in turn.
+pub fn leads(model: &Model) -> Vec<Vec<bool>> {
+    let count = model.equations.len();
+    let mut leads = vec![vec![false; count]; count];
+    for (x, equation) in model.equations.iter().enumerate() {
+        for named in equation.named() {
+            leads[x][usize::from(named.0)] = true;
+        }
+    }
+    for through in 0..count {
+        for from in 0..count {
+            for to in 0..count {
+                leads[from][to] |= leads[from][through] && leads[through][to];
+            }
+        }
+    }
+    leads
+}
+
+/// The blocks in order; or the components, each taken as soon as all that it names are taken.
+pub fn groups(model: &Model) -> Vec<Group> {
+    if model.sizes.style() == Style::Blocks {
+        return model.groups();
+    }
+    let leads = leads(model);
+    let count = model.equations.len();
+    let with = |x: usize, y: usize| x == y || (leads[x][y] && leads[y][x]);
+    let mut groups: Vec<Group> = Vec::new();
+    let mut taken = vec![false; count];
+    while let Some(next) = (0..count)
+        .find(|x| !taken[*x] && (0..count).all(|y| !leads[*x][y] || with(*x, y) || taken[y]))
+    {
+        let members: Vec<usize> = (0..count).filter(|y| with(next, *y)).collect();
+        members.iter().for_each(|y| taken[*y] = true);
+        groups.push(Group {
+            kind: Kind::of(model.signs[next]),
+            variables: members.iter().map(|y| Variable(*y as u8)).collect(),
+        });
+    }
+    groups
 }
 
 /// What a pair leans on, one entry for each leaning.
@@ -46,12 +89,12 @@ pub fn gives(model: &Model, trues: &BTreeSet<Pair>, pair: Pair) -> bool {
     }
 }
 
-/// The values by trying every assignment of every block and taking the smallest or the largest
-/// that solves it. Nothing where a block has more than ten pairs.
+/// The values by trying every assignment of every group and taking the smallest or the largest
+/// that solves it. Nothing where a group has more than ten pairs.
 pub fn solve(model: &Model) -> Option<BTreeSet<Pair>> {
     let mut trues = BTreeSet::new();
-    for span in model.spans() {
-        let pairs = pairs(model, span);
+    for group in groups(model) {
+        let pairs = pairs(model, &group);
         if pairs.len() > 10 {
             return None;
         }
@@ -65,7 +108,7 @@ pub fn solve(model: &Model) -> Option<BTreeSet<Pair>> {
                 solutions.push(tried);
             }
         }
-        let extreme = solutions.iter().find(|s| match span.kind {
+        let extreme = solutions.iter().find(|s| match group.kind {
             Kind::Least => solutions.iter().all(|other| s.is_subset(other)),
             Kind::Greatest => solutions.iter().all(|other| s.is_superset(other)),
         });
@@ -81,18 +124,18 @@ pub fn trues(model: &Model, values: &[bool]) -> BTreeSet<Pair> {
         .collect()
 }
 
-/// One sentence of the shift rule for a pair of a block that is old-false (least: old-true):
+/// One sentence of the shift rule for a pair of a group that is old-false (least: old-true):
 /// whether it belongs to the shifted set, given the pairs already known to.
 fn shifts(
     model: &Model,
     changes: &[Change],
     (old, now): (&BTreeSet<Pair>, &BTreeSet<Pair>),
-    span: Span,
+    group: &Group,
     shifted: &BTreeSet<Pair>,
     pair: Pair,
 ) -> bool {
     let (state, variable) = pair;
-    let greatest = span.kind == Kind::Greatest;
+    let greatest = group.kind == Kind::Greatest;
     let own = |c: &&Change, a| c.what.source == state && c.what.action == a;
     let own_moves = match (greatest, model.formula(variable)) {
         (true, Formula::Diamond(a, _)) | (false, Formula::Box(a, _)) => {
@@ -111,24 +154,26 @@ fn shifts(
         let (before, after) = (old.contains(o), now.contains(o));
         before != greatest && after == greatest
     };
-    let earlier = leans.iter().any(|o| o.1 .0 < span.first && went(o));
-    own_moves || earlier || leans.iter().any(|o| shifted.contains(o))
+    let other = leans
+        .iter()
+        .any(|o| !group.variables.contains(&o.1) && went(o));
+    own_moves || other || leans.iter().any(|o| shifted.contains(o))
 }
 
-/// The smallest shifted set of a block: pairs are added, sweep after sweep, until none is.
+/// The smallest shifted set of a group: pairs are added, sweep after sweep, until none is.
 fn shifted_set(
     model: &Model,
     changes: &[Change],
     (old, now): (&BTreeSet<Pair>, &BTreeSet<Pair>),
-    span: Span,
+    group: &Group,
 ) -> BTreeSet<Pair> {
-    let greatest = span.kind == Kind::Greatest;
+    let greatest = group.kind == Kind::Greatest;
     let mut shifted = BTreeSet::new();
     loop {
         let before = shifted.len();
-        for pair in pairs(model, span) {
+        for pair in pairs(model, group) {
             let candidate = old.contains(&pair) != greatest;
-            if candidate && shifts(model, changes, (old, now), span, &shifted, pair) {
+            if candidate && shifts(model, changes, (old, now), group, &shifted, pair) {
                 shifted.insert(pair);
             }
         }
@@ -138,13 +183,13 @@ fn shifted_set(
     }
 }
 
-/// Settles a block by sweeps and gives the pairs that turned.
-fn settle(model: &Model, span: Span, now: &mut BTreeSet<Pair>) -> BTreeSet<Pair> {
-    let greatest = span.kind == Kind::Greatest;
+/// Settles a group by sweeps and gives the pairs that turned.
+fn settle(model: &Model, group: &Group, now: &mut BTreeSet<Pair>) -> BTreeSet<Pair> {
+    let greatest = group.kind == Kind::Greatest;
     let mut settled = BTreeSet::new();
     loop {
         let before = settled.len();
-        for pair in pairs(model, span) {
+        for pair in pairs(model, group) {
             let is = now.contains(&pair);
             if is == greatest && gives(model, now, pair) != greatest {
                 settled.insert(pair);
@@ -161,13 +206,13 @@ fn settle(model: &Model, span: Span, now: &mut BTreeSet<Pair>) -> BTreeSet<Pair>
     }
 }
 
-/// How many leanings inside one block lean on a pair of the set.
+/// How many leanings inside one group lean on a pair of the set.
 fn visits(model: &Model, set: &BTreeSet<Pair>) -> usize {
     let mut visits = 0;
-    for span in model.spans() {
-        for pair in pairs(model, span) {
+    for group in groups(model) {
+        for pair in pairs(model, &group) {
             let inside = operands(model, pair).into_iter();
-            let inside = inside.filter(|o| span.holds(o.1) && set.contains(o));
+            let inside = inside.filter(|o| group.variables.contains(&o.1) && set.contains(o));
             visits += inside.count();
         }
     }
@@ -180,16 +225,16 @@ pub fn update(model: &Model, changes: &[Change], old: &[bool]) -> Outcome {
     let mut now = old_trues.clone();
     let mut shifted = BTreeSet::new();
     let mut settled = BTreeSet::new();
-    for span in model.spans() {
-        let shifting = shifted_set(model, changes, (&old_trues, &now), span);
+    for group in &groups(model) {
+        let shifting = shifted_set(model, changes, (&old_trues, &now), group);
         for pair in &shifting {
-            match span.kind {
+            match group.kind {
                 Kind::Greatest => now.insert(*pair),
                 Kind::Least => now.remove(pair),
             };
         }
         shifted.extend(shifting);
-        settled.extend(settle(model, span, &mut now));
+        settled.extend(settle(model, group, &mut now));
     }
     let all = (0..old.len()).map(|i| (model.sizes.state_of(i), model.sizes.variable_of(i)));
     let all: Vec<Pair> = all.collect();
@@ -205,5 +250,42 @@ pub fn update(model: &Model, changes: &[Change], old: &[bool]) -> Outcome {
         shift_visits: visits(model, &shifted),
         settle_visits: visits(model, &settled),
         net: now.len() as i64 - old_trues.len() as i64,
+    }
+}
+
+/// The values of a model with signs as nested fixpoints, the variable of the front outermost: each
+/// one's states start from none or all and are found again, with everything inside solved anew,
+/// until they stay. No component is asked for, so every order must give the same. Only for a few
+/// states and variables.
+pub fn nested(model: &Model, order: &[Variable], trues: &mut BTreeSet<Pair>) {
+    let Some((x, inside)) = order.split_first() else {
+        return;
+    };
+    let states = (0..model.sizes.states).map(State);
+    let of_x: Vec<Pair> = states.map(|state| (state, *x)).collect();
+    let kind = Kind::of(model.signs[usize::from(x.0)]);
+    put(&of_x, |_| kind == Kind::Greatest, trues);
+    loop {
+        nested(model, inside, trues);
+        let found: Vec<bool> = of_x.iter().map(|p| gives(model, trues, *p)).collect();
+        let stays = of_x
+            .iter()
+            .zip(&found)
+            .all(|(p, f)| trues.contains(p) == *f);
+        if stays {
+            return;
+        }
+        put(&of_x, |at| found[at], trues);
+    }
+}
+
+/// Makes each of the pairs true or false.
+fn put(pairs: &[Pair], value: impl Fn(usize) -> bool, trues: &mut BTreeSet<Pair>) {
+    for (at, pair) in pairs.iter().enumerate() {
+        if value(at) {
+            trues.insert(*pair);
+        } else {
+            trues.remove(pair);
+        }
     }
 }

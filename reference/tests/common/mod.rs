@@ -6,6 +6,9 @@ pub mod literal;
 
 use reference::{batch, load, Session, Updated};
 
+/// All kinds of record.
+pub const KINDS: [u8; 10] = [1, 2, 3, 4, 5, 6, 7, 8, 9, 11];
+
 /// The bytes of model G: two states, X = diamond 0 X, greatest, no moves.
 pub const G: [u8; 15] = [1, 2, 0, 1, 0, 1, 1, 3, 1, 1, 4, 6, 0, 0, 6];
 
@@ -31,6 +34,11 @@ pub fn block(kind: u8, variables: u8) -> Vec<u8> {
 /// An equation record.
 pub fn equation(operator: u8, first: u8, second: u8) -> Vec<u8> {
     vec![4, operator, first, second]
+}
+
+/// A record of an equation with its sign.
+pub fn signed(sign: u8, operator: u8, first: u8, second: u8) -> Vec<u8> {
+    vec![11, sign, operator, first, second]
 }
 
 /// A record of kind 5, 8 or 9.
@@ -74,7 +82,7 @@ pub fn join(records: &[Vec<u8>]) -> Vec<u8> {
 
 /// A whole record of a kind, its body all 0.
 pub fn blank(kind: u8) -> Vec<u8> {
-    let length = [0, 7, 7, 3, 4, 6, 1, 5, 6, 6][usize::from(kind)];
+    let length = [0, 7, 7, 3, 4, 6, 1, 5, 6, 6, 0, 5][usize::from(kind)];
     let mut bytes = vec![0; length];
     bytes[0] = kind;
     bytes

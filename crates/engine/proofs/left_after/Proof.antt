@@ -5,11 +5,8 @@ use borrow.Author.Needs.{needs}
 use Rattle.engine.proofs.left_after.Statement.{statement}
 use Rattle.engine.proofs.left_after.Tie as tie
 
-cast-if2 : tie.Need-cast-if2
-cast-if2 c = search needs
-
 returns : tie.Need-returns
-returns c = inr (refl, (c .before .before .if1 .taken, c .if2 .taken))
+returns c = inr (refl, (c .before .if1 .taken, c .if2 .taken))
 
 sub-result : tie.Need-sub-result
 sub-result c = search needs
@@ -18,4 +15,4 @@ returns-2 : tie.Need-returns-2
 returns-2 c = inl refl
 
 pub left-after-spec : {M : Type 1} → statement M
-left-after-spec = tie.close (tie.spec cast-if2 returns sub-result returns-2)
+left-after-spec = tie.close (tie.spec returns sub-result returns-2)

@@ -1,6 +1,6 @@
 -- `judge::before_blocks` meets its contract. Assumes nothing.
 use borrow.Author.Needs.{needs}
-use Rattle.rules.specs.Load.{step}
+use Rattle.judge.specs.Plain.{plain}
 use Rattle.judge.specs.Progress.{sofarOf}
 use Rattle.judge.specs.Due.{label-or-block}
 use Rattle.judge.proofs.before_blocks.Statement.{statement}
@@ -19,15 +19,15 @@ on-block-requires : tie.Need-on-block-requires
 on-block-requires c κs = search needs
 
 returns : tie.Need-returns
-unfolding step
+unfolding plain
 returns c l = rw (c .before .before .rec .given .1) (c .on-label .ensures)
 
 returns-2 : tie.Need-returns-2
-unfolding step
+unfolding plain
 returns-2 c l = rw (c .before .before .rec2 .given .1) (c .on-block .ensures)
 
 returns-3 : tie.Need-returns-3
-returns-3 c l = label-or-block l (sofarOf (c .before .args .x)) (c .before .args .rec) (c .before .pre .0) (c .before .pre .1) (c .match .keys3)
+returns-3 c l = label-or-block l (sofarOf (c .before .args .x)) (c .before .args .rec) (c .before .pre .0) (c .before .pre .1 .0) (c .before .pre .1 .1) (c .match .keys3)
 
 pub before-blocks-spec : {M : Type 1} → statement M
 before-blocks-spec =

@@ -1,5 +1,5 @@
 -- `judge::on_label` meets its contract. Assumes nothing.
-use mathlib.Core.Path.{refl, ap, _∙_}
+use mathlib.Core.Path.{ap, _∙_}
 use Prim.Native.Nat.{ℕ}
 use native.Mathlib.Omega.{arith}
 use borrow.Author.Needs.{needs}
@@ -7,6 +7,7 @@ use Rattle.rules.specs.Records.{Turn, next}
 use Rattle.rules.specs.Load.{State, inside, labelDemands, afterLabel}
 use Rattle.judge.specs.Progress.{sofarOf}
 use Rattle.judge.specs.Demands.{fails, meets}
+use Rattle.judge.specs.Due.{label-due}
 use Rattle.judge.proofs.on_label.Statement.{statement}
 use Rattle.judge.proofs.on_label.Tie as tie
 
@@ -18,7 +19,7 @@ returns c =
     let s = c .before .before .before .before .before .before .before in
     let a = s .args in
     let x = sofarOf (a .x) in
-    fails 1 (labelDemands x (a .s .0) (a .v)) (next (inside (afterLabel x (a .s .0)))) (rw (s .pre) refl, rw (c .before .label-ok .ensures) at (c .if1 .taken))
+    fails 1 (labelDemands x (a .s .0) (a .v)) (next (inside (afterLabel x (a .s .0)))) (label-due x (s .pre), rw (c .before .label-ok .ensures) at (c .if1 .taken))
 
 cast-if2 : tie.Need-cast-if2
 cast-if2 c = search needs
@@ -28,7 +29,7 @@ returns-2 c =
     let s = c .before .before .before .before .before .before .before .before .before .before in
     let a = s .args in
     let x = sofarOf (a .x) in
-    fails 2 (labelDemands x (a .s .0) (a .v)) (next (inside (afterLabel x (a .s .0)))) (rw (s .pre) refl, (rw (c .before .before .before .before .label-ok .ensures) at (c .before .before .before .if1 .left), c .if2 .taken))
+    fails 2 (labelDemands x (a .s .0) (a .v)) (next (inside (afterLabel x (a .s .0)))) (label-due x (s .pre), (rw (c .before .before .before .before .label-ok .ensures) at (c .before .before .before .if1 .left), c .if2 .taken))
 
 cast-t14 : tie.Need-cast-t14
 cast-t14 c = search needs
@@ -41,8 +42,8 @@ returns-3 c =
     let s = c .before .before .before .before .before .before .before .before .before .before .before in
     let a = s .args in
     let x = sofarOf (a .x) in
-    let says : ℕ → Turn State = λ n. next (inside (record { sizes = x .sizes; labels = n; blocks = x .blocks; moves = x .moves })) in
-    ap says (omega arith) ∙ meets (labelDemands x (a .s .0) (a .v)) (next (inside (afterLabel x (a .s .0)))) (rw (s .pre) refl, (rw (c .before .before .before .before .before .label-ok .ensures) at (c .before .before .before .before .if1 .left), (c .before .if2 .left, tt)))
+    let says : ℕ → Turn State = λ n. next (inside (record { sizes = x .sizes; labels = n; blocks = x .blocks; signs = x .signs; moves = x .moves })) in
+    ap says (omega arith) ∙ meets (labelDemands x (a .s .0) (a .v)) (next (inside (afterLabel x (a .s .0)))) (label-due x (s .pre), (rw (c .before .before .before .before .before .label-ok .ensures) at (c .before .before .before .before .if1 .left), (c .before .if2 .left, tt)))
 
 pub on-label-spec : {M : Type 1} → statement M
 on-label-spec =

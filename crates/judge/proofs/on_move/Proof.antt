@@ -1,5 +1,6 @@
 -- `judge::on_move` meets its contract. Assumes nothing.
-use mathlib.Core.Bool.{_&&_}
+use mathlib.Core.Path.{ap}
+use mathlib.Core.Bool.{not, _&&_}
 use native.Mathlib.Omega.{arith}
 use native.Mathlib.Numerals.{add-one}
 use lib.Dec.{ltb}
@@ -12,7 +13,6 @@ use Rattle.rules.specs.Load.{inside, moveDemands, afterMove}
 use Rattle.limits.specs.Lent.{lengthsBy}
 use Rattle.judge.specs.Progress.{sofarOf}
 use Rattle.judge.specs.Demands.{fails, meets, below-both}
-use Rattle.judge.specs.Due.{moves-due}
 use Rattle.judge.proofs.on_move.Statement.{statement}
 use Rattle.judge.proofs.on_move.Tie as tie
 
@@ -31,7 +31,7 @@ returns c =
     let a = s .args in
     let x = sofarOf (a .x) in
     let q = pack (a .m .source .0) (a .m .action .0) (a .m .target .0) in
-    fails 1 (moveDemands (lengthsBy (a .l)) x (a .m .source .0) (a .m .action .0) (a .m .target .0)) (next (inside (afterMove x q))) (moves-due x (s .pre), rw (c .before .move-ok .ensures) at (c .if1 .taken))
+    fails 1 (moveDemands (lengthsBy (a .l)) x (a .m .source .0) (a .m .action .0) (a .m .target .0)) (next (inside (afterMove x q))) (ap not (s .pre), rw (c .before .move-ok .ensures) at (c .if1 .taken))
 
 returns-2 : tie.Need-returns-2
 returns-2 c =
@@ -39,7 +39,7 @@ returns-2 c =
     let a = s .args in
     let x = sofarOf (a .x) in
     let q = pack (a .m .source .0) (a .m .action .0) (a .m .target .0) in
-    fails 2 (moveDemands (lengthsBy (a .l)) x (a .m .source .0) (a .m .action .0) (a .m .target .0)) (next (inside (afterMove x q))) (moves-due x (s .pre), (rw (c .before .before .before .move-ok .ensures) at (c .before .before .if1 .left), rw (c .before .before .before .before .packed .ensures .0) at (c .if2 .taken)))
+    fails 2 (moveDemands (lengthsBy (a .l)) x (a .m .source .0) (a .m .action .0) (a .m .target .0)) (next (inside (afterMove x q))) (ap not (s .pre), (rw (c .before .before .before .move-ok .ensures) at (c .before .before .if1 .left), rw (c .before .before .before .before .packed .ensures .0) at (c .if2 .taken)))
 
 returns-3 : tie.Need-returns-3
 returns-3 c =
@@ -47,7 +47,7 @@ returns-3 c =
     let a = s .args in
     let x = sofarOf (a .x) in
     let q = pack (a .m .source .0) (a .m .action .0) (a .m .target .0) in
-    fails 3 (moveDemands (lengthsBy (a .l)) x (a .m .source .0) (a .m .action .0) (a .m .target .0)) (next (inside (afterMove x q))) (moves-due x (s .pre), (rw (c .before .before .before .before .before .move-ok .ensures) at (c .before .before .before .before .if1 .left), (rw (c .before .before .before .before .before .before .packed .ensures .0) at (c .before .before .if2 .left), rw (below-both (a .x .moves .count) 1024 (a .l .moves)) at (c .if3 .taken))))
+    fails 3 (moveDemands (lengthsBy (a .l)) x (a .m .source .0) (a .m .action .0) (a .m .target .0)) (next (inside (afterMove x q))) (ap not (s .pre), (rw (c .before .before .before .before .before .move-ok .ensures) at (c .before .before .before .before .if1 .left), (rw (c .before .before .before .before .before .before .packed .ensures .0) at (c .before .before .if2 .left), rw (below-both (a .x .moves .count) 1024 (a .l .moves)) at (c .if3 .taken))))
 
 add-t15 : tie.Need-add-t15
 add-t15 c =
@@ -66,7 +66,7 @@ returns-4 c =
     let a = s .args in
     let x = sofarOf (a .x) in
     let q = pack (a .m .source .0) (a .m .action .0) (a .m .target .0) in
-    rw (c .before .before .before .before .before .before .before .packed .ensures .0, add-one, add-one) (meets (moveDemands (lengthsBy (a .l)) x (a .m .source .0) (a .m .action .0) (a .m .target .0)) (next (inside (afterMove x q))) (moves-due x (s .pre), (rw (c .before .before .before .before .before .before .move-ok .ensures) at (c .before .before .before .before .before .if1 .left), (rw (c .before .before .before .before .before .before .before .packed .ensures .0) at (c .before .before .before .if2 .left), (rw (below-both (a .x .moves .count) 1024 (a .l .moves)) at (c .before .if3 .left), tt)))))
+    rw (c .before .before .before .before .before .before .before .packed .ensures .0, add-one, add-one) (meets (moveDemands (lengthsBy (a .l)) x (a .m .source .0) (a .m .action .0) (a .m .target .0)) (next (inside (afterMove x q))) (ap not (s .pre), (rw (c .before .before .before .before .before .before .move-ok .ensures) at (c .before .before .before .before .before .if1 .left), (rw (c .before .before .before .before .before .before .before .packed .ensures .0) at (c .before .before .before .if2 .left), (rw (below-both (a .x .moves .count) 1024 (a .l .moves)) at (c .before .if3 .left), tt)))))
 
 pub on-move-spec : {M : Type 1} → statement M
 on-move-spec =

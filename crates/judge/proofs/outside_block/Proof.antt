@@ -1,12 +1,16 @@
 -- `judge::outside_block` meets its contract. Assumes nothing.
 use native.Mathlib.Omega.{arith}
-use borrow.Author.Needs.{needs}
-use Rattle.rules.specs.Load.{step}
 use Rattle.limits.specs.Lent.{lengthsBy}
+use Rattle.judge.specs.Due.{block-only, moves-due}
+use Rattle.judge.specs.Plain.{plain}
 use Rattle.judge.specs.Progress.{sofarOf}
-use Rattle.judge.specs.Due.{block-only}
+use borrow.Author.Needs.{needs}
 use Rattle.judge.proofs.outside_block.Statement.{statement}
 use Rattle.judge.proofs.outside_block.Tie as tie
+
+-- The points of the program: from what is known at a later one to what was known at an earlier one.
+abbrev start-before-struct-known3 : tie.After-struct-known3 → tie.Start
+start-before-struct-known3 c = c .before .before .before .before
 
 before-blocks-requires : tie.Need-before-blocks-requires
 before-blocks-requires c κs = search needs
@@ -17,8 +21,12 @@ returns c = c .before-blocks .ensures (lengthsBy (c .before .before .before .arg
 cast-if2 : tie.Need-cast-if2
 cast-if2 c = search needs
 
-after-blocks-requires : tie.Need-after-blocks-requires
-after-blocks-requires c κs = search needs
+after-equations-requires : tie.Need-after-equations-requires
+after-equations-requires c κs =
+    let at-start = start-before-struct-known3 (c .before) in
+    let k = at-start .pre .0 in
+    let h = c .if2 .taken in
+    (k, moves-due (sofarOf (at-start .args .x)) (at-start .pre .1 .0) (omega arith) (omega arith))
 
 returns-2 : tie.Need-returns-2
 returns-2 c = search needs
@@ -28,14 +36,14 @@ enum-known-rec c = search needs
 
 returns-3 : tie.Need-returns-3
 returns-3 c =
-    let s = c .before .before .before .before .before .before in
-    block-only _ (sofarOf (s .args .x)) (s .args .rec) (s .pre .1) (omega arith) (omega arith) (c .match .keys2)
+    let at-start = start-before-struct-known3 (c .before .before) in
+    block-only _ (sofarOf (at-start .args .x)) (at-start .args .rec) (at-start .pre .1 .0) (omega arith) (omega arith) (c .match .keys2)
 
 on-block-requires : tie.Need-on-block-requires
 on-block-requires c κs = search needs
 
 returns-4 : tie.Need-returns-4
-unfolding step
+unfolding plain
 returns-4 c = rw (c .before .before .rec .given .1) (c .on-block .ensures)
 
 pub outside-block-spec : {M : Type 1} → statement M
@@ -45,7 +53,7 @@ outside-block-spec =
     before-blocks-requires
     returns
     cast-if2
-    after-blocks-requires
+    after-equations-requires
     returns-2
     enum-known-rec
     returns-3

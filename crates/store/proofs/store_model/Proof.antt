@@ -45,7 +45,8 @@ use denote.Triple.Spec.{Meets, tripleOf}
 use denote.Triple.Table.{entered, cited}
 use denote.Triple.Walked.{says, Stays, stay-none, stay-none-slice, stay-slice, walkOf, goes-none, goes-none-slice, goes-slice, Walks, ends-at, walked, walk-meets}
 use denote.Exit.{yes}
-use Rattle.rules.specs.Load.{started, readModel}
+use Rattle.rules.specs.Load.{started}
+use Rattle.judge.specs.Plain.{readPlain}
 use Rattle.rules.specs.Model.{Model}
 use Rattle.rules.specs.Records.{accepted}
 use Rattle.limits.specs.Lent.{lengthsBy}
@@ -67,7 +68,7 @@ use Rattle.wire.proofs.next.Symbol as next-def
 use Rattle.wire.proofs.next.Symbol.{name as #wire·next}
 use Rattle.wire.proofs.next.Met as next-thm
 use Rattle.judge.specs.Going.{placeOf, KeptTurn, Follows, left}
-use Rattle.judge.specs.GoingLaws.{going-kept}
+use Rattle.judge.specs.GoingLaws.{inside-kept}
 use Rattle.judge.specs.declared.OneTurn.{OneTurn}
 use Rattle.judge.proofs.OneTurn as O
 use Rattle.judge.proofs.OneTurn.Laws as O′
@@ -184,7 +185,7 @@ module _ {M : Type 1} (𝓤 : URA M) (H : Heap 𝓤) (A : Atoms 𝓤) (W : Given
   module _ (lent : Is N.the-row l (wl ∷ [])) (long : length (now s) < 2 ^ 64) (room₁ : Room u32 (length (r₁ .ys))) (room₂ : Room u32 (length (r₂ .ys))) (room₃ : Room u32 (length (r₃ .ys))) where
     -- the rooms with the whole model stored, and the bytes kept, give what is to hold at exit
     exits : (h : Stored) → length (h .labels) ≡ length (r₁ .ys) → length (h .equations) ≡ length (r₂ .ys) → length (h .moves) ≡ length (r₃ .ys)
-        → ((m : Model) → readModel (lengthsBy l) (now s) ≡ accepted m → h ≡ laid (started (m .sizes)) m had)
+        → ((m : Model) → readPlain (lengthsBy l) (now s) ≡ accepted m → h ≡ laid (started (m .sizes)) m had)
         → ent 𝓤 (⋆ 𝓤 H A (kept.Token 𝓤 H A W mem run κ q s ∷ ‵ (kept.Own 𝓤 H A W mem run κ q s) ∷ ‵ (Owned u32 (r₁ .b) (r₁ .o) (named 1) (r₁ .κ) (r₁ .γ) (h .labels) (length (r₁ .ys))) ∷ ‵ (flft (r₁ .κ) (r₁ .q)) ∷ ‵ (Owned u32 (r₂ .b) (r₂ .o) (named 2) (r₂ .κ) (r₂ .γ) (h .equations) (length (r₂ .ys))) ∷ ‵ (flft (r₂ .κ) (r₂ .q)) ∷ ‵ (Owned u32 (r₃ .b) (r₃ .o) (named 3) (r₃ .κ) (r₃ .γ) (h .moves) (length (r₃ .ys))) ∷ ‵ (flft (r₃ .κ) (r₃ .q)) ∷ [])) (Post vunit)
     exits h e₁ e₂ e₃ e =
         qed W (kept.Token 𝓤 H A W mem run κ q s ∷ ‵ (kept.Own 𝓤 H A W mem run κ q s) ∷ ‵ (Owned u32 (r₁ .b) (r₁ .o) (named 1) (r₁ .κ) (r₁ .γ) (h .labels) (length (r₁ .ys))) ∷ ‵ (flft (r₁ .κ) (r₁ .q)) ∷ ‵ (Owned u32 (r₂ .b) (r₂ .o) (named 2) (r₂ .κ) (r₂ .γ) (h .equations) (length (r₂ .ys))) ∷ ‵ (flft (r₂ .κ) (r₂ .q)) ∷ ‵ (Owned u32 (r₃ .b) (r₃ .o) (named 3) (r₃ .κ) (r₃ .γ) (h .moves) (length (r₃ .ys))) ∷ ‵ (flft (r₃ .κ) (r₃ .q)) ∷ []) ∵
@@ -263,7 +264,7 @@ module _ {M : Type 1} (𝓤 : URA M) (H : Heap 𝓤) (A : Atoms 𝓤) (W : Given
           kept.reads 𝓤 H A W mem run κ q s ! (fmOf 𝓤 H (W .laws) 𝓣) known-next (n .0) (and-then ! (load ! (from ! (stop !)) (look ! 25 refl)) (no-more !)) (λ k r is e.
           land ! (from ! (stop !)) (init ! 27 refl (EL.lawful S.the-type S′.the-laws 𝓤 H A W tt .typed r _ is .0)) $
           assigns ! (of-opd ! (load ! (from ! (fld ! refl (stop !))) (look-in ! 51 (sub ! 1 refl (whole !))))) (from ! (stop !)) (init ! 23 refl (tt, record { fits = long })) $
-          turned.follows 𝓤 H A W mem run l lent ! (fmOf 𝓤 H (W .laws) 𝓣) known-turn r k is (p .t) (p .w) (p .is) (going-kept (lengthsBy l) (now s) (p .t) (p .storing .going)) (length (now s)) long
+          turned.follows 𝓤 H A W mem run l lent ! (fmOf 𝓤 H (W .laws) 𝓣) known-turn r k is (p .t) (p .w) (p .is) (inside-kept (now s) (p .t) (p .storing .going)) (length (now s)) long
           (and-then ! (load ! (from ! (stop !)) (look ! 28 refl)) (and-then ! (load ! (from ! (stop !)) (look ! 50 refl)) (and-then ! (load ! (from ! (stop !)) (look ! 40 refl)) (and-then ! (load ! (from ! (stop !)) (look ! 24 refl)) (no-more !))))) (λ y t.
           land ! (from ! (stop !)) (init ! 35 refl (EL.lawful O.the-type O′.the-laws 𝓤 H A W tt .typed (t .0) _ (t .1) .0)) $
           assigns ! (addr ! (from ! (fld ! refl (hop ! (look-in ! 47 (sub ! 0 refl (whole !))) (stop !))))) (from ! (stop !)) (init ! 19 refl (tt, tt)) $
@@ -276,7 +277,7 @@ module _ {M : Type 1} (𝓤 : URA M) (H : Heap 𝓤) (A : Atoms 𝓤) (W : Given
           move ! (3 ∷ 4 ∷ []) $ lends u32 (r₁ .κ) (r₁ .q) (r₁ .γ) (r₁ .b) (r₁ .o) (named 1) (named 0) (p .h .labels) (length (r₁ .ys)) (sym (p .same₁)) ! tt (λ ν₁ δ₁. move ! (6 ∷ 7 ∷ []) $ lends u32 (r₂ .κ) (r₂ .q) (r₂ .γ) (r₂ .b) (r₂ .o) (named 2) (named 1) (p .h .equations) (length (r₂ .ys)) (sym (p .same₂)) ! tt (λ ν₂ δ₂. move ! (9 ∷ 10 ∷ []) $ lends u32 (r₃ .κ) (r₃ .q) (r₃ .γ) (r₃ .b) (r₃ .o) (named 3) (named 2) (p .h .moves) (length (r₃ .ys)) (sym (p .same₃)) ! tt (λ ν₃ δ₃.
           -- [of each room its token, itself, and what is kept of it, the last first; what the reader owns; the bytes' token; what the bytes own; _22; …; _0; …]
           move ! (3 ∷ 0 ∷ []) $ join ! $ move ! (5 ∷ 0 ∷ []) $ join ! $ move ! (3 ∷ 1 ∷ []) $ join ! $ move ! (4 ∷ 0 ∷ []) $ join ! $
-          use2 W (raw (Put 𝓤 H A mem run .pre (to-put ν₁ ν₂ ν₃ δ₁ δ₂ δ₃ (p .h) (p .t) (p .w) (t .0) y))) (goes-put ν₁ ν₂ ν₃ δ₁ δ₂ δ₃ (p .h) (p .t) (p .w) (p .is) (going-kept (lengthsBy l) (now s) (p .t) (p .storing .going)) (t .0) y (t .1)) $
+          use2 W (raw (Put 𝓤 H A mem run .pre (to-put ν₁ ν₂ ν₃ δ₁ δ₂ δ₃ (p .h) (p .t) (p .w) (t .0) y))) (goes-put ν₁ ν₂ ν₃ δ₁ δ₂ δ₃ (p .h) (p .t) (p .w) (p .is) (inside-kept (now s) (p .t) (p .storing .going)) (t .0) y (t .1)) $
           calls-at ! (fmOf 𝓤 H (W .laws) 𝓣) (Put 𝓤 H A mem run) known-put (to-put ν₁ ν₂ ν₃ δ₁ δ₂ δ₃ (p .h) (p .t) (p .w) (t .0) y) (and-then ! (load ! (from ! (stop !)) (look ! 15 refl)) (and-then ! (load ! (from ! (stop !)) (look ! 11 refl)) (and-then ! (load ! (from ! (stop !)) (look ! 7 refl)) (and-then ! (load ! (from ! (stop !)) (look ! 37 refl)) (and-then ! (load ! (from ! (stop !)) (look ! 33 refl)) (no-more !)))))) (λ g.
           use1 W (later (some (λ (a : Unit {0}). ((‵ (flft (ν₁ ∷ []) fullShare) ⊛ (‵ (flft (ν₂ ∷ []) fullShare) ⊛ (‵ (flft (ν₃ ∷ []) fullShare) ⊛ ‵ ftrue))) ⊛ ‵ (unit .own a (g ∷ []))) ⊛ raw (ensured 𝓤 H A put-turn.ended (put-turn.clauses 𝓤 H A mem run) (ν₁ ∷ [], (ν₂ ∷ [], (ν₃ ∷ [], tt))) (room-at r₁ δ₁ (p .h .labels), (room-at r₂ δ₂ (p .h .equations), (room-at r₃ δ₃ (p .h .moves), (p .t, (t .0, tt))))) tt a)))) (id⊢ 𝓤 _) $ await ! tt $ pick ! (λ a.
           split ! $ move ! (1 ∷ []) $ use1 W (some (λ (ws : List ℕ × (List ℕ × (List ℕ × (Unit {0} × (Unit {0} × Unit {0}))))). ‵ (lasts put-turn.ended (ν₁ ∷ [], (ν₂ ∷ [], (ν₃ ∷ [], tt))) (room-at r₁ δ₁ (p .h .labels), (room-at r₂ δ₂ (p .h .equations), (room-at r₃ δ₃ (p .h .moves), (p .t, (t .0, tt))))) ws) ⊛ raw (fact 𝓤 (three (ws .0) (ws .1 .0) (ws .1 .1 .0) ≡ putTurn (p .t) (t .0) (p .h))))) (id⊢ 𝓤 _) $ pick ! (λ ws.

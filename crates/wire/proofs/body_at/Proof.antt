@@ -67,6 +67,31 @@ move-at-requires-3 : tie.Need-move-at-requires-3
 unfolding bodyLen
 move-at-requires-3 c κs = omega (arith, ap bodyLen (c .match .keys8))
 
+shared-slice-read-t28 : tie.Need-shared-slice-read-t28
+unfolding bodyLen
+shared-slice-read-t28 c = omega (arith, ap bodyLen (c .before .match .keys9))
+
+add-t29 : tie.Need-add-t29
+add-t29 c = search needs
+
+shared-slice-read-t31 : tie.Need-shared-slice-read-t31
+unfolding bodyLen
+shared-slice-read-t31 c = omega (arith, ap bodyLen (c .before .before .match .keys9))
+
+add-t32 : tie.Need-add-t32
+add-t32 c = search needs
+
+shared-slice-read-t34 : tie.Need-shared-slice-read-t34
+unfolding bodyLen
+shared-slice-read-t34 c = omega (arith, ap bodyLen (c .before .before .before .match .keys9))
+
+add-t35 : tie.Need-add-t35
+add-t35 c = search needs
+
+shared-slice-read-t37 : tie.Need-shared-slice-read-t37
+unfolding bodyLen
+shared-slice-read-t37 c = omega (arith, ap bodyLen (c .before .before .before .before .match .keys9))
+
 returns : tie.Need-returns
 unfolding recordOf
 returns c = rw (c .before .match .keys1) (cc)
@@ -101,7 +126,11 @@ returns-8 c = rw (c .before .match .keys8) (cc)
 
 returns-9 : tie.Need-returns-9
 unfolding recordOf
-returns-9 c = simp (ne-eqb _ _ (c .match .rest .1), ne-eqb _ _ (c .match .rest .0 .1), ne-eqb _ _ (c .match .rest .0 .0 .1), ne-eqb _ _ (c .match .rest .0 .0 .0 .1), ne-eqb _ _ (c .match .rest .0 .0 .0 .0 .1), ne-eqb _ _ (c .match .rest .0 .0 .0 .0 .0 .1), ne-eqb _ _ (c .match .rest .0 .0 .0 .0 .0 .0 .1), ne-eqb _ _ (c .match .rest .0 .0 .0 .0 .0 .0 .0 .1))
+returns-9 c = rw (c .before .before .before .before .match .keys9) (cc)
+
+returns-10 : tie.Need-returns-10
+unfolding recordOf
+returns-10 c = simp (ne-eqb _ _ (c .match .rest .1), ne-eqb _ _ (c .match .rest .0 .1), ne-eqb _ _ (c .match .rest .0 .0 .1), ne-eqb _ _ (c .match .rest .0 .0 .0 .1), ne-eqb _ _ (c .match .rest .0 .0 .0 .0 .1), ne-eqb _ _ (c .match .rest .0 .0 .0 .0 .0 .1), ne-eqb _ _ (c .match .rest .0 .0 .0 .0 .0 .0 .1), ne-eqb _ _ (c .match .rest .0 .0 .0 .0 .0 .0 .0 .1), ne-eqb _ _ (c .match .rest .0 .0 .0 .0 .0 .0 .0 .0 .1))
 
 pub body-at-spec : {M : Type 1} → statement M
 body-at-spec =
@@ -123,6 +152,13 @@ body-at-spec =
     u32-at-requires-2
     move-at-requires-2
     move-at-requires-3
+    shared-slice-read-t28
+    add-t29
+    shared-slice-read-t31
+    add-t32
+    shared-slice-read-t34
+    add-t35
+    shared-slice-read-t37
     returns
     returns-2
     returns-3
@@ -131,4 +167,5 @@ body-at-spec =
     returns-6
     returns-7
     returns-8
-    returns-9)
+    returns-9
+    returns-10)

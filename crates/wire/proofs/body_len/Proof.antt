@@ -42,7 +42,11 @@ returns-9 c = rw (c .match .keys9)
 
 returns-10 : tie.Need-returns-10
 unfolding bodyLen
-returns-10 c =
+returns-10 c = rw (c .match .keys10)
+
+returns-11 : tie.Need-returns-11
+unfolding bodyLen
+returns-11 c =
     simp (
       ne-eqb _ _ (c .match .rest .1),
       ne-eqb _ _ (c .match .rest .0 .1),
@@ -53,6 +57,7 @@ returns-10 c =
       ne-eqb _ _ (c .match .rest .0 .0 .0 .0 .0 .0 .1),
       ne-eqb _ _ (c .match .rest .0 .0 .0 .0 .0 .0 .0 .1),
       ne-eqb _ _ (c .match .rest .0 .0 .0 .0 .0 .0 .0 .0 .1),
+      ne-eqb _ _ (c .match .rest .0 .0 .0 .0 .0 .0 .0 .0 .0 .1),
     )
 
 pub body-len-spec : {M : Type 1} → statement M
@@ -68,4 +73,5 @@ body-len-spec =
     returns-7
     returns-8
     returns-9
-    returns-10)
+    returns-10
+    returns-11)

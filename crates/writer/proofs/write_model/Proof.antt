@@ -2,6 +2,7 @@
 use mathlib.Core.List.{_++_}
 use mathlib.Core.Path.{refl}
 use borrow.Author.Needs.{needs}
+use Rattle.rules.specs.Model.{signed}
 use Rattle.rules.specs.Spelling.{sizesRec}
 use Rattle.rules.specs.Records.{bytes, widths}
 use Rattle.writer.specs.SpelledLaws.{spelled, wrote-more}
@@ -30,15 +31,29 @@ write-moves-requires c κs = search needs
 same-length : tie.Need-same-length
 same-length c = search needs
 
+-- The four parts, one after the other.
 returns : tie.Need-returns
 unfolding widths
 returns c =
-    let a = c .before .before .before .before .before .before .before .before .before .before .before .before .before .before .before .before .before .before .before .before .before .before .args in
+    let at-moves = c .before .before in
+    let at-equations = at-moves .before .before .before .before in
+    let at-labels = at-equations .before .before .before .before .before .before in
+    let at-sizes = at-labels .before .before .before .before .before in
+    let a = at-sizes .before .before .before .before .before .before .args in
     let z = a .z in
-    let ls = a .labels .now in
-    let es = a .equations .now in
-    let ms = a .moves .now in
-    rw (spelled z (a .n) ls es ms) (wrote-more (bytes (sizesRec z)) (labelBytes ls 0 (z .states) ++ (equationBytes 0 es 0 (z .variables) ++ moveBytes ms 0 (a .n))) (a .out .now) (c .before .before .before .before .before .before .before .before .before .before .before .before .before .before .before .before .write-sizes .last .0) _ 0 7 _ (c .before .before .before .before .before .before .before .before .before .before .before .before .before .before .before .before .write-sizes .ensures, refl) (wrote-more (labelBytes ls 0 (z .states)) (equationBytes 0 es 0 (z .variables) ++ moveBytes ms 0 (a .n)) (c .before .before .before .before .before .before .before .before .before .before .before .before .before .before .before .before .write-sizes .last .0) (c .before .before .before .before .before .before .before .before .before .before .before .write-labels .last .0) _ 7 (c .before .before .before .before .before .before .before .before .before .before .before .write-labels .result) _ (c .before .before .before .before .before .before .before .before .before .before .before .write-labels .ensures .0) (wrote-more (equationBytes 0 es 0 (z .variables)) (moveBytes ms 0 (a .n)) (c .before .before .before .before .before .before .before .before .before .before .before .write-labels .last .0) (c .before .before .before .before .before .before .write-equations .last .0) _ (c .before .before .before .before .before .before .before .before .before .before .before .write-labels .result) (c .before .before .before .before .before .before .write-equations .result) _ (c .before .before .before .before .before .before .write-equations .ensures .0) (c .before .before .write-moves .ensures))))
+    let sizes = bytes (sizesRec z) in
+    let labels = labelBytes (a .labels .now) 0 (z .states) in
+    let equations = equationBytes (signed z) 0 (a .equations .now) 0 (z .variables) in
+    let moves = moveBytes (a .moves .now) 0 (a .n) in
+    let after-sizes = at-sizes .write-sizes .last .0 in
+    let after-labels = at-labels .write-labels .last .0 in
+    let after-equations = at-equations .write-equations .last .0 in
+    let j = at-labels .write-labels .result in
+    let k = at-equations .write-equations .result in
+    let third = wrote-more equations moves after-labels after-equations _ j k _ (at-equations .write-equations .ensures .0) (at-moves .write-moves .ensures) in
+    let second = wrote-more labels (equations ++ moves) after-sizes after-labels _ 7 j _ (at-labels .write-labels .ensures .0) third in
+    let first = wrote-more sizes (labels ++ (equations ++ moves)) (a .out .now) after-sizes _ 0 7 _ (at-sizes .write-sizes .ensures, refl) second in
+    rw (spelled z (a .n) (a .labels .now) (a .equations .now) (a .moves .now)) first
 
 pub write-model-spec : {M : Type 1} → statement M
 write-model-spec =

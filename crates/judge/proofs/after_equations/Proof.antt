@@ -1,12 +1,15 @@
--- `judge::after_blocks` meets its contract. Assumes nothing.
+-- `judge::after_equations` meets its contract. Assumes nothing.
 use borrow.Author.Needs.{needs}
 use Rattle.rules.specs.Records.{over}
-use Rattle.rules.specs.Load.{step, endDemands}
+use mathlib.Core.Path.{ap}
+use mathlib.Core.Bool.{not}
+use Rattle.rules.specs.Load.{endDemands}
+use Rattle.judge.specs.Plain.{plain}
 use Rattle.judge.specs.Progress.{sofarOf}
 use Rattle.judge.specs.Demands.{meets}
-use Rattle.judge.specs.Due.{move-or-end, moves-due}
-use Rattle.judge.proofs.after_blocks.Statement.{statement}
-use Rattle.judge.proofs.after_blocks.Tie as tie
+use Rattle.judge.specs.Due.{move-or-end}
+use Rattle.judge.proofs.after_equations.Statement.{statement}
+use Rattle.judge.proofs.after_equations.Tie as tie
 
 enum-known-rec : tie.Need-enum-known-rec
 enum-known-rec c = search needs
@@ -18,20 +21,20 @@ enum-told : tie.Need-enum-told
 enum-told c = search needs
 
 returns : tie.Need-returns
-unfolding step
+unfolding plain
 returns c = rw (c .before .before .rec .given .1) (c .on-move .ensures)
 
 returns-2 : tie.Need-returns-2
-unfolding step
+unfolding plain
 returns-2 c =
     let x = sofarOf (c .before .before .args .x) in
-    rw (c .enum-told .given .1) (meets (endDemands x) over (moves-due x (c .before .before .pre .1), tt))
+    rw (c .enum-told .given .1) (meets (endDemands x) over (ap not (c .before .before .pre .1), tt))
 
 returns-3 : tie.Need-returns-3
 returns-3 c =
     let p = c .before .pre in
-    move-or-end _ (sofarOf (c .before .args .x)) (c .before .args .rec) (p .0) (p .1 .0) (p .1 .1) (c .match .keys3)
+    move-or-end _ (sofarOf (c .before .args .x)) (c .before .args .rec) (p .0) (p .1) (c .match .keys3)
 
-pub after-blocks-spec : {M : Type 1} → statement M
-after-blocks-spec =
+pub after-equations-spec : {M : Type 1} → statement M
+after-equations-spec =
     tie.close (tie.spec enum-known-rec on-move-requires enum-told returns returns-2 returns-3)
