@@ -15,8 +15,8 @@
      changes a const room meanwhile.
    For any such rooms, whatever they hold, each call ends and answers, and what it answers and leaves is proved.
 
-   The answer is one number. Its low 32 bits are the refusal's number, 1 to 13, or 0 for accepted. Its high 32 bits are, of a
-   refusal, its place in the bytes (modulo 2^32), and of an acceptance what each call says below. A refusal changes nothing
+   The answer is one number. Its low 32 bits are the refusal's number, 1 to 13 or 16, or 0 for accepted. Its high 32 bits are, of
+   a refusal, its place in the bytes (modulo 2^32), and of an acceptance what each call says below. A refusal changes nothing
    in any room, the session's and the report's included.
 
    refusal  meaning
@@ -31,8 +31,9 @@
    10       more moves than 1,024 or than the move room holds
    11       the batch's stamp is not the table's
    12       the session is no model that load accepts, or holds a value over 1, a mark over 3 or a wrong stamp
-   13       a room is shorter than the sizes need; the session's room has fewer than 7 places or the report's fewer than 3
+   13       a room is shorter than the sizes need; the session's room has fewer than 8 places or the report's fewer than 3
             (asked before all else)
+   16       a live model in which some state has no move: of a load at the end record, of a batch at place 0
 
    A model has one of two styles, which the blocks of its sizes record decide. With 1 to 8 blocks each block (record 3) is
    followed by its equations (records 4). With 0 blocks each equation has a sign of its own (record 11: sign, operator, first,
@@ -40,9 +41,21 @@
    must have one sign. The largest sets of variables that lead to each other, the components, then take the place of blocks,
    each after those that it names. docs/RULE.md has every record.
 
+   A model of either style is live where record 10, which has no body, stands directly after its sizes record. Each state of a
+   live model has a move, by any action: a load of one in which some state has none is refused with 16, and so is a batch that
+   would leave some state with none, its deletes and inserts counted together. A batch keeps the model live, and write gives
+   record 10 back.
+
+   A refusal with 16 names no state, but the caller has the moves that it is about: of a load the move records of the bytes, which
+   ascend by source; of a batch the moves in the room less its deletes plus its inserts, put in the same order. The first state
+   that has no move is then s after
+       s = 0;
+       for each of these moves: if (its source == s) s++;
+
    The rooms, and how long each must be. Places past these are never changed.
-   session    7: states, actions, propositions, variables, blocks, moves, stamp. They are load's and batch's to write; a
-              number too large for its kind is refused with 12, never cut. Blocks are 0 where the equations have signs.
+   session    8: states, actions, propositions, variables, blocks, moves, stamp, live. They are load's and batch's to write; a
+              number too large for its kind is refused with 12, never cut. Blocks are 0 where the equations have signs. Live
+              is 1 for a live model, else 0.
    labels     one per state: the set of its propositions, bit p for proposition p.
    equations  one per variable: operator + 256 x first + 65536 x second + 16777216 x (2 x block + kind), kind 0 for least
               and 1 for greatest. Where blocks are 0, kind is the equation's sign, and block is the number of the variable's
@@ -63,21 +76,21 @@ extern "C" {
 
 /* The most that any model within the limits needs of each room. */
 enum {
-    HUEPAXOCHI_SESSION = 7,
+    HUEPAXOCHI_SESSION = 8,
     HUEPAXOCHI_LABELS = 256,
     HUEPAXOCHI_EQUATIONS = 32,
     HUEPAXOCHI_PAIRS = 8192,
     HUEPAXOCHI_MOVES = 1024,
     HUEPAXOCHI_REPORT = 3,
-    HUEPAXOCHI_BYTES = 8104
+    HUEPAXOCHI_BYTES = 8105
 };
 
 /* The two halves of an answer. */
 static inline uint32_t huepaxochi_number(uint64_t answer) { return (uint32_t)answer; }
 static inline uint32_t huepaxochi_told(uint64_t answer) { return (uint32_t)(answer >> 32); }
 
-/* Reads a model of either style, finds the value of every pair, clears the marks and writes the session. What the rooms held
-   before does not matter. Accepted, the high 32 bits are 0. */
+/* Reads a model of either style, live or not, finds the value of every pair, clears the marks and writes the session. What the
+   rooms held before does not matter. Accepted, the high 32 bits are 0. */
 uint64_t huepaxochi_load(const uint8_t *bytes, uint64_t bytes_len, uint32_t *session, uint64_t session_len, uint32_t *labels,
                          uint64_t labels_len, uint32_t *equations, uint64_t equations_len, uint8_t *values,
                          uint64_t values_len, uint8_t *marks, uint64_t marks_len, uint32_t *moves, uint64_t moves_len);
@@ -89,15 +102,15 @@ uint64_t huepaxochi_batch(uint32_t *session, uint64_t session_len, const uint8_t
                           uint8_t *values, uint64_t values_len, uint8_t *marks, uint64_t marks_len, uint32_t *moves,
                           uint64_t moves_len, int64_t *report, uint64_t report_len);
 
-/* Writes the model that the session holds, in the style in which it was loaded, into the front of out. Accepted, the high 32
-   bits are the number of bytes written, at most HUEPAXOCHI_BYTES. */
+/* Writes the model that the session holds, in the style in which it was loaded and live if it was, into the front of out.
+   Accepted, the high 32 bits are the number of bytes written, at most HUEPAXOCHI_BYTES. */
 uint64_t huepaxochi_write(const uint32_t *session, uint64_t session_len, const uint32_t *labels, uint64_t labels_len,
                           const uint32_t *equations, uint64_t equations_len, const uint8_t *values, uint64_t values_len,
                           const uint8_t *marks, uint64_t marks_len, const uint32_t *moves, uint64_t moves_len, uint8_t *out,
                           uint64_t out_len);
 
-/* The value of one pair. Accepted, the high 32 bits are 1 for true and 0 for false. It looks at the sizes and at one byte of
-   the values, no more. */
+/* The value of one pair. Accepted, the high 32 bits are 1 for true and 0 for false. It looks at the first five numbers of the
+   session and at one byte of the values, no more. */
 uint64_t huepaxochi_ask(const uint32_t *session, uint64_t session_len, const uint8_t *values, uint64_t values_len,
                         uint16_t state, uint8_t variable);
 

@@ -1,6 +1,6 @@
-/* The bench cases A to F of document 01 on a 32-bit machine, and A again with a sign in place of the block, with rooms that are
-   exactly long enough, and each room but the moves' once one place too short. Says what is not as it should be, and how much stack
-   each call took; the exit status is 1 where something is not. */
+/* The bench cases A to F of document 01 on a 32-bit machine, A again with a sign in place of the block, and live models, with
+   rooms that are exactly long enough, and each room but the moves' once one place too short. Says what is not as it should be, and
+   how much stack each call took; the exit status is 1 where something is not. */
 #include "rooms.h"
 
 enum { FILL = 0xa5 };
@@ -18,6 +18,10 @@ static const uint8_t case_e[] = {7, 3, 1, 0, 0, 9, 0, 0, 0, 1, 0, 6};
 /* G with a sign on its equation in place of the block, and two equations with unlike signs that name each other. */
 static const uint8_t signed_g[] = {1, 2, 0, 1, 0, 1, 0, 11, 1, 6, 0, 0, 6};
 static const uint8_t tangled[] = {1, 2, 0, 1, 0, 3, 0, 11, 0, 1, 0, 0, 11, 0, 6, 0, 2, 11, 1, 6, 0, 1, 6};
+/* G live with the moves (0,0,0) and (1,0,0), G live with the first of them only, and the move of state 0 led elsewhere. */
+static const uint8_t live_g[] = {1, 2, 0, 1, 0, 1, 1, 10, 3, 1, 1, 4, 6, 0, 0, 5, 0, 0, 0, 0, 0, 5, 1, 0, 0, 0, 0, 6};
+static const uint8_t hangs[] = {1, 2, 0, 1, 0, 1, 1, 10, 3, 1, 1, 4, 6, 0, 0, 5, 0, 0, 0, 0, 0, 6};
+static const uint8_t led[] = {7, 3, 0, 1, 0, 9, 0, 0, 0, 0, 0, 8, 0, 0, 0, 1, 0, 6};
 
 static int wrong;
 
@@ -103,9 +107,9 @@ static void loads(void) {
     expect("a refused load changes nothing", filled_past(0, 0, 0));
     lend(2, 1, 0);
     expect("G loads", load_g() == 0);
-    expect("G has 2 states, 1 action, 1 variable, 1 block, no move, stamp 0",
+    expect("G has 2 states, 1 action, 1 variable, 1 block, no move, stamp 0, and is not live",
            session[0] == 2 && session[1] == 1 && session[2] == 0 && session[3] == 1 && session[4] == 1 && session[5] == 0 &&
-               session[6] == 0);
+               session[6] == 0 && session[7] == 0);
     expect("load leaves the places past its own", filled_past(2, 1, 0));
     expect("both pairs of G are false", holds(0, 0, 0) && holds(1, 0, 0));
     expect("a state that is none gives 4", ask(2, 0) == 4);
@@ -175,6 +179,31 @@ static void signs(void) {
            load(tangled, sizeof tangled) == (5 | (uint64_t)12 << 32));
 }
 
+/* The first state that is the source of no move record, found as the header says. */
+static uint32_t first_without(const uint8_t *records, size_t count) {
+    uint32_t state = 0;
+    for (size_t i = 0; i < count; i++) {
+        if (records[6 * i + 1] + 256u * records[6 * i + 2] == state) state++;
+    }
+    return state;
+}
+
+/* Live models: each state has a move. */
+static void live(void) {
+    fill_all();
+    lend(2, 1, 2);
+    expect("a live model that hangs is 16 at its end record", load(hangs, sizeof hangs) == (16 | (uint64_t)21 << 32));
+    expect("state 1 hangs, as its move records show", first_without(hangs + 15, 1) == 1);
+    expect("G with a move for each state loads live", load(live_g, sizeof live_g) == 0 && session[6] == 65539 && session[7] == 1);
+    expect("a batch that takes a last move is 16", batch(case_c, sizeof case_c) == 16 && session[5] == 2 && moves[0] == 0);
+    int same = write() == (uint64_t)sizeof live_g << 32;
+    for (size_t i = 0; i < sizeof live_g; i++) same = same && out[i] == live_g[i];
+    expect("the live model is written again", same);
+    expect("a batch that leads a last move elsewhere is accepted", batch(led, sizeof led) == 0 && reports(0, 0, 0));
+    expect("after it the model is live still", session[6] == 65796 && session[7] == 1 && moves[0] == 1);
+    expect("the places past the rooms are left, of a live model", filled_past(2, 1, 2));
+}
+
 /* Makes a call, says how much stack it took, and holds that to what the header says. */
 static void hold_stack(const char *name, uint64_t (*made)(void), uint32_t most) {
     paint();
@@ -205,6 +234,7 @@ int run(void) {
     a_to_d();
     e();
     signs();
+    live();
     if (!wrong) stack();
     return wrong;
 }

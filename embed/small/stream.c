@@ -7,7 +7,7 @@ static uint8_t input[65536];
 
 /* The length of a record of a kind, or 0 where there is no such kind. */
 static size_t record(uint8_t kind) {
-    static const uint8_t lengths[] = {0, 7, 7, 3, 4, 6, 1, 5, 6, 6, 0, 5};
+    static const uint8_t lengths[] = {0, 7, 7, 3, 4, 6, 1, 5, 6, 6, 1, 5};
     return kind < sizeof lengths ? lengths[kind] : 0;
 }
 
@@ -29,7 +29,7 @@ static void say_with(const char *text, uint32_t number) {
     say_number(number);
 }
 
-/* The end of a line after an accepted call, and whether what was asked and written is as the values and sizes are. */
+/* The end of a line after an accepted call, and whether what was asked and written is as the values, sizes and the flag are. */
 static int tell_session(void) {
     uint32_t pairs = session[0] * session[3], count = 0;
     int good = 1;
@@ -46,6 +46,7 @@ static int tell_session(void) {
     say("\n");
     uint64_t wrote = write();
     uint32_t bytes = huepaxochi_told(wrote);
+    good = good && (out[7] == 10) == (session[7] == 1);
     return good && huepaxochi_number(wrote) == 0 && cut(out, bytes) == bytes && bytes >= 6 * session[5];
 }
 

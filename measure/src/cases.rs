@@ -1,6 +1,7 @@
 //! The models that are timed, and the batches that are applied to them.
 
 mod grid;
+mod live;
 mod maximal;
 mod signs;
 
@@ -8,6 +9,7 @@ use reference::records::spell_all;
 use reference::{stamp, Action, Block, Equation, Move, Record, Sizes, State};
 
 pub use grid::{grid, MIXED_RULE, STRICT_RULE};
+pub use live::{live, made_live};
 pub use maximal::maximal;
 pub use signs::{rewritten, signs};
 

@@ -2,7 +2,7 @@
 
 use std::hint::black_box;
 
-use measure::cases::{grid, maximal, signs, Case, MIXED_RULE, STRICT_RULE};
+use measure::cases::{grid, live, maximal, signs, Case, MIXED_RULE, STRICT_RULE};
 use measure::clock::{in_turns, microseconds, middle, worst, Timed};
 use measure::rooms::Rooms;
 use measure::sides::Side;
@@ -177,4 +177,8 @@ fn main() {
     rows_of(&signed, rounds);
     row_of_64(&signed, rounds);
     rows_of_reading(&signed, rounds);
+    let strict = live(&grid(16, &STRICT_RULE));
+    rows_of(&strict, rounds);
+    rows_of_reading(&strict, rounds);
+    row_of_64(&live(&maximal()), rounds);
 }

@@ -1,10 +1,10 @@
 //! A session and its rooms, packed as embed/huepaxochi.h says. Both versions work in these.
 
-/// The session's seven numbers and the rooms lent with it.
+/// The session's eight numbers and the rooms lent with it.
 #[derive(Clone, Debug, PartialEq, Eq)]
 pub struct Rooms {
-    /// States, actions, propositions, variables, blocks, moves, stamp.
-    pub session: [u32; 7],
+    /// States, actions, propositions, variables, blocks, moves, stamp, live.
+    pub session: [u32; 8],
     /// For each state the set of its propositions.
     pub labels: Vec<u32>,
     /// For each variable operator, first, second and 2 × block + kind, a byte each, lowest first. Where there are no blocks, the
@@ -28,7 +28,7 @@ impl Rooms {
     pub fn of(lengths: [usize; 5]) -> Rooms {
         let [labels, equations, values, marks, moves] = lengths;
         Rooms {
-            session: [0; 7],
+            session: [0; 8],
             labels: vec![0; labels],
             equations: vec![0; equations],
             values: vec![0; values],
@@ -45,5 +45,10 @@ impl Rooms {
     /// The stamp that the next batch must begin with.
     pub fn stamp(&self) -> u32 {
         self.session[6]
+    }
+
+    /// Whether the model is live: each of its states must have a move.
+    pub fn is_live(&self) -> bool {
+        self.session[7] == 1
     }
 }

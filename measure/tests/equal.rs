@@ -20,7 +20,7 @@ struct Both {
 struct Seen {
     loads: usize,
     batches: usize,
-    refusals: [usize; 14],
+    refusals: [usize; 17],
 }
 
 impl Seen {
@@ -112,7 +112,7 @@ fn streams_of_every_family_agree() {
         run(&generate(seed).bytes, &mut Random::new(seed), &mut seen);
     }
     assert!(seen.loads > 1_000 && seen.batches > 5_000);
-    for number in 1..=11 {
+    for number in (1..=11).chain([16]) {
         assert!(seen.refusals[number] > 0, "no refusal {number} was seen");
     }
 }
@@ -122,9 +122,10 @@ fn spoil(rooms: &mut Rooms, random: &mut Random) {
     let states = rooms.session[0] as usize;
     let pairs = states * rooms.session[3] as usize;
     let count = rooms.session[5] as usize;
-    match random.below(10) {
-        0 => rooms.session[random.below(7)] = random.bits() as u32 >> random.below(32),
+    match random.below(11) {
+        0 => rooms.session[random.below(8)] = random.bits() as u32 >> random.below(32),
         1 => rooms.session[5] = random.below(1_030) as u32,
+        9 => rooms.session[7] ^= 1,
         2 => rooms.labels[random.below(states)] ^= 1 << random.below(32),
         3 => {
             let x = random.below(rooms.session[3] as usize);

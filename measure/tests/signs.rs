@@ -74,7 +74,7 @@ fn the_same_drawing_has_the_same_values() {
 fn case_a_goes_as_with_a_block() {
     let mut rooms = Rooms::most();
     Side::Ordinary.load(&G, &mut rooms).unwrap();
-    assert_eq!(rooms.session, [2, 1, 0, 1, 0, 0, 0]);
+    assert_eq!(rooms.session, [2, 1, 0, 1, 0, 0, 0, 0]);
     assert_eq!(rooms.equations[0], 6 + (1 << 24));
     let batch = [7, 0, 0, 0, 0, 8, 0, 0, 0, 0, 0, 6];
     let report = Report {

@@ -20,6 +20,9 @@ pub struct Case {
     pub plan: u64,
 }
 
+/// What is put behind a part, so that a call meets bytes after the end.
+const MORE: [&[u8]; 5] = [&[0], &[6], &[10], &[10, 6], &[7, 0, 0, 0, 0, 6]];
+
 /// Up to which product of pairs and moves a model is small.
 const SMALL: usize = 4_096;
 
@@ -45,6 +48,14 @@ fn walk(boundary: &dyn Boundary, case: &Case, tally: &mut Tally) -> Result<(), S
             return Ok(());
         }
         start = end;
+    }
+}
+
+/// The call that hands a part over.
+fn handing(is_model: bool, part: &[u8]) -> Call<'_> {
+    match is_model {
+        true => Call::Load(part),
+        false => Call::Batch(part),
     }
 }
 
@@ -84,13 +95,9 @@ impl<'a> Run<'a> {
     }
 
     /// Hands one part over and looks at what is there then; after a refusal, which has left everything alone, only now and
-    /// then. Before that it may be tried on damaged rooms.
+    /// then. Before that it may be tried on damaged rooms, and with bytes behind it.
     fn part(&mut self, is_model: bool, part: &[u8]) -> Result<bool, String> {
-        let call = if is_model {
-            Call::Load(part)
-        } else {
-            Call::Batch(part)
-        };
+        let call = handing(is_model, part);
         let tries = if is_model {
             4
         } else {
@@ -98,6 +105,9 @@ impl<'a> Run<'a> {
         };
         for _ in 0..tries {
             self.aside(call)?;
+        }
+        if self.random.chance(if is_model { 50 } else { 5 }) {
+            self.with_more(is_model, part)?;
         }
         let accepted = self.call(call)?.is_accepted();
         if accepted && is_model {
@@ -137,6 +147,16 @@ impl<'a> Run<'a> {
         let looked = self.call(call).and_then(|_| self.look());
         (self.rooms, self.solved) = (rooms, solved);
         looked.map_err(|what| format!("after {ways:?}: {what}"))
+    }
+
+    /// Hands a part over with a few bytes behind it, and puts the rooms back.
+    fn with_more(&mut self, is_model: bool, part: &[u8]) -> Result<(), String> {
+        let rooms = self.rooms.clone();
+        let more = self.random.pick(&MORE);
+        let made = self.call(handing(is_model, &[part, more].concat()));
+        self.rooms = rooms;
+        made.map(|_| ())
+            .map_err(|what| format!("with {more:?} behind it: {what}"))
     }
 
     /// Writes the session, loads what was written, and asks about a few pairs.

@@ -17,9 +17,14 @@ pub const ENOUGH: u64 = 500;
 /// The seed of a case that differed, with the case and what differed.
 pub type Differed = (u64, Case, String);
 
-/// The cases of a seed: its stream, and one whose model is refused, so that every refusal of a load comes often.
+/// The cases of a seed: its stream, and one whose model is refused, so that every refusal of a load comes often; every third time
+/// it is refused for kind 10 or a hanging state.
 pub fn cases_of(seed: u64) -> [Case; 2] {
-    let streams = [generate(seed), generate_family(seed, Family::BadModel)];
+    let bad = match seed % 3 {
+        0 => Family::BadLive,
+        _ => Family::BadModel,
+    };
+    let streams = [generate(seed), generate_family(seed, bad)];
     streams.map(|stream| Case {
         bytes: stream.bytes,
         plan: seed,

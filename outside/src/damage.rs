@@ -5,7 +5,7 @@ use reference::random::Random;
 use reference::stamp;
 
 use crate::mirror::{equation_in, move_in, sizes_in};
-use crate::rooms::{Needs, Rooms, BLOCKS, MOVES, REPORT, SESSION, STAMP};
+use crate::rooms::{Needs, Rooms, BLOCKS, LIVE, MOVES, REPORT, SESSION, STAMP};
 
 /// One way to cut a room short or to damage a session.
 #[derive(Clone, Copy, Debug, PartialEq, Eq)]
@@ -28,9 +28,15 @@ pub enum Damage {
     Stamp,
     /// A move count off by one, over the room, or over the most.
     MoveCount,
-    /// A size just outside its limits, off by one, or too large for its kind by a power of 256.
+    /// A size just outside its limits, off by one, or a number of the session too large for its kind by a power of 256.
     Size,
     WideSize,
+    /// A flag over 1.
+    Flag,
+    /// The other flag, so that a session with states that have no move may get it.
+    Live,
+    /// A live session without the moves of one state, with the stamp that belongs to what is there then.
+    Hanging,
     /// A bit of a label, of an equation or of a move.
     Label,
     Equation,
@@ -57,7 +63,7 @@ pub enum Damage {
 use Damage::*;
 
 /// All ways.
-pub const DAMAGES: [Damage; 26] = [
+pub const DAMAGES: [Damage; 29] = [
     ShortSession,
     ShortReport,
     ShortLabels,
@@ -72,6 +78,9 @@ pub const DAMAGES: [Damage; 26] = [
     MoveCount,
     Size,
     WideSize,
+    Flag,
+    Live,
+    Hanging,
     Label,
     Equation,
     Move,
@@ -109,10 +118,17 @@ pub fn damage(way: Damage, rooms: &mut Rooms, needs: Needs, random: &mut Random)
         Size => put_size(&mut rooms.session, random),
         WideSize => add(
             &mut rooms.session,
-            random.below(6),
+            random.pick(&[0, 1, 2, 3, 4, MOVES, LIVE]),
             &[1 << 8, 1 << 16, 1 << 24],
             random,
         ),
+        Flag => put_flag(
+            &mut rooms.session,
+            &[2, 3, 255, 256, 1 << 16, u32::MAX],
+            random,
+        ),
+        Live => turn_flag(&mut rooms.session),
+        Hanging => hang(rooms, needs.moves, random),
         Label => flip(&mut rooms.labels, needs.labels, random),
         Equation => flip(&mut rooms.equations, needs.equations, random),
         Move => flip(&mut rooms.moves, needs.moves, random),
@@ -192,6 +208,41 @@ fn put_size(session: &mut [u32], random: &mut Random) {
         let off = [number.wrapping_add(1), number.wrapping_sub(1)];
         *number = random.pick(&[0, 1, MOST[at], MOST[at] + 1, off[0], off[1]]);
     }
+}
+
+/// Puts one of the choices as the flag.
+fn put_flag(session: &mut [u32], choices: &[u32], random: &mut Random) {
+    if let Some(flag) = session.get_mut(LIVE) {
+        *flag = random.pick(choices);
+    }
+}
+
+/// Makes a live session one that is not, and one that is not a live one.
+fn turn_flag(session: &mut [u32]) {
+    if let Some(flag) = session.get_mut(LIVE) {
+        *flag = u32::from(*flag != 1);
+    }
+}
+
+/// Takes all moves of one move's state away, puts the count and the stamp of the others, and the flag.
+fn hang(rooms: &mut Rooms, used: usize, random: &mut Random) {
+    let used = used.min(rooms.moves.len());
+    let Some(at) = place(&rooms.moves, used, random) else {
+        return;
+    };
+    let state = move_in(rooms.moves[at]).source;
+    let own = |word: &u32| move_in(*word).source == state;
+    let others: Vec<u32> = rooms.moves[..used]
+        .iter()
+        .filter(|word| !own(word))
+        .copied()
+        .collect();
+    rooms.moves[..others.len()].copy_from_slice(&others);
+    if let Some(count) = rooms.session.get_mut(MOVES) {
+        *count = others.len() as u32;
+    }
+    put_stamp(rooms);
+    put_flag(&mut rooms.session, &[1], random);
 }
 
 /// Changes one bit of a word in use.

@@ -31,10 +31,10 @@ pub struct Found {
 
 /// The cases that a run begins with: good and bad streams, mostly small ones, and the bench cases of document 01.
 fn corpus(seed: u64) -> Vec<Case> {
-    use Family::{BadModel, Chain, Damaged, Small, Tiny};
+    use Family::{BadLive, BadModel, Chain, Damaged, Small, Tiny};
     let mut cases = bench_cases();
     for number in 0..FIRST {
-        let family = [Tiny, Small, Chain, BadModel, Damaged][number as usize % 5];
+        let family = [Tiny, Small, Chain, BadModel, Damaged, Tiny, BadLive][number as usize % 7];
         let seed = seed.wrapping_mul(1_000_003).wrapping_add(number);
         let stream = match number % 4 {
             0 => generate(seed),
@@ -47,7 +47,8 @@ fn corpus(seed: u64) -> Vec<Case> {
     cases
 }
 
-/// Model G of document 01 with batches A, B and C, and the model of case E with its batch, in either style.
+/// Model G of document 01 with batches A, B and C, the model of case E with its batch, and a live ring of two states with a batch
+/// that makes one hang and one that gives it another move, in either style.
 fn bench_cases() -> Vec<Case> {
     let g = [1, 2, 0, 1, 0, 1, 1, 3, 1, 1, 4, 6, 0, 0, 6];
     let a = [7, 0, 0, 0, 0, 8, 0, 0, 0, 0, 0, 6];
@@ -58,11 +59,20 @@ fn bench_cases() -> Vec<Case> {
         0, 0, 0, 0, 0, 5, 0, 0, 0, 1, 0, 6,
     ];
     let f = [7, 3, 1, 0, 0, 9, 0, 0, 0, 1, 0, 6];
+    let ring = [
+        1, 2, 0, 1, 0, 1, 1, 10, 3, 1, 1, 4, 6, 0, 0, 5, 0, 0, 0, 1, 0, 5, 1, 0, 0, 0, 0, 6,
+    ];
+    let hangs = [7, 4, 1, 1, 0, 9, 0, 0, 0, 1, 0, 6];
+    let other = [7, 4, 1, 1, 0, 9, 0, 0, 0, 1, 0, 8, 0, 0, 0, 0, 0, 6];
     let case = |parts: &[&[u8]]| Case {
         bytes: parts.concat(),
         plan: 0,
     };
-    let mut cases = vec![case(&[&g, &a, &b, &c]), case(&[&e, &f])];
+    let mut cases = vec![
+        case(&[&g, &a, &b, &c]),
+        case(&[&e, &f]),
+        case(&[&ring, &hangs, &other]),
+    ];
     for at in 0..cases.len() {
         let signs = stream_in_signs(&cases[at].bytes);
         cases.extend(signs.map(|bytes| Case { bytes, plan: 0 }));

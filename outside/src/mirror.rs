@@ -7,7 +7,7 @@ use reference::{
 };
 
 use crate::boundary::{Answer, Boundary, Call};
-use crate::rooms::{Rooms, MOVES, REPORT, SESSION, STAMP};
+use crate::rooms::{Rooms, LIVE, MOVES, REPORT, SESSION, STAMP};
 
 /// The second program.
 pub struct Mirrored;
@@ -65,7 +65,8 @@ fn write(rooms: &mut Rooms) -> Result<u32, Refusal> {
     reference::write(&session, &mut rooms.out).map(|written| written as u32)
 }
 
-/// Ask. No room but that of the values is lent, so the others are as long as any model needs, and no move count is asked.
+/// Ask. No room but that of the values is lent, so the others are as long as any model needs, and neither the move count nor
+/// the flag is asked.
 fn ask(rooms: &Rooms, state: State, variable: Variable) -> Result<u32, Refusal> {
     let sizes = sizes_in(&rooms.session);
     let session = Session {
@@ -91,15 +92,19 @@ fn lengths(rooms: &Rooms) -> reference::Rooms {
     }
 }
 
-/// The sizes of a session. A number too large for its kind becomes the largest of it, which is outside its limits too.
+/// A number of a session as a byte. One too large for its kind becomes the largest of it, which is outside its limits too.
+fn byte_in(session: &[u32], at: usize) -> u8 {
+    u8::try_from(session[at]).unwrap_or(u8::MAX)
+}
+
+/// The sizes of a session, numbers too large for their kinds cut in the same way.
 pub fn sizes_in(session: &[u32]) -> Sizes {
-    let byte = |at: usize| u8::try_from(session[at]).unwrap_or(u8::MAX);
     Sizes {
         states: u16::try_from(session[0]).unwrap_or(u16::MAX),
-        actions: byte(1),
-        propositions: byte(2),
-        variables: byte(3),
-        blocks: byte(4),
+        actions: byte_in(session, 1),
+        propositions: byte_in(session, 2),
+        variables: byte_in(session, 3),
+        blocks: byte_in(session, 4),
     }
 }
 
@@ -110,6 +115,7 @@ fn session_in(rooms: &Rooms) -> Session {
     let words = &rooms.equations[..counted];
     Session {
         sizes,
+        live: byte_in(&rooms.session, LIVE),
         blocks: blocks_in(words, usize::from(sizes.blocks)),
         signs: in_tops(words, |top| top & 1),
         components: in_tops(words, |top| top >> 1),
@@ -250,4 +256,5 @@ fn put_table(session: &Session, rooms: &mut Rooms) {
     }
     rooms.session[MOVES] = session.move_count as u32;
     rooms.session[STAMP] = session.stamp.unwrap_or(0);
+    rooms.session[LIVE] = u32::from(session.live);
 }

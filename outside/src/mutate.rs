@@ -3,7 +3,8 @@
 use reference::program::cut;
 use reference::random::Random;
 use reference::records::body_length;
-use reference::{batch, load, stream_in_signs, Session};
+use reference::table::hanging;
+use reference::{batch, load, stream_in_signs, write_vec, Action, Move, Session};
 
 /// The longest stream that is kept; a longer one is cut.
 const LONGEST: usize = 16_000;
@@ -47,7 +48,7 @@ fn trim(random: &mut Random, bytes: &mut Vec<u8>) {
 
 /// Changes a stream in one way.
 fn mutate_once(random: &mut Random, bytes: &mut Vec<u8>, other: &[u8]) {
-    match random.below(18) {
+    match random.below(20) {
         0..=2 => mutate_byte(random, bytes),
         3..=7 => tweak(random, bytes),
         8 => double(random, bytes),
@@ -57,6 +58,8 @@ fn mutate_once(random: &mut Random, bytes: &mut Vec<u8>, other: &[u8]) {
         13 => splice(random, bytes, other),
         14 => splice_records(random, bytes, other),
         15 => put_signs(bytes),
+        16 => turn_live(random, bytes),
+        17 => make_live(bytes),
         _ => turn_kind(random, bytes),
     }
 }
@@ -180,6 +183,51 @@ fn put_signs(bytes: &mut Vec<u8>) {
     if let Some(signs) = stream_in_signs(bytes) {
         *bytes = signs;
     }
+}
+
+/// Puts kind 10 behind a record, most often behind the sizes of the model, or takes it away there.
+fn turn_live(random: &mut Random, bytes: &mut Vec<u8>) {
+    let any = any_record(random, bytes).map(|(_, end)| end);
+    let at = match random.chance(70) {
+        true => any.map(|_| 7),
+        false => any,
+    };
+    match at {
+        Some(at) if bytes.get(at) == Some(&10) => {
+            bytes.remove(at);
+        }
+        Some(at) if at <= bytes.len() => bytes.insert(at, 10),
+        _ => {}
+    }
+}
+
+/// Makes the model live, with a move to itself for each state that has none.
+fn make_live(bytes: &mut Vec<u8>) {
+    if let Some(length) = cut(bytes) {
+        if let Some(model) = as_live(&bytes[..length]) {
+            bytes.splice(..length, model);
+        }
+    }
+}
+
+/// The model as a live one, where it loads and has room for the moves.
+fn as_live(model: &[u8]) -> Option<Vec<u8>> {
+    let mut session = Session::roomy();
+    load(&mut session, model).ok()?;
+    let mut moves = session.table().to_vec();
+    while let Some(state) = hanging(session.sizes.states, &moves) {
+        moves.push(Move {
+            source: state,
+            action: Action(0),
+            target: state,
+        });
+    }
+    moves.sort();
+    let room = session.moves.get_mut(..moves.len())?;
+    room.copy_from_slice(&moves);
+    session.move_count = moves.len();
+    (session.live, session.stamp) = (1, None);
+    write_vec(&session).ok()
 }
 
 /// Makes an insert a delete, a delete an insert, a block or a sign of one kind one of the other, and gives sizes the other

@@ -4,13 +4,15 @@ use reference::random::Random;
 use reference::records::body_length;
 
 /// How many numbers a session is.
-pub const SESSION: usize = 7;
+pub const SESSION: usize = 8;
 /// How many numbers a report is.
 pub const REPORT: usize = 3;
-/// Which of a session's numbers are the number of blocks, which is 0 for signs, the move count and the stamp.
+/// Which of a session's numbers are the number of blocks, which is 0 for signs, the move count, the stamp and the flag, which is
+/// 1 for a live model.
 pub const BLOCKS: usize = 4;
 pub const MOVES: usize = 5;
 pub const STAMP: usize = 6;
+pub const LIVE: usize = 7;
 
 /// All rooms of all calls. A call looks at those that it is lent; the others must stay as they are all the same.
 #[derive(Clone, Debug, PartialEq, Eq)]
@@ -140,6 +142,6 @@ impl Rooms {
     /// The most bytes that the model of this session can be spelled with.
     pub fn most_written(&self) -> usize {
         let needs = Needs::of_session(&self.session);
-        8 + 7 * needs.labels + 3 * 8 + 5 * needs.equations + 6 * needs.moves
+        9 + 7 * needs.labels + 3 * 8 + 5 * needs.equations + 6 * needs.moves
     }
 }

@@ -3,29 +3,40 @@
 use std::collections::HashSet;
 
 use crate::boundary::{Answer, Call, CALLS, NAMES};
-use crate::rooms::{Needs, Rooms, BLOCKS, REPORT};
+use crate::rooms::{Needs, Rooms, BLOCKS, LIVE, REPORT};
 
-/// How many numbers an answer has: 0 for accepted, and 13 refusals.
-const NUMBERS: usize = 14;
+/// The numbers of all refusals.
+const REFUSALS: [usize; 14] = [1, 2, 3, 4, 5, 6, 7, 8, 9, 10, 11, 12, 13, 16];
+
+/// How many numbers there are up to the highest refusal, 0 for accepted too.
+const NUMBERS: usize = 17;
+
+/// The number that only a live model is refused with.
+const HANGS: usize = 16;
 
 /// The numbers that each call can answer with.
 const DUE: [&[usize]; CALLS] = [
-    &[0, 1, 2, 3, 4, 5, 6, 10, 13],
-    &[0, 1, 2, 3, 4, 7, 8, 9, 10, 11, 12, 13],
+    &[0, 1, 2, 3, 4, 5, 6, 10, 13, HANGS],
+    &[0, 1, 2, 3, 4, 7, 8, 9, 10, 11, 12, 13, HANGS],
     &[0, 12, 13],
     &[0, 4, 12, 13],
 ];
 
-/// The two styles of a model, by their numbers here.
-const STYLES: [&str; 2] = ["with blocks", "with signs"];
+/// The models by style and flag, by their numbers here.
+const MODELS: [&str; 4] = [
+    "with blocks",
+    "with signs",
+    "live with blocks",
+    "live with signs",
+];
 
-/// A coarse sort of calls: the call, its number, its style, and the magnitudes of its place, its sizes and its report.
+/// A coarse sort of calls: the call, its number, its model, and the magnitudes of its place, its sizes and its report.
 pub type Sign = [u8; 10];
 
-/// Counts of answers, by style, call and number, and the sorts of calls seen.
+/// Counts of answers, by model, call and number, and the sorts of calls seen.
 #[derive(Clone, Debug, Default)]
 pub struct Tally {
-    pub counts: [[[u64; NUMBERS]; CALLS]; STYLES.len()],
+    pub counts: [[[u64; NUMBERS]; CALLS]; MODELS.len()],
     /// How many questions were answered false and true.
     pub truths: [u64; 2],
     pub signs: HashSet<Sign>,
@@ -38,12 +49,19 @@ fn magnitude(number: usize) -> u8 {
     (usize::BITS - number.leading_zeros()) as u8
 }
 
-/// The style of a call: for a load that of the sizes in the bytes, else that of the session.
-fn style(call: Call, rooms: &Rooms) -> usize {
-    usize::from(match call {
-        Call::Load(bytes) => matches!(bytes, [1, _, _, _, _, _, 0, ..]),
-        _ => rooms.session.get(BLOCKS) == Some(&0),
-    })
+/// The model of a call by style and flag: for a load as the bytes begin, else as the session says.
+fn model(call: Call, rooms: &Rooms) -> usize {
+    let (signs, live) = match call {
+        Call::Load(bytes) => (
+            matches!(bytes, [1, _, _, _, _, _, 0, ..]),
+            matches!(bytes, [1, _, _, _, _, _, _, 10, ..]),
+        ),
+        _ => (
+            rooms.session.get(BLOCKS) == Some(&0),
+            rooms.session.get(LIVE) == Some(&1),
+        ),
+    };
+    usize::from(signs) + 2 * usize::from(live)
 }
 
 /// The sort of a call, by its answer and the rooms after it.
@@ -62,7 +80,7 @@ fn sign(call: Call, answer: Answer, rooms: &Rooms) -> Sign {
     [
         call.index() as u8,
         answer.number as u8,
-        style(call, rooms) as u8,
+        model(call, rooms) as u8,
         magnitude(answer.told as usize),
         magnitude(needs.labels),
         magnitude(needs.equations),
@@ -77,7 +95,7 @@ impl Tally {
     /// Counts one answered call.
     pub fn add(&mut self, call: Call, answer: Answer, rooms: &Rooms) {
         let number = (answer.number as usize).min(NUMBERS - 1);
-        self.counts[style(call, rooms)][call.index()][number] += 1;
+        self.counts[model(call, rooms)][call.index()][number] += 1;
         if matches!(call, Call::Ask(..)) && answer.is_accepted() {
             self.truths[usize::from(answer.told == 1)] += 1;
         }
@@ -109,10 +127,11 @@ impl Tally {
 
     /// The calls, how many were accepted, and how many refused by number, in one line.
     pub fn line(&self) -> String {
-        let refused: Vec<String> = (1..NUMBERS)
-            .map(|number| format!("{number}: {}", self.answered(number)))
+        let refused: Vec<String> = REFUSALS
+            .iter()
+            .map(|number| format!("{number}: {}", self.answered(*number)))
             .collect();
-        let of_call = |call: usize| self.counts.iter().flat_map(move |style| style[call]);
+        let of_call = |call: usize| self.counts.iter().flat_map(move |model| model[call]);
         let made = |call: usize| format!("{} {}", of_call(call).sum::<u64>(), NAMES[call]);
         let made: Vec<String> = (0..CALLS).map(made).collect();
         format!(
@@ -124,12 +143,14 @@ impl Tally {
         )
     }
 
-    /// Whether each call gave every answer that it can give, in both styles; else which is missing.
+    /// Whether each call gave every answer that it can give, in both styles, live and not; else which is missing.
     pub fn complete(&self) -> Result<(), String> {
-        for (counts, style) in self.counts.iter().zip(STYLES) {
+        for ((at, counts), name) in self.counts.iter().enumerate().zip(MODELS) {
+            let can = |number: usize| number != HANGS || at >= 2;
             for (call, numbers) in DUE.iter().enumerate() {
-                if let Some(number) = numbers.iter().find(|n| counts[call][**n] == 0) {
-                    return Err(format!("{} {style} never answered {number}", NAMES[call]));
+                let mut due = numbers.iter().filter(|number| can(**number));
+                if let Some(number) = due.find(|number| counts[call][**number] == 0) {
+                    return Err(format!("{} {name} never answered {number}", NAMES[call]));
                 }
             }
         }

@@ -1,5 +1,5 @@
-//! The two sides agree on document 01's bench cases, in signs too, each damage is met with its number, and a boundary that is
-//! wrong in one place is found out.
+//! The two sides agree on document 01's bench cases, in signs too, and on live models; each damage is met with its number, and a
+//! boundary that is wrong in one place is found out.
 
 use reference::in_signs;
 use reference::random::Random;
@@ -11,7 +11,7 @@ use crate::compare::{cases_of, compare};
 use crate::damage::{damage, Damage};
 use crate::mirror::Mirrored;
 use crate::proved::Proved;
-use crate::rooms::{Needs, Rooms, BLOCKS, MOVES, STAMP};
+use crate::rooms::{Needs, Rooms, BLOCKS, LIVE, MOVES, SESSION, STAMP};
 use crate::tally::Tally;
 
 /// Model G of document 01, and its batches A and C.
@@ -34,7 +34,7 @@ fn after_a(boundary: &dyn Boundary) -> Rooms {
 fn both_sides_do_a() {
     for side in [&Proved as &dyn Boundary, &Mirrored] {
         let mut rooms = after_a(side);
-        assert_eq!(rooms.session[..7], [2, 1, 0, 1, 1, 1, 1]);
+        assert_eq!(rooms.session[..8], [2, 1, 0, 1, 1, 1, 1, 0]);
         assert_eq!(
             (&rooms.values[..2], &rooms.marks[..2]),
             (&[1, 0][..], &[1, 0][..])
@@ -77,7 +77,7 @@ fn signed_e(boundary: &dyn Boundary) -> Rooms {
 fn both_sides_do_e_in_signs() {
     for side in [&Proved as &dyn Boundary, &Mirrored] {
         let mut rooms = signed_e(side);
-        assert_eq!(rooms.session[..7], [2, 1, 1, 3, 0, 2, 259]);
+        assert_eq!(rooms.session[..8], [2, 1, 1, 3, 0, 2, 259, 0]);
         let words = [4 + 256 + 2 * 65_536 + 2 * 16_777_216, 2, 6 + 2 * 16_777_216];
         assert_eq!(rooms.equations[..3], words);
         assert_eq!(rooms.values[..6], [1, 1, 0, 1, 1, 0]);
@@ -119,6 +119,144 @@ fn damaged_signs_are_12() {
     }
 }
 
+/// A live ring of two states, its batch that takes the move of state 0 away, and one that gives it another.
+const RING: [u8; 28] = [
+    1, 2, 0, 1, 0, 1, 1, 10, 3, 1, 1, 4, 6, 0, 0, 5, 0, 0, 0, 1, 0, 5, 1, 0, 0, 0, 0, 6,
+];
+const HANGS: [u8; 12] = [7, 4, 1, 1, 0, 9, 0, 0, 0, 1, 0, 6];
+const OTHER: [u8; 18] = [7, 4, 1, 1, 0, 9, 0, 0, 0, 1, 0, 8, 0, 0, 0, 0, 0, 6];
+
+/// Both sides keep the flag of a live model, in either style, and refuse what makes a state hang.
+#[test]
+fn both_sides_do_a_live_model() {
+    let signs = in_signs(&RING).unwrap();
+    for side in [&Proved as &dyn Boundary, &Mirrored] {
+        for (model, blocks) in [(&RING[..], 1), (&signs, 0)] {
+            let mut rooms = with_model(side, model);
+            assert_eq!(rooms.session[..8], [2, 1, 0, 1, blocks, 2, 65_796, 1]);
+            let written = side.call(Call::Write, &mut rooms);
+            assert_eq!(written, Answer::accepted(model.len() as u32));
+            assert_eq!(rooms.out[..model.len()], *model);
+            let hangs = side.call(Call::Batch(&HANGS), &mut rooms);
+            assert_eq!(hangs, Answer::refused(16, 0));
+            let other = side.call(Call::Batch(&OTHER), &mut rooms);
+            assert_eq!(other, Answer::accepted(0));
+            assert_eq!(rooms.session[MOVES..SESSION], [2, 65_539, 1]);
+            let bare = side.call(Call::Load(&without_moves(model)), &mut rooms);
+            assert_eq!(bare, Answer::refused(16, model.len() as u32 - 13));
+            assert_eq!(rooms.session[LIVE], 1);
+            assert_eq!(side.call(Call::Load(&G), &mut rooms).number, 0);
+            assert_eq!(rooms.session[LIVE], 0);
+        }
+    }
+}
+
+/// A model without its last two records of moves.
+fn without_moves(model: &[u8]) -> Vec<u8> {
+    [&model[..model.len() - 13], &[6]].concat()
+}
+
+/// 16 comes before a byte after the end, on both sides, and kind 10 is due nowhere but after the sizes.
+#[test]
+fn both_sides_refuse_kind_10_and_16() {
+    let bare = without_moves(&RING);
+    let cases = [
+        ([&bare[..], &[0]].concat(), (16, 15)),
+        ([&bare[..], &[10]].concat(), (16, 15)),
+        ([&RING[..], &[10]].concat(), (2, 28)),
+        ([&[10], &RING[..]].concat(), (2, 0)),
+        ([&RING[..8], &RING[7..]].concat(), (2, 8)),
+        ([&RING[..11], &RING[7..]].concat(), (2, 11)),
+        ([&G[..14], &[10, 6]].concat(), (2, 14)),
+        (vec![1, 0, 0, 1, 0, 1, 1, 10], (3, 0)),
+        (RING[..8].to_vec(), (1, 8)),
+    ];
+    for (bytes, (number, place)) in cases {
+        let mut rooms = with_model(&Proved, &RING);
+        let due = Answer::refused(number, place);
+        assert_eq!(both(&Proved, Call::Load(&bytes), &mut rooms), Ok(due));
+    }
+    for (batch, place) in [
+        ([&HANGS[..5], &[10, 6]].concat(), 5),
+        ([&[10], &HANGS[..]].concat(), 0),
+    ] {
+        let mut rooms = with_model(&Proved, &RING);
+        let due = Answer::refused(2, place);
+        assert_eq!(both(&Proved, Call::Batch(&batch), &mut rooms), Ok(due));
+    }
+}
+
+/// A batch that has no room for its moves and hangs a state is 10; where it just fits it is 16.
+#[test]
+fn number_10_comes_before_16() {
+    let over = [
+        7, 4, 1, 1, 0, 9, 0, 0, 0, 1, 0, 8, 1, 0, 0, 1, 0, 8, 1, 0, 0, 0, 0, 6,
+    ];
+    let fits = [&over[..17], &[6]].concat();
+    for (batch, number) in [(&fits[..], 16), (&over, 7)] {
+        let mut rooms = with_model(&Proved, &RING);
+        rooms.moves.truncate(2);
+        let answer = both(&Proved, Call::Batch(batch), &mut rooms).unwrap();
+        assert_eq!(answer.number, number);
+    }
+    let wide = [&[1, 2, 0, 2], &RING[4..]].concat();
+    let over = [
+        7, 4, 1, 1, 0, 9, 0, 0, 0, 1, 0, 8, 1, 0, 0, 1, 0, 8, 1, 0, 1, 0, 0, 6,
+    ];
+    for (room, number) in [(2, 10), (3, 16)] {
+        let mut rooms = with_model(&Proved, &wide);
+        rooms.moves.truncate(room);
+        let answer = both(&Proved, Call::Batch(&over), &mut rooms);
+        assert_eq!(answer, Ok(Answer::refused(number, 0)));
+    }
+}
+
+/// A flag over 1 and a flag on a session with a hanging state are 12 for a batch and a writing, and nothing to a question; the
+/// flag on a session where each state has a move is no damage.
+#[test]
+fn damaged_flags_are_12() {
+    for flag in [1, 2, 255, 256, 257, 1 << 16, u32::MAX] {
+        let mut rooms = after_a(&Proved);
+        rooms.session[LIVE] = flag;
+        for call in [Call::Batch(&BACK), Call::Write] {
+            assert_eq!(both(&Proved, call, &mut rooms), Ok(Answer::refused(12, 0)));
+        }
+        let asked = both(&Proved, Call::Ask(0, 0), &mut rooms);
+        assert_eq!(asked, Ok(Answer::accepted(1)));
+    }
+    for (flag, number) in [(0, 0), (1, 16), (256, 12), (257, 12)] {
+        let mut rooms = with_model(&Proved, &RING);
+        rooms.session[LIVE] = flag;
+        let answer = both(&Proved, Call::Batch(&HANGS), &mut rooms);
+        assert_eq!(answer.unwrap().number, number);
+    }
+}
+
+/// 12 for the flag comes before 13 for the rooms, 13 before 12 for a hanging state, and a session room of 7 places is 13 before
+/// all else.
+#[test]
+fn flags_and_short_rooms() {
+    for (flag, number) in [(2, 12), (1, 13), (0, 13)] {
+        let mut rooms = after_a(&Proved);
+        rooms.session[LIVE] = flag;
+        rooms.marks.truncate(1);
+        for call in [Call::Batch(&BACK), Call::Write] {
+            let due = Answer::refused(number, 0);
+            assert_eq!(both(&Proved, call, &mut rooms), Ok(due));
+        }
+    }
+    let mut rooms = with_model(&Proved, &RING);
+    rooms.session.truncate(7);
+    for call in [
+        Call::Load(&[0]),
+        Call::Batch(&[0]),
+        Call::Write,
+        Call::Ask(9, 9),
+    ] {
+        assert_eq!(both(&Proved, call, &mut rooms), Ok(Answer::refused(13, 0)));
+    }
+}
+
 /// Each way to damage a session or to cut a room short is met with its number by both sides.
 #[test]
 fn each_damage_has_its_number() {
@@ -132,6 +270,9 @@ fn each_damage_has_its_number() {
         (ShortMarks, 13),
         (ShortMoves, 12),
         (Stamp, 12),
+        (Flag, 12),
+        (Live, 12),
+        (Hanging, 12),
         (Label, 12),
         (OtherValues, 0),
     ];
@@ -196,7 +337,7 @@ fn keep_freed(_: Call, _: &mut Answer, before: &Rooms, rooms: &mut Rooms) {
 }
 
 /// Wrong things, each with its name.
-const WRONGS: [(&str, Fault); 12] = [
+const WRONGS: [(&str, Fault); 18] = [
     ("a stamp off by one", |_, answer, _, rooms| {
         touch(
             &mut rooms.session,
@@ -255,6 +396,42 @@ const WRONGS: [(&str, Fault); 12] = [
             }
         },
     ),
+    ("no flag after a load", |call, answer, _, rooms| {
+        if call.index() == 0 && answer.number == 0 {
+            rooms.session[LIVE] = 0;
+        }
+    }),
+    ("a flag that a batch drops", |call, answer, _, rooms| {
+        if call.index() == 1 && answer.number == 0 {
+            rooms.session[LIVE] = 0;
+        }
+    }),
+    ("the place of a hanging model", |call, answer, _, _| {
+        answer.told += u32::from(call.index() == 0 && answer.number == 16)
+    }),
+    ("16 before 10", |call, answer, before, _| {
+        let live = before.session.get(LIVE) == Some(&1);
+        if call.index() == 1 && answer.number == 10 && live {
+            answer.number = 16;
+        }
+    }),
+    (
+        "a hanging session accepted",
+        |call, answer, before, rooms| {
+            let live = before.session.get(LIVE) == Some(&1);
+            if call.index() == 2 && answer.number == 12 && live {
+                *answer = Answer::accepted(rooms.out.len() as u32)
+            }
+        },
+    ),
+    ("2 before 16", |call, answer, _, _| {
+        let Call::Load(bytes) = call else {
+            return;
+        };
+        if answer.number == 16 && answer.told as usize + 1 < bytes.len() {
+            *answer = Answer::refused(2, answer.told + 1)
+        }
+    }),
     ("a byte past what was written", |call, answer, _, rooms| {
         let wrote = call.index() == 2 && answer.number == 0;
         touch(
@@ -319,6 +496,30 @@ fn some_damage_leaves_a_model() {
             numbers.contains(&0) && numbers.contains(&12),
             "{way:?}: {numbers:?}"
         );
+    }
+}
+
+/// The other flag leaves a model where it is taken away or each state has a move; one over 1 never does.
+#[test]
+fn some_flags_leave_a_model() {
+    use Damage::*;
+    let signs = in_signs(&RING).unwrap();
+    for (way, model, number) in [
+        (Live, &RING[..], 0),
+        (Live, &signs, 0),
+        (Live, &E, 12),
+        (Flag, &RING, 12),
+        (Flag, &E, 12),
+        (Hanging, &RING, 12),
+        (Hanging, &signs, 12),
+    ] {
+        for seed in 0..20 {
+            let mut rooms = with_model(&Proved, model);
+            let needs = Needs::of_session(&rooms.session);
+            damage(way, &mut rooms, needs, &mut Random::new(seed));
+            let answer = both(&Proved, Call::Write, &mut rooms).unwrap();
+            assert_eq!(answer.number, number, "{way:?}");
+        }
     }
 }
 

@@ -3,6 +3,7 @@
 use std::collections::BTreeSet;
 
 use crate::limits::{MOST_CHANGES, MOST_MOVES};
+use crate::model::Model;
 use crate::records::{Reader, Record, Sizes};
 use crate::refusal::{demand, refuse, Refusal};
 use crate::session::{check, Session};
@@ -57,9 +58,18 @@ pub fn read_batch(bytes: &[u8], sizes: &Sizes) -> Result<Batch, Refusal> {
     Ok(Batch { stamp, changes })
 }
 
-/// Judges a batch against the table: 11, then 9, then 7 and 8 in batch order, then 10. Gives the
-/// table after the batch, in order.
-pub fn judge(batch: &Batch, table: &[Move], room: usize) -> Result<Vec<Move>, Refusal> {
+/// Judges a batch against the model that it meets: 11, then 9, then 7 and 8 in batch order, then
+/// 10, then 16. Gives the model after the batch, its moves in order.
+pub fn judge(batch: &Batch, model: Model, room: usize) -> Result<Model, Refusal> {
+    let moves = edited(batch, &model.moves)?;
+    demand(moves.len() <= MOST_MOVES.min(room), 10, 0)?;
+    let after = Model { moves, ..model };
+    demand(!after.hangs(), 16, 0)?;
+    Ok(after)
+}
+
+/// The table after a batch, in order: asks 11, then 9, then 7 and 8 in batch order.
+fn edited(batch: &Batch, table: &[Move]) -> Result<Vec<Move>, Refusal> {
     demand(batch.stamp == stamp(table), 11, 0)?;
     let mut named = BTreeSet::new();
     for (place, change) in &batch.changes {
@@ -79,16 +89,15 @@ pub fn judge(batch: &Batch, table: &[Move], room: usize) -> Result<Vec<Move>, Re
             }
         }
     }
-    demand(new.len() <= MOST_MOVES.min(room), 10, 0)?;
     Ok(new.into_iter().collect())
 }
 
 /// Carries out a batch on the session: asks 12, 13 and 12, reads and judges the batch, then moves
-/// the table, the values and the marks. A refusal changes nothing.
+/// the table, the values and the marks. The flag stays. A refusal changes nothing.
 pub fn batch(session: &mut Session, bytes: &[u8]) -> Result<Updated, Refusal> {
-    let mut model = check(session)?;
+    let model = check(session)?;
     let batch = read_batch(bytes, &model.sizes)?;
-    model.moves = judge(&batch, &model.moves, session.moves.len())?;
+    let model = judge(&batch, model, session.moves.len())?;
     let pairs = model.sizes.pairs();
     let old: Vec<bool> = session.values[..pairs].iter().map(|v| *v == 1).collect();
     let changes: Vec<Change> = batch.changes.iter().map(|(_, change)| *change).collect();

@@ -1,5 +1,7 @@
 //! The census: how often each outcome occurs over many generated streams.
 
+mod live;
+
 use std::collections::BTreeMap;
 
 use crate::batch::Updated;
@@ -8,6 +10,7 @@ use crate::generate::{generate, Stream};
 use crate::limits::{MOST_CHANGES, MOST_MOVES};
 use crate::program::{cut, walk, Line, MOST_BYTES};
 use crate::records::{Reader, Record, Style};
+use crate::refusal::Refusal;
 use crate::session::Session;
 
 /// Counts by name.
@@ -25,6 +28,13 @@ impl Census {
     /// Adds one to the count of a name where the condition holds.
     fn add_if(&mut self, condition: bool, name: &str) {
         self.add(name, u64::from(condition));
+    }
+
+    /// Adds one to the count of each name.
+    fn add_each(&mut self, names: Vec<&'static str>) {
+        for name in names {
+            self.add(name, 1);
+        }
     }
 
     /// Raises the count of a name to at least this many.
@@ -60,21 +70,36 @@ impl Census {
     /// Counts one line of a run, for the part with these bytes.
     fn take_line(&mut self, part: &[u8], is_model: bool, line: Line, session: &Session) {
         match line {
-            Line::Loaded(_) => self.take_loaded(session),
+            Line::Loaded(_) => {
+                self.take_loaded(session);
+                self.add_each(live::of_loaded(session));
+            }
             Line::Updated(updated) => {
                 self.take_updated(&updated, session);
                 let changes = (part.len() - 6) / 6;
                 self.add_if(changes == 0, "batches accepted, no change");
                 self.add_if(changes == MOST_CHANGES, "batches accepted, 64 changes");
+                self.add_each(live::of_updated(part, session));
+            }
+            Line::Refused(refusal) if is_model => {
+                self.take_refused("model", refusal, has_signs(part));
+                self.add_each(live::of_refused_model(part, refusal));
             }
             Line::Refused(refusal) => {
-                let what = if is_model { "model" } else { "batch" };
-                self.add(format!("{what} refused {:2}", refusal.number), 1);
-                if is_model && has_signs(part) {
-                    self.add(format!("model refused {:2}, signs", refusal.number), 1);
-                }
+                let signs = session.sizes.style() == Style::Signs;
+                self.take_refused("batch", refusal, signs);
+                self.add_each(live::of_refused_batch(part, refusal, session));
             }
         }
+    }
+
+    /// Counts a refusal by its number, and once more where it concerns a model with signs.
+    fn take_refused(&mut self, what: &str, refusal: Refusal, signs: bool) {
+        let name = format!("{what} refused {:2}", refusal.number);
+        if signs {
+            self.add(format!("{name}, signs"), 1);
+        }
+        self.add(name, 1);
     }
 
     /// Counts an accepted load.

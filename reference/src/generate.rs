@@ -7,6 +7,7 @@
 mod author;
 mod damage;
 mod faults;
+mod live;
 mod models;
 mod signed;
 
@@ -36,6 +37,8 @@ pub enum Family {
     Chain,
     /// A model that is refused.
     BadModel,
+    /// A model that is refused because a state hangs, or because kind 10 isn't due.
+    BadLive,
     /// A stream of another family with bytes or records damaged.
     Damaged,
     /// More bytes than the program reads.
@@ -45,14 +48,15 @@ pub enum Family {
 }
 
 /// All families with how often, in a hundred, each is chosen.
-pub const FAMILIES: [(Family, usize); 10] = [
-    (Family::Tiny, 19),
-    (Family::Small, 20),
-    (Family::Medium, 12),
+pub const FAMILIES: [(Family, usize); 11] = [
+    (Family::Tiny, 17),
+    (Family::Small, 18),
+    (Family::Medium, 11),
     (Family::Large, 5),
     (Family::Full, 7),
-    (Family::Chain, 12),
+    (Family::Chain, 11),
     (Family::BadModel, 10),
+    (Family::BadLive, 6),
     (Family::Damaged, 9),
     (Family::Long, 3),
     (Family::Noise, 3),
@@ -97,7 +101,7 @@ pub fn generate(seed: u64) -> Stream {
 pub fn generate_family(seed: u64, family: Family) -> Stream {
     let mut random = Random::new(seed ^ 0x5555_0000_5555_0000);
     match family {
-        Family::BadModel => bad_model(&mut random),
+        Family::BadModel | Family::BadLive => bad_model(&mut random, family),
         Family::Damaged => damaged(&mut random),
         Family::Noise => Stream {
             family,
@@ -129,18 +133,21 @@ fn whole(mut random: Random, family: Family) -> Stream {
     }
 }
 
-/// A stream whose model has one fault, with a batch after it that must not be looked at.
-fn bad_model(random: &mut Random) -> Stream {
+/// A stream whose model has a fault, with a batch after it that must not be looked at.
+fn bad_model(random: &mut Random, family: Family) -> Stream {
     let from = [Family::Tiny, Family::Small, Family::Medium, Family::Full];
     let drawn_as = random.pick(&from);
     let model = models::model(random, drawn_as);
-    let (mut bytes, number) = faults::fault_in_model(random, model);
+    let (mut bytes, number) = match family {
+        Family::BadLive => faults::fault_about_live(random, model),
+        _ => faults::fault_in_model(random, model),
+    };
     let part = 0..bytes.len();
     if number != 1 && random.chance(50) {
         bytes.extend([7, 0, 0, 0, 0, 6]);
     }
     Stream {
-        family: Family::BadModel,
+        family,
         bytes,
         intents: vec![(part, Intent::Refused(number))],
     }

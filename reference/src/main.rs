@@ -14,7 +14,7 @@ const USAGE: &str = "usage: reference
        reference generate SEED [FAMILY]
        reference census COUNT
        reference rewrite
-FAMILY is one of tiny small medium large full chain badmodel damaged long noise";
+FAMILY is one of tiny small medium large full chain badmodel badlive damaged long noise";
 
 /// The bytes to print for the arguments, or nothing where they mean nothing.
 fn answer(arguments: &[&str]) -> io::Result<Option<Vec<u8>>> {

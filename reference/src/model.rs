@@ -6,13 +6,15 @@ use crate::records::{Block, Equation, Reader, Record, Sizes, Style};
 use crate::refusal::{demand, refuse, Refusal};
 use crate::session::{Rooms, Session};
 use crate::solve::solve;
-use crate::table::{stamp, Action, Move, State, Variable};
+use crate::table::{hanging, stamp, Action, Move, State, Variable};
 
 /// A model that load accepts. Its vectors are exactly as long as its sizes say, and a state
 /// without a label has the empty set. It has blocks or signs, as its style says.
 #[derive(Clone, Debug, Default, PartialEq, Eq)]
 pub struct Model {
     pub sizes: Sizes,
+    /// Whether the model is live. Each state of a live model has a move.
+    pub live: bool,
     pub labels: Vec<u32>,
     pub blocks: Vec<Block>,
     /// For each variable its sign.
@@ -69,6 +71,11 @@ impl Group {
 }
 
 impl Model {
+    /// Whether the model is live and some state has no move.
+    pub fn hangs(&self) -> bool {
+        self.live && hanging(self.sizes.states, &self.moves).is_some()
+    }
+
     /// The groups in the order in which they are solved.
     pub fn groups(&self) -> Vec<Group> {
         match self.sizes.style() {
@@ -162,6 +169,8 @@ enum Due {
 struct Reading<'a> {
     rooms: &'a Rooms,
     due: Due,
+    /// Whether the record before was the sizes, so that kind 10 is due too.
+    after_sizes: bool,
     last_label: Option<State>,
     /// Where the records of the equations with signs begin.
     signed_at: Vec<usize>,
@@ -174,6 +183,7 @@ pub fn read_model(bytes: &[u8], rooms: &Rooms) -> Result<Model, Refusal> {
     let mut reading = Reading {
         rooms,
         due: Due::Sizes,
+        after_sizes: false,
         last_label: None,
         signed_at: vec![],
         model: Model::default(),
@@ -189,7 +199,12 @@ pub fn read_model(bytes: &[u8], rooms: &Rooms) -> Result<Model, Refusal> {
 impl Reading<'_> {
     /// Takes one whole record in, refusing with 2 where its kind isn't due.
     fn take(&mut self, place: usize, record: Record) -> Result<(), Refusal> {
+        let after_sizes = std::mem::replace(&mut self.after_sizes, false);
         match (self.due, record) {
+            (_, Record::Live) if after_sizes => {
+                self.model.live = true;
+                Ok(())
+            }
             (Due::Sizes, Record::Sizes(sizes)) => self.take_sizes(place, sizes),
             (Due::LabelOrBlock | Due::LabelOrSigned, Record::Label { state, set }) => {
                 self.take_label(place, state, set)
@@ -200,10 +215,7 @@ impl Reading<'_> {
                 self.take_signed(place, sign, equation)
             }
             (Due::MoveOrEnd, Record::Move(m)) => self.take_move(place, m),
-            (Due::MoveOrEnd, Record::End) => {
-                self.due = Due::Nothing;
-                Ok(())
-            }
+            (Due::MoveOrEnd, Record::End) => self.take_end(place),
             _ => refuse(2, place),
         }
     }
@@ -212,6 +224,7 @@ impl Reading<'_> {
     fn take_sizes(&mut self, place: usize, sizes: Sizes) -> Result<(), Refusal> {
         demand(sizes.in_table(), 3, place)?;
         demand(self.rooms.hold(&sizes), 13, 0)?;
+        self.after_sizes = true;
         self.model.sizes = sizes;
         self.model.labels = vec![0; usize::from(sizes.states)];
         self.due = match sizes.style() {
@@ -288,6 +301,13 @@ impl Reading<'_> {
         let most = MOST_MOVES.min(self.rooms.moves);
         demand(self.model.moves.len() < most, 10, place)?;
         self.model.moves.push(m);
+        Ok(())
+    }
+
+    /// Takes the end: 16 where the model is live and some state has no move.
+    fn take_end(&mut self, place: usize) -> Result<(), Refusal> {
+        demand(!self.model.hangs(), 16, place)?;
+        self.due = Due::Nothing;
         Ok(())
     }
 }

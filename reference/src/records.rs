@@ -39,7 +39,7 @@ pub struct Equation {
     pub second: u8,
 }
 
-/// One record of any of the ten kinds, its numbers not yet judged.
+/// One record of any of the eleven kinds, its numbers not yet judged.
 #[derive(Clone, Copy, Debug, PartialEq, Eq)]
 pub enum Record {
     Sizes(Sizes),
@@ -54,6 +54,8 @@ pub enum Record {
     Stamp(u32),
     Insert(Move),
     Delete(Move),
+    /// The model is live: each of its states has a move.
+    Live,
     /// An equation with its sign: 0 is least and 1 is greatest.
     Signed {
         sign: u8,
@@ -149,7 +151,7 @@ pub fn body_length(kind: u8) -> Option<usize> {
         3 => Some(2),
         4 => Some(3),
         5 | 8 | 9 => Some(5),
-        6 => Some(0),
+        6 | 10 => Some(0),
         7 | 11 => Some(4),
         _ => None,
     }
@@ -246,6 +248,7 @@ fn decode(kind: u8, body: &[u8]) -> Record {
         7 => Record::Stamp(four(body)),
         8 => Record::Insert(five(body)),
         9 => Record::Delete(five(body)),
+        10 => Record::Live,
         _ => Record::Signed {
             sign: body[0],
             equation: three(&body[1..]),
@@ -288,6 +291,7 @@ pub fn spell(record: Record, bytes: &mut Vec<u8>) {
         }
         Record::Insert(m) => spell_move(8, m, bytes),
         Record::Delete(m) => spell_move(9, m, bytes),
+        Record::Live => bytes.push(10),
     }
 }
 

@@ -2,7 +2,8 @@
 
 use std::fmt;
 
-/// A refusal: its number from document 01's table, and the place of the guilty byte.
+/// A refusal: its number from document 01's table, or 16 from document 02, and the place of the
+/// guilty byte.
 #[derive(Clone, Copy, Debug, PartialEq, Eq)]
 pub struct Refusal {
     pub number: u8,

@@ -4,8 +4,8 @@ use crate::program::cut;
 use crate::records::{spell_all, Reader, Record, Sizes, Style};
 use crate::session::Session;
 
-/// The model in signs: the same labels and moves, blocks 0, and each equation with the kind of the
-/// block that it stood in. Nothing where load refuses the model or it has signs already.
+/// The model in signs: the same flag, labels and moves, blocks 0, and each equation with the kind of
+/// the block that it stood in. Nothing where load refuses the model or it has signs already.
 pub fn in_signs(model: &[u8]) -> Option<Vec<u8>> {
     crate::load(&mut Session::roomy(), model).ok()?;
     let mut reader = Reader::new(model);

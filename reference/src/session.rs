@@ -13,6 +13,8 @@ use crate::write::spell_session;
 #[derive(Clone, Debug, PartialEq, Eq)]
 pub struct Session {
     pub sizes: Sizes,
+    /// 1 for a live model and 0 for any other.
+    pub live: u8,
     /// The blocks; only the first `sizes.blocks` of them count.
     pub blocks: [Block; MOST_BLOCKS as usize],
     /// For each variable its sign; they count only where `sizes.blocks` is 0.
@@ -70,6 +72,7 @@ impl Session {
     pub fn new(rooms: Rooms) -> Session {
         Session {
             sizes: Sizes::default(),
+            live: 0,
             blocks: Default::default(),
             signs: Default::default(),
             components: Default::default(),
@@ -110,9 +113,10 @@ impl Session {
         values.filter(|value| **value == 1).count()
     }
 
-    /// Stores a model's sizes, labels and rules; places past them keep what they had.
+    /// Stores a model's sizes, flag, labels and rules; places past them keep what they had.
     pub(crate) fn store_model(&mut self, model: &Model) {
         self.sizes = model.sizes;
+        self.live = u8::from(model.live);
         self.labels[..model.labels.len()].copy_from_slice(&model.labels);
         self.blocks[..model.blocks.len()].copy_from_slice(&model.blocks);
         self.equations[..model.equations.len()].copy_from_slice(&model.equations);
@@ -138,7 +142,7 @@ impl Session {
     }
 }
 
-/// Asks 12 for the sizes and the move count, then 13 for the rooms.
+/// Asks 12 for the sizes and the move count, then 13 for the rooms. The flag isn't looked at.
 fn check_sizes_and_rooms(session: &Session) -> Result<(), Refusal> {
     let most = MOST_MOVES.min(session.moves.len());
     demand(session.sizes.in_table(), 12, 0)?;
@@ -170,8 +174,10 @@ fn check_rest(session: &Session) -> Result<Model, Refusal> {
     read
 }
 
-/// Asks 12 for the sizes, 13 for the rooms and 12 for the rest, and gives the model held.
+/// Asks 12 for the flag and the sizes, 13 for the rooms and 12 for the rest, and gives the model
+/// held. A live session in which a state has no move is no model that load accepts.
 pub fn check(session: &Session) -> Result<Model, Refusal> {
+    demand(session.live <= 1, 12, 0)?;
     check_sizes_and_rooms(session)?;
     check_rest(session)
 }

@@ -31,6 +31,12 @@ impl Move {
     }
 }
 
+/// The lowest state that is the source of no move by any action, if there is one.
+pub fn hanging(states: u16, moves: &[Move]) -> Option<State> {
+    let mut states = (0..states).map(State);
+    states.find(|state| moves.iter().all(|m| m.source != *state))
+}
+
 /// The stamp of a table: one term for each move, summed and wrapping at 2^32.
 pub fn stamp(moves: &[Move]) -> u32 {
     let mut sum: u64 = 0;

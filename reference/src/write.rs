@@ -36,6 +36,9 @@ fn rules(session: &Session) -> Vec<Record> {
 pub fn spell_session(session: &Session) -> Vec<u8> {
     let sizes = session.sizes;
     let mut records = vec![Record::Sizes(sizes)];
+    if session.live != 0 {
+        records.push(Record::Live);
+    }
     for (state, set) in (0..sizes.states).zip(&session.labels) {
         if *set != 0 {
             records.push(Record::Label {

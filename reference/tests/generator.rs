@@ -2,7 +2,7 @@
 
 use std::collections::BTreeMap;
 
-use reference::census::Census;
+use reference::census::{census, Census};
 use reference::generate::{
     family_named, generate, generate_family, Family, Intent, Stream, FAMILIES,
 };
@@ -41,11 +41,12 @@ fn the_families_are_whole() {
     assert_eq!(family_named("nothing"), None);
 }
 
-/// The streams of the first seeds, each also as one with a refused model.
+/// The streams of the first seeds, each also as ones with a refused model.
 fn streams() -> impl Iterator<Item = (u64, Stream)> {
     (0..300).flat_map(|seed| {
-        let streams = [generate(seed), generate_family(seed, Family::BadModel)];
-        streams.map(|stream| (seed, stream))
+        let bad = [Family::BadModel, Family::BadLive];
+        let [one, other] = bad.map(|family| generate_family(seed, family));
+        [generate(seed), one, other].map(|stream| (seed, stream))
     })
 }
 
@@ -80,13 +81,15 @@ fn the_census_meets_everything() {
     for (_, stream) in streams() {
         census.take(&stream);
     }
-    for number in [1, 2, 3, 4, 5, 6, 10] {
+    for number in [1, 2, 3, 4, 5, 6, 10, 16] {
         let all = census.count(&format!("model refused {number:2}"));
         let signs = census.count(&format!("model refused {number:2}, signs"));
         assert!(0 < signs && signs < all, "{number}");
     }
-    for number in [1, 2, 3, 4, 7, 8, 9, 10, 11] {
-        assert!(census.count(&format!("batch refused {number:2}")) > 10);
+    for number in [1, 2, 3, 4, 7, 8, 9, 10, 11, 16] {
+        let all = census.count(&format!("batch refused {number:2}"));
+        let signs = census.count(&format!("batch refused {number:2}, signs"));
+        assert!(10 < all && 0 < signs && signs < all, "{number}");
     }
     for mark in 0..4 {
         assert!(census.count(&format!("marks {mark}")) > 1_000);
@@ -108,6 +111,41 @@ fn the_census_meets_everything() {
         "models with signs, one variable does not",
         "models with signs, one variable names itself",
         "models with signs, over 8 components",
+    ];
+    for name in names {
+        assert!(census.count(name) > 0, "{name}");
+    }
+}
+
+/// The streams of a few hundred seeds alone meet every sort of case about live models.
+#[test]
+fn the_census_meets_live_models() {
+    let census = census(400);
+    let names = [
+        "models accepted, live",
+        "models accepted, live with signs",
+        "models accepted, live, one move each",
+        "model refused  2, kind 10 in front",
+        "model refused  2, kind 10 twice",
+        "model refused  2, kind 10 later",
+        "model refused 16",
+        "model refused 16, signs",
+        "model refused 16, a move leads into the state",
+        "batches accepted, live",
+        "batches accepted, live, nothing but deletes",
+        "batches accepted, live, all moves of a state replaced",
+        "batches accepted, live, all moves of a state replaced by fewer",
+        "batch refused  2, kind 10",
+        "batch refused  7, hangs too",
+        "batch refused  8, hangs too",
+        "batch refused  9, hangs too",
+        "batch refused 10, hangs too",
+        "batch refused 11, hangs too",
+        "batch refused 16",
+        "batch refused 16, signs",
+        "batch refused 16, nothing but deletes",
+        "batch refused 16, inserts too",
+        "batch refused 16, 1,024 moves after",
     ];
     for name in names {
         assert!(census.count(name) > 0, "{name}");

@@ -66,7 +66,7 @@ fn reading_01_a_cut_record_is_1_at_its_first_byte() {
 /// An unknown kind is 1 at it, wherever it stands before kind 6.
 #[test]
 fn an_unknown_kind_is_1() {
-    for kind in [0, 10, 12, 128, 255] {
+    for kind in [0, 12, 13, 128, 255] {
         for count in 0..=up_to_moves().len() {
             assert_eq!(load_number(&first(count), &[vec![kind; 9]]), 1);
         }
@@ -96,7 +96,7 @@ fn a_known_kind_not_due_is_2() {
     let with_move = [up_to_moves(), vec![step(0, 0, 0)]].concat();
     let due: [(&[Vec<u8>], &[u8]); 9] = [
         (&[], &[1]),
-        (&first(1), &[2, 3]),
+        (&first(1), &[2, 3, 10]),
         (&first(3), &[2, 3]),
         (&first(4), &[4]),
         (&first(5), &[4]),

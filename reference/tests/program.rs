@@ -117,6 +117,7 @@ fn reading_15_the_cut_goes_by_kinds_and_lengths() {
         block(6, 6),
         equation(6, 6, 6),
         signed(6, 6, 6, 6),
+        live(),
         step(0x0606, 6, 0x0606),
         insert(0x0606, 6, 0x0606),
         delete(0x0606, 6, 0x0606),
@@ -137,7 +138,7 @@ fn reading_15_the_rest_is_handed_over() {
         (vec![7, 0, 0], "refused 1 at 0\n"),
         (stamp(0), "refused 1 at 5\n"),
         (
-            join(&[stamp(0), vec![10], end(), end()]),
+            join(&[stamp(0), vec![12], end(), end()]),
             "refused 1 at 5\n",
         ),
     ];

@@ -259,6 +259,7 @@ fn write_then_load_gives_back_the_session() {
         assert_eq!(write_vec(&again).unwrap(), bytes);
         let pairs = again.sizes.pairs();
         assert_eq!(again.sizes, sample.after.sizes);
+        assert_eq!(again.live, sample.after.live);
         assert_eq!(again.labels, sample.after.labels);
         assert_eq!(again.equations, sample.after.equations);
         assert_eq!(again.blocks, sample.after.blocks);

@@ -90,10 +90,10 @@ fn missing_and_cut_records_are_1() {
     assert_eq!(load_number(&records, &[]), 1);
 }
 
-/// An unknown kind is 1 at it, kind 10 too.
+/// An unknown kind is 1 at it.
 #[test]
 fn an_unknown_kind_is_1() {
-    for kind in [0, 10, 12, 128, 255] {
+    for kind in [0, 12, 13, 128, 255] {
         for count in 0..=up_to_moves().len() {
             assert_eq!(load_number(&first(count), &[vec![kind; 9]]), 1);
         }
@@ -107,7 +107,7 @@ fn a_known_kind_not_due_is_2() {
     let with_move = [up_to_moves(), vec![step(0, 0, 0)]].concat();
     let due: [(&[Vec<u8>], &[u8]); 8] = [
         (&[], &[1]),
-        (&first(1), &[2, 11]),
+        (&first(1), &[2, 10, 11]),
         (&first(3), &[2, 11]),
         (&first(4), &[11]),
         (&first(5), &[11]),
@@ -155,7 +155,7 @@ fn kind_11_in_a_batch_is_2() {
     let good = [right];
     assert_eq!(batch_number(&session(), &good, &[six, end()]), 2);
     assert_eq!(batch_number(&session(), &good, &[vec![11, 0, 0, 0]]), 1);
-    assert_eq!(batch_number(&session(), &good, &[vec![10, 0, 0, 0]]), 1);
+    assert_eq!(batch_number(&session(), &good, &[vec![12, 0, 0, 0]]), 1);
 }
 
 /// Each other size out of its limits is 3 with blocks 0 too; blocks 0 to 8 are within them.
@@ -344,7 +344,8 @@ fn the_last_record_s_own_faults_come_before_5() {
     begun.truncate(at(2));
     let last = |rest: &[u8]| load_refusal(&[&begun[..], rest].concat());
     assert_eq!(last(&[]), (1, at(2)));
-    assert_eq!(last(&[10, 0, 0, 0, 0]), (1, at(2)));
+    assert_eq!(last(&[12, 0, 0, 0, 0]), (1, at(2)));
+    assert_eq!(last(&live()), (2, at(2)));
     assert_eq!(last(&[11, 0, 0, 0]), (1, at(2)));
     assert_eq!(last(&[4, 0, 0, 0]), (2, at(2)));
     assert_eq!(last(&end()), (2, at(2)));
@@ -373,6 +374,7 @@ fn number_5_before_the_next_record() {
         block(0, 1),
         equation(0, 0, 0),
         signed(0, 0, 0, 0),
+        live(),
         label(0, 1),
         step(9, 9, 9),
         vec![6, 6],

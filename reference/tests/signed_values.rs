@@ -359,6 +359,7 @@ fn back<T: Copy>(model: &Model, became: &[u8], found: &[T]) -> Vec<T> {
 /// The bytes of a model with at most eight blocks.
 fn bytes_of(model: &Model) -> Vec<u8> {
     let mut records = vec![Record::Sizes(model.sizes)];
+    records.extend(model.live.then_some(Record::Live));
     for (state, set) in (0..).zip(&model.labels).filter(|(_, set)| **set != 0) {
         let (state, set) = (State(state), *set);
         records.push(Record::Label { state, set });
@@ -507,6 +508,7 @@ fn rewritten_models_have_the_same_values() {
             }
         );
         assert_eq!(values(&new), values(&old));
+        assert_eq!(new.live, old.live);
         assert_eq!((new.table(), &new.labels), (old.table(), &old.labels));
         assert_eq!(new.equations, old.equations);
         assert_eq!(in_signs(&signs), None);

@@ -34,7 +34,7 @@ pairs-few z f g =
 -- A line that was written with the numbers that the code has.
 module _ (out after : List ℕ) (at r : ℕ) where
   -- A refusal's line.
-  pub refusal-wrote : (why : Refusal) (k place : ℕ) → k ≡ numberOf why → k ≤ 13 → place < 18446744073709551616 → Wrote out at (refusedLine k place) after r
+  pub refusal-wrote : (why : Refusal) (k place : ℕ) → k ≡ numberOf why → k ≤ 16 → place < 18446744073709551616 → Wrote out at (refusedLine k place) after r
       → Line out at (refusedLine (numberOf why) place) after r
   refusal-wrote why k place e h p w =
       let l = refused-few k place 20 (omega arith) (omega arith) (omega arith) in

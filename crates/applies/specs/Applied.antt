@@ -12,6 +12,7 @@ use Rattle.lists.specs.Lists.{elem, fill}
 use Rattle.lists.specs.Tests.{tell}
 use Rattle.rules.specs.Records.{accepted}
 use Rattle.rules.specs.Batch.{Change, Batch, judge, remove, insert, removeAll, insertAll, inserts, deletes, edited}
+use Rattle.rules.specs.declared.Session.{Session}
 use Rattle.laws.specs.Edits.{judge-out, AllAre, Distinct, Judged, removeAll-elem, removeAll-ok, insertAll-elem}
 use Rattle.table.specs.Ascending.{ascends, some-sizes, moves-ascend}
 use Rattle.applies.specs.Kept.{Kept, removedFrom, insertedInto, changedAll, appliedTo}
@@ -156,9 +157,9 @@ applied-edits n room cs h o j k =
     ∙ all-in n room base cs (j .0) (outside (inserts cs) (deletes cs) ms (j .2)) k ∙ sym (laid-apart n room (insertAll (inserts cs) base))
 
 -- So it is for a batch that the judgement accepts.
-pub accepted-edits : (n : ℕ) (room : List ℕ) (b b′ : Batch) → n ≤ length room → ascends 0 (take n room) ≡ true
-    → judge (length room) (take n room) b ≡ accepted b′
+pub accepted-edits : (s : Session) (n : ℕ) (room : List ℕ) (b b′ : Batch) → n ≤ length room → ascends 0 (take n room) ≡ true
+    → judge s (length room) (take n room) b ≡ accepted b′
     → appliedTo (b .changes) (record { moves = room; count = n }) ≡ laid n room (edited (b .changes) (take n room))
-accepted-edits n room b b′ h o e =
-    let j = judge-out (length room) (take n room) b b′ e in
+accepted-edits s n room b b′ h o e =
+    let j = judge-out s (length room) (take n room) b b′ e in
     let k = j .2 in applied-edits n room (b .changes) h o (j .1) (omega arith)

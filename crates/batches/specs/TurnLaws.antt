@@ -96,29 +96,31 @@ module _ (z : Sizes) (s : List ℕ) (stamp n at k : ℕ) (r : Record) (got : rec
       ]
 
 -- Records that are never due after the stamp, and those that are not due as the first.
-not-due : (z : Sizes) (n : ℕ) (r : Record) → OneOf (0 ∷ 1 ∷ 2 ∷ 3 ∷ 4 ∷ 6 ∷ 9 ∷ []) (tagOf the-type r) → stepBatch z (after n) (numbersOf r) ≡ no 2
+not-due : (z : Sizes) (n : ℕ) (r : Record) → OneOf (0 ∷ 1 ∷ 2 ∷ 3 ∷ 4 ∷ 6 ∷ 9 ∷ 10 ∷ []) (tagOf the-type r) → stepBatch z (after n) (numbersOf r) ≡ no 2
 unfolding stepBatch
 not-due z n (R.Sizes a) m = refl
 not-due z n (R.Label a b) m = refl
 not-due z n (R.Block a b) m = refl
 not-due z n (R.Equation a b d) m = refl
 not-due z n (R.Move a) m = refl
-not-due z n R.End m = absurd (miss (0 ∷ 1 ∷ 2 ∷ 3 ∷ 4 ∷ 6 ∷ 9 ∷ []) 5 tt m)
+not-due z n R.End m = absurd (miss (0 ∷ 1 ∷ 2 ∷ 3 ∷ 4 ∷ 6 ∷ 9 ∷ 10 ∷ []) 5 tt m)
 not-due z n (R.Stamp a) m = refl
-not-due z n (R.Insert a) m = absurd (miss (0 ∷ 1 ∷ 2 ∷ 3 ∷ 4 ∷ 6 ∷ 9 ∷ []) 7 tt m)
-not-due z n (R.Delete a) m = absurd (miss (0 ∷ 1 ∷ 2 ∷ 3 ∷ 4 ∷ 6 ∷ 9 ∷ []) 8 tt m)
+not-due z n (R.Insert a) m = absurd (miss (0 ∷ 1 ∷ 2 ∷ 3 ∷ 4 ∷ 6 ∷ 9 ∷ 10 ∷ []) 7 tt m)
+not-due z n (R.Delete a) m = absurd (miss (0 ∷ 1 ∷ 2 ∷ 3 ∷ 4 ∷ 6 ∷ 9 ∷ 10 ∷ []) 8 tt m)
+not-due z n R.Live m = refl
 not-due z n (R.Signed a b d e) m = refl
 
-no-stamp : (r : Record) → OneOf (0 ∷ 1 ∷ 2 ∷ 3 ∷ 4 ∷ 5 ∷ 7 ∷ 8 ∷ 9 ∷ []) (tagOf the-type r) → eqb (numbersOf r .kind) 7 ≡ false
+no-stamp : (r : Record) → OneOf (0 ∷ 1 ∷ 2 ∷ 3 ∷ 4 ∷ 5 ∷ 7 ∷ 8 ∷ 9 ∷ 10 ∷ []) (tagOf the-type r) → eqb (numbersOf r .kind) 7 ≡ false
 no-stamp (R.Sizes a) m = refl
 no-stamp (R.Label a b) m = refl
 no-stamp (R.Block a b) m = refl
 no-stamp (R.Equation a b d) m = refl
 no-stamp (R.Move a) m = refl
 no-stamp R.End m = refl
-no-stamp (R.Stamp a) m = absurd (miss (0 ∷ 1 ∷ 2 ∷ 3 ∷ 4 ∷ 5 ∷ 7 ∷ 8 ∷ 9 ∷ []) 6 tt m)
+no-stamp (R.Stamp a) m = absurd (miss (0 ∷ 1 ∷ 2 ∷ 3 ∷ 4 ∷ 5 ∷ 7 ∷ 8 ∷ 9 ∷ 10 ∷ []) 6 tt m)
 no-stamp (R.Insert a) m = refl
 no-stamp (R.Delete a) m = refl
+no-stamp R.Live m = refl
 no-stamp (R.Signed a b d e) m = refl
 
 -- An insert, a delete, the end, and any other record.
@@ -140,7 +142,7 @@ turned-end z s stamp n at k r got q =
       | inr t ↦ rw t (rw (w .2, e, t) (let x : n ≡ n + 0 = omega arith in rw (← x) refl), rw (w .2) refl)
     ]
 
-pub turned-other : (z : Sizes) (s : List ℕ) (stamp n at k : ℕ) (r : Record) → recordAt s at ≡ Got r k → OneOf (0 ∷ 1 ∷ 2 ∷ 3 ∷ 4 ∷ 6 ∷ 9 ∷ []) (tagOf the-type r)
+pub turned-other : (z : Sizes) (s : List ℕ) (stamp n at k : ℕ) (r : Record) → recordAt s at ≡ Got r k → OneOf (0 ∷ 1 ∷ 2 ∷ 3 ∷ 4 ∷ 6 ∷ 9 ∷ 10 ∷ []) (tagOf the-type r)
     → Turned z s stamp n at (T.Stop (B.Refused Why.NotDue at))
 turned-other z s stamp n at k r got m = turned-no z s stamp n at k r got Why.NotDue (not-due z n r m)
 
@@ -176,7 +178,7 @@ first-broken z s e =
       | inr b ↦ let k : partsAt s 0 ≡ ends 0 = h ∙ rw b refl in (rw k refl, rw k refl)
     ]
 
-pub first-other : (z : Sizes) (s : List ℕ) (k : ℕ) (r : Record) → recordAt s 0 ≡ Got r k → OneOf (0 ∷ 1 ∷ 2 ∷ 3 ∷ 4 ∷ 5 ∷ 7 ∷ 8 ∷ 9 ∷ []) (tagOf the-type r)
+pub first-other : (z : Sizes) (s : List ℕ) (k : ℕ) (r : Record) → recordAt s 0 ≡ Got r k → OneOf (0 ∷ 1 ∷ 2 ∷ 3 ∷ 4 ∷ 5 ∷ 7 ∷ 8 ∷ 9 ∷ 10 ∷ []) (tagOf the-type r)
     → Began z s (T.Stop (B.Refused Why.NotDue 0))
 unfolding readBatch run stepBatch codesOf
 first-other z s k r got m =

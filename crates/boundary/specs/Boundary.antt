@@ -31,7 +31,7 @@ loadLeft session l = loadedTo (told (λ _. 0) (l .answer)) (sessionAfter session
 -- A load: 13 where the room of the session is too short for its numbers, else the rules' load.
 unfoldable pub loadCall : List ℕ → Rooms → List ℕ → LoadLeft
 loadCall session l bytes =
-    cond (ltb (length session) 7) (loadedTo (packed 13 0) session l) (loadLeft session (load l bytes))
+    cond (ltb (length session) 8) (loadedTo (packed 13 0) session l) (loadLeft session (load l bytes))
 
 -- What a batch leaves: its answer, the room of the session, the five rooms, the room of the report.
 pub record BatchLeft : Type 0 where
@@ -52,7 +52,7 @@ batchLeft session report l =
 -- A batch: 13 where the room of the session or of the report is too short for its numbers, else the rules' batch.
 unfoldable pub batchCall : List ℕ → Rooms → List ℤ → List ℕ → BatchLeft
 batchCall session l report bytes =
-    cond (ltb (length session) 7 || ltb (length report) 3) (batchedTo (packed 13 0) session l report)
+    cond (ltb (length session) 8 || ltb (length report) 3) (batchedTo (packed 13 0) session l report)
     (batchLeft session report (batch (sessionIn session) l bytes))
 
 -- What a writing leaves: its answer, which tells the number of bytes written, and the output.
@@ -71,10 +71,10 @@ writeLeft l = wroteTo (told (λ n. n) (l .answer)) (l .rooms)
 -- A writing: 13 where the room of the session is too short for its numbers, else the rules' writing.
 unfoldable pub writeCall : List ℕ → Rooms → List ℕ → WriteLeft
 writeCall session l out =
-    cond (ltb (length session) 7) (wroteTo (packed 13 0) out) (writeLeft (write (sessionIn session) l out))
+    cond (ltb (length session) 8) (wroteTo (packed 13 0) out) (writeLeft (write (sessionIn session) l out))
 
 -- A question about one pair: 13 where the room of the session is too short for its numbers, else the rules' question, which
 -- tells 1 for true and 0 for false.
 unfoldable pub askCall : List ℕ → List ℕ → ℕ → ℕ → ℕ
 askCall session values here x =
-    cond (ltb (length session) 7) (packed 13 0) (told bit (ask (sessionIn session) values (state here) (variable x)))
+    cond (ltb (length session) 8) (packed 13 0) (told bit (ask (sessionIn session) values (state here) (variable x)))

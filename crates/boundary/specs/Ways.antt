@@ -26,56 +26,56 @@ use Rattle.boundary.specs.Boundary.{loadedTo, loadLeft, loadCall, batche
 -- A question about one pair.
 module _ (session values : List ℕ) (here x : ℕ) where
   -- The room of the session is too short.
-  pub ask-short : length session < 7 → 13 ≡ askCall session values here x
+  pub ask-short : length session < 8 → 13 ≡ askCall session values here x
   unfolding askCall
-  ask-short h = rw (ltb-is (length session) 7 .1 h) refl
+  ask-short h = rw (ltb-is (length session) 8 .1 h) refl
 
   -- A session s was read, the call answered k, and r is told of it.
-  pub ask-comes : (s : Session) (k : Asked) (r : ℕ) → 7 ≤ length session → s ≡ sessionIn session → askedSays k ≡ ask s values (state here) (variable x)
+  pub ask-comes : (s : Session) (k : Asked) (r : ℕ) → 8 ≤ length session → s ≡ sessionIn session → askedSays k ≡ ask s values (state here) (variable x)
       → r ≡ told bit (askedSays k) → r ≡ askCall session values here x
   unfolding askCall
-  ask-comes s k r h i e b = rw (ltb-no (length session) 7 .1 h) (b ∙ ap (told bit) (rw i at e))
+  ask-comes s k r h i e b = rw (ltb-no (length session) 8 .1 h) (b ∙ ap (told bit) (rw i at e))
 
 -- A writing.
 module _ (session : List ℕ) (l : Rooms) (out : List ℕ) where
   -- The room of the session is too short.
-  pub write-short : length session < 7 → wroteTo 13 out ≡ writeCall session l out
+  pub write-short : length session < 8 → wroteTo 13 out ≡ writeCall session l out
   unfolding writeCall
-  write-short h = rw (ltb-is (length session) 7 .1 h) refl
+  write-short h = rw (ltb-is (length session) 8 .1 h) refl
 
   -- A session s was read, the call answered k and left the output so, and r is told of it.
-  pub write-comes : (s : Session) (k : Written) (after : List ℕ) (r : ℕ) → 7 ≤ length session → s ≡ sessionIn session
+  pub write-comes : (s : Session) (k : Written) (after : List ℕ) (r : ℕ) → 8 ≤ length session → s ≡ sessionIn session
       → wrote (writtenSays k) after ≡ write s l out → r ≡ told (λ n. n) (writtenSays k) → wroteTo r after ≡ writeCall session l out
   unfolding writeCall
-  write-comes s k after r h i e b = rw (b, ltb-no (length session) 7 .1 h) (ap writeLeft (rw i at e))
+  write-comes s k after r h i e b = rw (b, ltb-no (length session) 8 .1 h) (ap writeLeft (rw i at e))
 
 -- A load.
 module _ (session : List ℕ) (l : Rooms) (bytes : List ℕ) where
   -- The room of the session is too short.
-  pub load-short : length session < 7 → loadedTo 13 session l ≡ loadCall session l bytes
+  pub load-short : length session < 8 → loadedTo 13 session l ≡ loadCall session l bytes
   unfolding loadCall
-  load-short h = rw (ltb-is (length session) 7 .1 h) refl
+  load-short h = rw (ltb-is (length session) 8 .1 h) refl
 
   -- The call answered k and left the rooms so, r is told of it, and its session was kept.
-  pub load-comes : (k : Loaded) (after : Rooms) (r : ℕ) (kept : List ℕ) → 7 ≤ length session → loaded (loadedSays k) after ≡ load l bytes
+  pub load-comes : (k : Loaded) (after : Rooms) (r : ℕ) (kept : List ℕ) → 8 ≤ length session → loaded (loadedSays k) after ≡ load l bytes
       → r ≡ told (λ _. 0) (loadedSays k) → kept ≡ sessionAfter session (loadedSays k) → loadedTo r kept after ≡ loadCall session l bytes
   unfolding loadCall
-  load-comes k after r kept h e b d = rw (b, d, ltb-no (length session) 7 .1 h) (ap (loadLeft session) e)
+  load-comes k after r kept h e b d = rw (b, d, ltb-no (length session) 8 .1 h) (ap (loadLeft session) e)
 
 -- A batch.
 module _ (session : List ℕ) (l : Rooms) (report : List ℤ) (bytes : List ℕ) where
   -- The room of the session or of the report is too short.
-  pub batch-short : (ltb (length session) 7 || ltb (length report) 3) ≡ true → batchedTo 13 session l report ≡ batchCall session l report bytes
+  pub batch-short : (ltb (length session) 8 || ltb (length report) 3) ≡ true → batchedTo 13 session l report ≡ batchCall session l report bytes
   unfolding batchCall
   batch-short h = rw h refl
 
   -- Where neither is, both are long enough.
-  module _ (h : (ltb (length session) 7 || ltb (length report) 3) ≡ false) where
-    pub long-session : 7 ≤ length session
-    long-session = ltb-no (length session) 7 .0 (or-no (ltb (length session) 7) (ltb (length report) 3) .0 h .0)
+  module _ (h : (ltb (length session) 8 || ltb (length report) 3) ≡ false) where
+    pub long-session : 8 ≤ length session
+    long-session = ltb-no (length session) 8 .0 (or-no (ltb (length session) 8) (ltb (length report) 3) .0 h .0)
 
     pub long-report : 3 ≤ length report
-    long-report = ltb-no (length report) 3 .0 (or-no (ltb (length session) 7) (ltb (length report) 3) .0 h .1)
+    long-report = ltb-no (length report) 3 .0 (or-no (ltb (length session) 8) (ltb (length report) 3) .0 h .1)
 
     -- A session s was read, the call answered k and left the rooms so, r is told of it, and its session and its report
     -- were kept.

@@ -1,4 +1,4 @@
-// The four calls for other languages. A session lies in a room as seven numbers, an answer is one number, and a report is
+// The four calls for other languages. A session lies in a room as eight numbers, an answer is one number, and a report is
 // three numbers in a room; what the calls leave stands in specs/Boundary.antt.
 ghost use mathlib.Core.Path.{_≡_};
 ghost use Rattle.sessions.specs.Tested.{roomsOf};
@@ -10,7 +10,7 @@ use rules::Variable;
 const SHORT: u64 = 13;
 
 // How many numbers a session is.
-const SESSION: usize = 7;
+const SESSION: usize = 8;
 
 // How many numbers a report is.
 const REPORT: usize = 3;

@@ -29,6 +29,6 @@ module _ (s : Session) (l : Rooms) (bytes : List ℕ) (k : Checked) (h : checked
 
   module _ (g : k ≡ Found.Good) where
     -- After a good check the batch is what its reading and its judgement come to.
-    pub batch-goes : batchBy s l (andThen (readBatch (s .sizes) bytes) (judge (length (l .moves)) (held s l .moves))) ≡ batch s l bytes
+    pub batch-goes : batchBy s l (andThen (readBatch (s .sizes) bytes) (judge s (length (l .moves)) (held s l .moves))) ≡ batch s l bytes
     unfolding batch judged
     batch-goes = sym (ap (batchBy s l) (checked-goes s l k h _ g))

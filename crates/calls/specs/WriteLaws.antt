@@ -23,7 +23,7 @@ use Rattle.calls.specs.declared.Checked.the-variants as Found
 
 -- The length of what is written, by the counts that the session keeps.
 abbrev pub lengthBy : Session → List ℕ → ℕ
-lengthBy s labels = 8 + 7 * labelled (take (s .sizes .states) labels) + 3 * s .sizes .blocks + equationSize (s .sizes) * s .sizes .variables + 6 * s .moves
+lengthBy s labels = 8 + s .live + 7 * labelled (take (s .sizes .states) labels) + 3 * s .sizes .blocks + equationSize (s .sizes) * s .sizes .variables + 6 * s .moves
 
 -- The call left this answer and this output.
 abbrev pub wrote : Outcome ℕ → List ℕ → Left ℕ (List ℕ)

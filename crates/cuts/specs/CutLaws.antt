@@ -21,16 +21,17 @@ use Rattle.wire.specs.declared.Read.the-variants.{Got, Broken}
 use Rattle.cuts.specs.Cut.{endAfter, cut, pieces, allPieces}
 
 -- Every record but the end record has another kind.
-pub no-end : (r : Record) → OneOf (0 ∷ 1 ∷ 2 ∷ 3 ∷ 4 ∷ 6 ∷ 7 ∷ 8 ∷ 9 ∷ []) (tagOf the-type r) → eqb (numbersOf r .kind) 6 ≡ false
+pub no-end : (r : Record) → OneOf (0 ∷ 1 ∷ 2 ∷ 3 ∷ 4 ∷ 6 ∷ 7 ∷ 8 ∷ 9 ∷ 10 ∷ []) (tagOf the-type r) → eqb (numbersOf r .kind) 6 ≡ false
 no-end (R.Sizes a) m = refl
 no-end (R.Label a b) m = refl
 no-end (R.Block a b) m = refl
 no-end (R.Equation a b d) m = refl
 no-end (R.Move a) m = refl
-no-end R.End m = absurd (miss (0 ∷ 1 ∷ 2 ∷ 3 ∷ 4 ∷ 6 ∷ 7 ∷ 8 ∷ 9 ∷ []) 5 tt m)
+no-end R.End m = absurd (miss (0 ∷ 1 ∷ 2 ∷ 3 ∷ 4 ∷ 6 ∷ 7 ∷ 8 ∷ 9 ∷ 10 ∷ []) 5 tt m)
 no-end (R.Stamp a) m = refl
 no-end (R.Insert a) m = refl
 no-end (R.Delete a) m = refl
+no-end R.Live m = refl
 no-end (R.Signed a b d e) m = refl
 
 -- Where the part ends that is being read at a place.

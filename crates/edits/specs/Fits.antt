@@ -1,20 +1,23 @@
 -- The length after a batch, by counts; and the whole judgement from what the code finds. Assumes nothing.
-use mathlib.Core.Path.{_≡_, refl, sym, ap, _∙_}
+use mathlib.Core.Path.{_≡_, refl, sym, ap, ap₂, _∙_}
 use mathlib.Core.Bool.{Bool, true}
 use mathlib.Core.List.{List, [], _∷_}
 use mathlib.Core.Option.{Option, none, some}
 use Prim.Native.Nat.{ℕ, _+_, _≤_, min}
 use native.Mathlib.Decide.{decLe}
 use native.Mathlib.Omega.{arith}
-use lib.ListN.{length}
+use lib.ListN.{length, take}
 use lib.Dec.{eqb, leb}
 use Rattle.lists.specs.Lists.{sumOf}
 use Rattle.lists.specs.Tests.{leb-is, no-way}
 use Rattle.rules.specs.Limits.{most-moves}
+use Rattle.rules.specs.Model.{movesOk, liveOk}
 use Rattle.rules.specs.Moves.{stampOf}
 use Rattle.rules.specs.Batch.{Change, Batch, inserts, deletes, edited, repeated, misplaced, unless, firstOf, judge}
+use Rattle.rules.specs.declared.Session.{Session}
 use Rattle.laws.specs.Edits.{Judged, edited-sum, wrong-in, repeated-in}
-use Rattle.table.specs.Ascending.{ascends, some-sizes}
+use Rattle.laws.specs.Emptied.{livesBy, lives-edited}
+use Rattle.table.specs.Ascending.{ascends, some-sizes, moves-ascend}
 use Rattle.edits.specs.Judging.{faultOf, verdictSays, orElse}
 use Rattle.edits.specs.declared.Verdict.{Verdict}
 use Rattle.edits.specs.declared.Verdict.the-variants as Found
@@ -61,25 +64,40 @@ in-front : (b : Batch) (x : Option (ℕ × ℕ)) (l m : List (Option (ℕ × ℕ
 in-front b none l m h = h refl
 in-front b (some r) l m h = refl
 
+-- What a batch may rely on: the session's stamp is that of its moves, which are in range and in order, and each state of a live
+-- session has one.
+pub record Held (s : Session) (moves : List ℕ) : Type 0 where
+  pub stamp : s .stamp ≡ stampOf (take (s .moves) moves)
+  pub in-range : movesOk (s .sizes) 0 (take (s .moves) moves) ≡ true
+  pub lively : liveOk (s .live) (s .sizes .states) (take (s .moves) moves) ≡ true
+
+pub held-ascends : (s : Session) (moves : List ℕ) → Held s moves → ascends 0 (take (s .moves) moves) ≡ true
+held-ascends s moves h = moves-ascend (s .sizes) 0 (take (s .moves) moves) (h .in-range)
+
 -- What the code finds is what the judgement says.
-pub verdict-judges : (room stamp : ℕ) (ms : List ℕ) (b : Batch) (v : Verdict) → stamp ≡ stampOf ms → ascends 0 ms ≡ true
-    → faultOf v
-    ≡ orElse (unless 11 (eqb (b .stamp) stamp)) (orElse (repeated [] 5 (b .changes)) (orElse (misplaced ms 5 (b .changes)) (unless 10 (fitsBy room (length ms) (b .changes)))))
-    → verdictSays b v ≡ judge room ms b
+pub verdict-judges : (s : Session) (room : ℕ) (moves : List ℕ) (b : Batch) (v : Verdict) → Held s moves → let ms = take (s .moves) moves in faultOf v
+    ≡ orElse (unless 11 (eqb (b .stamp) (s .stamp))) (orElse (repeated [] 5 (b .changes)) (orElse (misplaced ms 5 (b .changes))
+    (orElse (unless 10 (fitsBy room (length ms) (b .changes))) (unless 16 (livesBy (s .live) ms (b .changes))))))
+    → verdictSays b v ≡ judge s room ms b
 unfolding judge
-verdict-judges room stamp ms b v e h f =
+verdict-judges s room moves b v g f =
+    let ms = take (s .moves) moves in
     let n = repeated [] 5 (b .changes) in
     let m = misplaced ms 5 (b .changes) in
     let u = unless 10 (fitsBy room (length ms) (b .changes)) in
-    let w = unless 11 (eqb (b .stamp) stamp) in
+    let x = unless 16 (livesBy (s .live) ms (b .changes)) in
+    let w = unless 11 (eqb (b .stamp) (s .stamp)) in
     let u′ = unless 10 (leb (length (edited (b .changes) ms)) (min most-moves room)) in
-    first-one b v ∙ ap (λ (x : Option (ℕ × ℕ)). firstOf (x ∷ []) b) f ∙ first-two b w (orElse n (orElse m u))
-    ∙ in-front b w (orElse n (orElse m u) ∷ []) (n ∷ m ∷ u′ ∷ [])
-    (λ a. first-two b n (orElse m u) ∙ in-front b n (orElse m u ∷ []) (m ∷ u′ ∷ [])
-    (λ p. first-two b m u ∙ in-front b m (u ∷ []) (u′ ∷ [])
+    let x′ = unless 16 (liveOk (s .live) (s .sizes .states) (edited (b .changes) ms)) in
+    first-one b v ∙ ap (λ (o : Option (ℕ × ℕ)). firstOf (o ∷ []) b) f ∙ first-two b w (orElse n (orElse m (orElse u x)))
+    ∙ in-front b w (orElse n (orElse m (orElse u x)) ∷ []) (n ∷ m ∷ u′ ∷ x′ ∷ [])
+    (λ a. first-two b n (orElse m (orElse u x)) ∙ in-front b n (orElse m (orElse u x) ∷ []) (m ∷ u′ ∷ x′ ∷ [])
+    (λ p. first-two b m (orElse u x) ∙ in-front b m (orElse u x ∷ []) (u′ ∷ x′ ∷ [])
     (λ q. let r = repeated-in [] 5 (b .changes) p in
-    let g = wrong-in ms 5 (b .changes) q in
-    let d = edited-length ms (b .changes) h (r .0, r .1, g .0, g .1) in
-    ap (λ (x : Bool). firstOf (unless 10 x ∷ []) b)
-    (same-test (length (edited (b .changes) ms)) (length ms + length (inserts (b .changes))) (min most-moves room) (length (deletes (b .changes))) d))))
-    ∙ ap (λ (x : ℕ). firstOf (unless 11 (eqb (b .stamp) x) ∷ n ∷ m ∷ u′ ∷ []) b) e
+    let k = wrong-in ms 5 (b .changes) q in
+    let j : Judged ms (b .changes) = (r .0, r .1, k .0, k .1) in
+    let d = edited-length ms (b .changes) (held-ascends s moves g) j in
+    first-two b u x ∙ ap₂ (λ (c d : Bool). firstOf (unless 10 c ∷ unless 16 d ∷ []) b)
+    (same-test (length (edited (b .changes) ms)) (length ms + length (inserts (b .changes))) (min most-moves room) (length (deletes (b .changes))) d)
+    (sym (lives-edited (s .sizes) ms (b .changes) j (g .in-range) (s .live) (g .lively))))))
+    ∙ ap (λ (k : ℕ). firstOf (unless 11 (eqb (b .stamp) k) ∷ n ∷ m ∷ u′ ∷ x′ ∷ []) b) (g .stamp)

@@ -1,3 +1,4 @@
 pub mod Changes
 pub mod Judging
 pub mod Fits
+pub mod Hangs

@@ -1,21 +1,26 @@
 // The changes of a batch: judged against the moves, made in the room of the moves, and carried into the stamp. A change is
 // one number: twice the packed move, and 1 more for an insert.
 ghost use mathlib.Core.Path.{_≡_};
-ghost use mathlib.Core.Bool.{true, cond};
+ghost use mathlib.Core.Bool.{true, not, cond, _&&_};
 ghost use mathlib.Core.List.{[]};
 ghost use mathlib.Core.Option.{some};
-ghost use Prim.Native.Nat.{_+_, _≤_};
+ghost use Prim.Native.Nat.{_+_, _/_, _%_, _≤_};
 ghost use lib.ListN.{length, take};
-ghost use Rattle.lists.specs.Lists.{elem};
-ghost use Rattle.rules.specs.Moves.{stampOf};
-ghost use Rattle.rules.specs.Batch.{inserts, repeated, misplaced, unless, judge};
+ghost use lib.Dec.{eqb};
+ghost use Rattle.lists.specs.Lists.{bit, elem};
+ghost use Rattle.rules.specs.Moves.{source};
+ghost use Rattle.rules.specs.Batch.{inserts, deletes, repeated, misplaced, unless, judge};
 ghost use Rattle.rules.specs.Answers.{numberOf};
 ghost use Rattle.laws.specs.Edits.{carry};
+ghost use Rattle.laws.specs.Emptied.{movesOf, emptied, staysIn, livesBy};
 ghost use Rattle.edits.specs.Changes.{changeOf, changesOf, carriedBy};
 ghost use Rattle.table.specs.Ascending.{ascends};
-ghost use Rattle.edits.specs.Fits.{fitsBy};
+ghost use Rattle.edits.specs.Fits.{fitsBy, Held};
+ghost use Rattle.edits.specs.Hangs.{namedBy};
 ghost use Rattle.edits.specs.Judging.{faultOf, verdictSays, orElse, seenAt, wrong};
 use rules::Refusal;
+use rules::Session;
+use rules::State;
 
 // What is found of a batch: a refusal with its place, or nothing wrong.
 pub enum Verdict {
@@ -142,6 +147,75 @@ fn fits(changes: &[u32], count: usize, moves: &[u32], n: usize, room: usize) -> 
     held + inserted <= most + deleted
 }
 
+// 1 where a change is an insert (kind 1) or a delete (kind 0) of a move of the state, else 0.
+fn named_one(w: u32, here: State, kind: u32) -> usize
+    ensures { λ r. ⌜ (r ≡ bit (eqb (w % 2) kind && eqb (source (w / 2)) (here .0))) × (r ≤ 1) ⌝ }
+{
+    ((w % 2 == kind) & (table::source_of(w / 2) == here.0 as u32)) as usize
+}
+
+// How many of the first `count` changes insert (kind 1) or delete (kind 0) a move of the state.
+fn named_of(changes: &[u32], count: usize, here: State, kind: u32) -> usize
+    requires { ⌜ kind ≤ 1 ⌝ }
+    ensures { λ r. ⌜ (r ≡ movesOf (here .0) (namedBy kind (changesOf (take count (now (changes .entry)))))) × (r ≤ length (now (changes .entry))) ⌝ }
+{
+    let mut i = table::least(count, changes.len());
+    let mut found: usize = 0;
+    while 0 < i {
+        i = i - 1;
+        found = named_one(rooms::word_at(changes, i), here, kind) + found;
+    }
+    found
+}
+
+// Whether the changes leave the state without a move.
+fn empties(changes: &[u32], count: usize, moves: &[u32], n: usize, here: State) -> bool
+    requires { ⌜ ascends 0 (take n (now moves)) ≡ true ⌝ }
+    ensures { λ r. ⌜ r ≡ emptied (take n (now (moves .entry))) (changesOf (take count (now (changes .entry)))) (here .0) ⌝ }
+{
+    let held = table::moves_of(moves, n, here);
+    let inserted = named_of(changes, count, here, 1);
+    let deleted = named_of(changes, count, here, 0);
+    held + inserted <= deleted
+}
+
+// Whether a change deletes a move of a state that is left without one.
+fn hangs_by(w: u32, changes: &[u32], count: usize, moves: &[u32], n: usize) -> bool
+    requires { ⌜ ascends 0 (take n (now moves)) ≡ true ⌝ }
+    ensures { λ r. ⌜ r ≡ (not (changeOf w .insert) && emptied (take n (now (moves .entry))) (changesOf (take count (now (changes .entry)))) (source (w / 2))) ⌝ }
+{
+    if w % 2 == 1 {
+        return false;
+    }
+    let m = table::unpacked(w / 2);
+    empties(changes, count, moves, n, m.source)
+}
+
+// Whether no change does.
+fn none_hangs(changes: &[u32], count: usize, moves: &[u32], n: usize) -> bool
+    requires { ⌜ ascends 0 (take n (now moves)) ≡ true ⌝ }
+    ensures { λ r. ⌜ r ≡ staysIn (take n (now (moves .entry))) (changesOf (take count (now (changes .entry)))) (deletes (changesOf (take count (now (changes .entry))))) ⌝ }
+{
+    let mut i = table::least(count, changes.len());
+    let mut ok = true;
+    while 0 < i {
+        i = i - 1;
+        ok = !hangs_by(rooms::word_at(changes, i), changes, count, moves, n) & ok;
+    }
+    ok
+}
+
+// Whether a live model stays one, each state of which has a move: told before any move is made.
+fn lives(live: u8, changes: &[u32], count: usize, moves: &[u32], n: usize) -> bool
+    requires { ⌜ ascends 0 (take n (now moves)) ≡ true ⌝ }
+    ensures { λ r. ⌜ r ≡ livesBy live (take n (now (moves .entry))) (changesOf (take count (now (changes .entry)))) ⌝ }
+{
+    if live == 1 {
+        return none_hangs(changes, count, moves, n);
+    }
+    true
+}
+
 // The first of two verdicts that finds something wrong.
 fn first_of(one: Verdict, two: Verdict) -> Verdict
     ensures { λ r. ⌜ faultOf r ≡ orElse (faultOf one) (faultOf two) ⌝ }
@@ -162,24 +236,30 @@ fn refused_unless(why: Refusal, test: bool) -> Verdict
     Verdict::Refused(why, 0)
 }
 
-// A batch that was read, judged against the moves: 11, then 9, then 7 and 8, then 10.
+// A batch that was read, judged against a session and its moves: 11, then 9, then 7 and 8, then 10, then 16.
 pub fn judge_batch(
+    session: Session,
     changes: &[u32],
     count: usize,
     stamp: u32,
-    kept: u32,
     moves: &[u32],
-    n: usize,
     room: usize,
 ) -> Verdict
     requires { ⌜ count ≤ 64 ⌝ }
-    requires { ⌜ kept ≡ stampOf (take n (now moves)) ⌝ }
-    requires { ⌜ ascends 0 (take n (now moves)) ≡ true ⌝ }
-    ensures { λ r. ⌜ verdictSays (record { stamp = stamp; changes = changesOf (take count (now (changes .entry))) }) r ≡ judge room (take n (now (moves .entry))) (record { stamp = stamp; changes = changesOf (take count (now (changes .entry))) }) ⌝ }
+    requires { ⌜ Held session (now moves) ⌝ }
+    ensures { λ r. ⌜ verdictSays (record { stamp = stamp; changes = changesOf (take count (now (changes .entry))) }) r ≡ judge session room (take (session .moves) (now (moves .entry))) (record { stamp = stamp; changes = changesOf (take count (now (changes .entry))) }) ⌝ }
 {
-    let drawn = refused_unless(Refusal::WrongStamp, stamp == kept);
+    let n = session.moves as usize;
+    let drawn = refused_unless(Refusal::WrongStamp, stamp == session.stamp);
     let named = repeats(changes, count);
     let placed = misplaces(changes, count, moves, n);
     let small = refused_unless(Refusal::Full, fits(changes, count, moves, n, room));
-    first_of(drawn, first_of(named, first_of(placed, small)))
+    let live = refused_unless(
+        Refusal::Hangs,
+        lives(session.live, changes, count, moves, n),
+    );
+    first_of(
+        drawn,
+        first_of(named, first_of(placed, first_of(small, live))),
+    )
 }

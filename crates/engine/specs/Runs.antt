@@ -21,7 +21,7 @@ use Rattle.engine.specs.UnitLaws.{Ready, unit-grows, unit-long}
 
 -- The model with other moves.
 abbrev pub withMoves : List ℕ → Model → Model
-withMoves l m = record { sizes = m .sizes; labels = m .labels; equations = m .equations; moves = l }
+withMoves l m = record { sizes = m .sizes; live = m .live; labels = m .labels; equations = m .equations; moves = l }
 
 -- The changes cs made the moves of m, and the list vs has a value for each pair.
 pub record Started (m : Model) (cs : List Change) (vs : List ℕ) : Type 0 where

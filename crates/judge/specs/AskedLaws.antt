@@ -27,7 +27,7 @@ use Rattle.judge.specs.declared.OneTurn.{OneTurn}
 use Rattle.judge.specs.declared.OneTurn.the-variants as T
 
 -- A record of any other case is no equation with a sign.
-pub other-case : (r : Record) → OneOf (0 ∷ 1 ∷ 2 ∷ 3 ∷ 4 ∷ 5 ∷ 6 ∷ 7 ∷ 8 ∷ []) (tagOf the-type r) → isSigned r ≡ false
+pub other-case : (r : Record) → OneOf (0 ∷ 1 ∷ 2 ∷ 3 ∷ 4 ∷ 5 ∷ 6 ∷ 7 ∷ 8 ∷ 9 ∷ []) (tagOf the-type r) → isSigned r ≡ false
 other-case (R.Sizes z) m = refl
 other-case (R.Label s v) m = refl
 other-case (R.Block k n) m = refl
@@ -37,7 +37,8 @@ other-case R.End m = refl
 other-case (R.Stamp n) m = refl
 other-case (R.Insert v) m = refl
 other-case (R.Delete v) m = refl
-other-case (R.Signed k o a b) m = absurd (miss (0 ∷ 1 ∷ 2 ∷ 3 ∷ 4 ∷ 5 ∷ 6 ∷ 7 ∷ 8 ∷ []) 9 tt m)
+other-case R.Live m = refl
+other-case (R.Signed k o a b) m = absurd (miss (0 ∷ 1 ∷ 2 ∷ 3 ∷ 4 ∷ 5 ∷ 6 ∷ 7 ∷ 8 ∷ 9 ∷ []) 10 tt m)
 
 -- The question, asked of words that hold the equations: a guilty one, and none.
 module _ (s : List ℕ) (r : Record) (y : Progress) (n k : ℕ) (ws : List ℕ) (low : ℕ) (few : k ≤ 32) (w : Words s n k k ws) (l : low ≡ lowest k (guilty (held k ws))) where

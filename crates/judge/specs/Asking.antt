@@ -59,6 +59,7 @@ isSigned R.End = false
 isSigned (R.Stamp n) = false
 isSigned (R.Insert m) = false
 isSigned (R.Delete m) = false
+isSigned R.Live = false
 isSigned (R.Signed k o a b) = true
 
 abbrev pub asksAfter : Record → Progress → Bool

@@ -10,7 +10,7 @@ use lib.Dec.{eqb}
 use lib.ListN.{length}
 use Rattle.lists.specs.Lists.{someBelow, lowest}
 use Rattle.lists.specs.Tests.{tell, eqb-is}
-use Rattle.rules.specs.Load.{Sofar, State, before, inside, started, sizesOf, sizesDemands, signOf, askChains, labelDemands, blockDemands, equationDemands, signedDemands, moveDemands, endDemands, afterLabel, afterBlock, afterEquation, afterSigned, afterMove, blockFits, settleStyle, readModel, step, put, last}
+use Rattle.rules.specs.Load.{Sofar, State, before, inside, started, sizesOf, sizesDemands, signOf, askChains, labelDemands, blockDemands, equationDemands, signedDemands, moveDemands, endDemands, liveDemands, afterLive, afterLabel, afterBlock, afterEquation, afterSigned, afterMove, blockFits, settleStyle, readModel, step, put, last}
 use Rattle.rules.specs.Model.{Equation, Model, guilty}
 use Rattle.rules.specs.Moves.{pack}
 use Rattle.rules.specs.Records.{Rec, field, Parts, ends, broken, part, Turn, no, back, next, over, demand, Outcome, refused, accepted, onto, atEnd, onTurn, run, parts}
@@ -51,8 +51,9 @@ beside l es x r =
     (by-kind es r 4 (λ e. by-demands es r (equationDemands x (field r 0) (field r 1) (field r 2)) (goes {y = afterEquation x} (λ k. omega arith)))
     (by-kind es r 5 (λ e. by-demands es r (moveDemands l x (field r 0) (field r 1) (field r 2)) (goes {y = afterMove x (pack (field r 0) (field r 1) (field r 2))} (λ k. omega arith)))
     (by-kind es r 6 (λ e. by-demands es r (endDemands x) closes)
+    (by-kind es r 10 (λ e. by-demands es r (liveDemands x) (goes {y = afterLive x} (λ k. omega arith)))
     (by-kind es r 11 (λ e. by-demands es r (signedDemands x (signOf r)) (asks {y = withSigns [] (afterSigned x (signOf r))} e))
-    refuses)))))
+    refuses))))))
 
 -- At the end record both come to the same.
 end-same : (l : Lengths) (es : List Equation) (x : Sofar) (q : Parts) → atEnd (plain l) put last (inside x) q ≡ atEnd (step l) put last (inside (withSigns es x)) q

@@ -7,8 +7,12 @@ use Prim.Native.Nat.{ℕ, zero, suc, min}
 use native.Mathlib.Omega.{arith}
 use lib.Dec.{ltb}
 use borrow.Author.Tests.{lt-ltb, ltb-true, ltb-false, not-true, not-false}
-use Rattle.lists.specs.Tests.{tell, and-is, and-in, no-way}
+use Rattle.lists.specs.Tests.{tests, tell, and-is, and-in, no-way}
+use Rattle.rules.specs.Load.{Sofar}
+use Rattle.rules.specs.Model.{moveOk}
+use Rattle.rules.specs.Moves.{pack, source}
 use Rattle.rules.specs.Records.{Turn, no, demand}
+use Rattle.judge.specs.Progress.{Kept}
 
 -- The demands before number k were met, and k was not.
 abbrev pub Fails : ℕ → List (ℕ × Bool) → Type 0
@@ -47,3 +51,8 @@ below-both a b c =
           let h = ltb-false a (min b c) t in
           no-way _ (λ e. let k = and-is (ltb a b) (ltb a c) .0 e in let p = ltb-true a b (k .0) in let q = ltb-true a c (k .1) in omega arith) ∙ sym t
     ]
+
+-- The source of a move in range is told by its number.
+pub source-back : (x : Sofar) (s a t : ℕ) → Kept x → moveOk (x .sizes) s a t ≡ true → source (pack s a t) ≡ s
+unfolding moveOk
+source-back x s a t k h = let f = simp tests at h in omega arith

@@ -11,7 +11,7 @@ use denote.Enum.Declared.{tagOf}
 use borrow.Author.Tests.{lt-ltb, le-ltb, eq-eqb, ne-eqb, not-true}
 use Rattle.lists.specs.Lists.{all}
 use Rattle.lists.specs.Tests.{and-is, and-in, and-no, eqb-is}
-use Rattle.rules.specs.Load.{Sofar, inside, movesDue, labelDemands, blockDemands, equationDemands, signedDemands, moveDemands, endDemands, signedOf, afterLabel, afterBlock, afterEquation, afterSigned, afterMove}
+use Rattle.rules.specs.Load.{Sofar, inside, movesDue, labelDemands, blockDemands, equationDemands, signedDemands, moveDemands, endDemands, liveDemands, afterLive, signedOf, afterLabel, afterBlock, afterEquation, afterSigned, afterMove}
 use Rattle.rules.specs.Model.{signed}
 use Rattle.rules.specs.Moves.{pack}
 use Rattle.rules.specs.Records.{no, next, over, numbersOf}
@@ -30,8 +30,9 @@ dueAt x k =
     (cond (eqb k 2) (eqb (x .blocks .due) 0 && ltb (x .blocks .count) (x .sizes .blocks))
     (cond (eqb k 3) (ltb 0 (x .blocks .due))
     (cond (eqb k 4 || eqb k 5) (movesDue x)
-    (cond (eqb k 9) (signed (x .sizes) && ltb (x .blocks .equations) (x .sizes .variables))
-    false))))
+    (cond (eqb k 9) (eqb (x .labels) 0 && eqb (x .live) 0)
+    (cond (eqb k 10) (signed (x .sizes) && ltb (x .blocks .equations) (x .sizes .variables))
+    false)))))
 
 -- A record that is not due is refused.
 not-due : (l : Lengths) (x : Sofar) (r : Record) → dueAt x (tagOf the-type r) ≡ false → no 2 ≡ plain l (inside x) (numbersOf r)
@@ -46,6 +47,7 @@ not-due l x R.End e = fails 0 (endDemands x) over (ap not e)
 not-due l x (R.Stamp n) e = refl
 not-due l x (R.Insert m) e = refl
 not-due l x (R.Delete m) e = refl
+not-due l x R.Live e = fails 0 (liveDemands x) (next (inside (afterLive x))) (ap not e)
 not-due l x (R.Signed k o a b) e = fails 0 (signedDemands x (signedOf k o a b)) (unasked (afterSigned x (signedOf k o a b))) (ap not e)
 
 -- A test that fails at each number of a list fails at every number that is one of them.
@@ -61,36 +63,36 @@ none-due : (l : Lengths) (x : Sofar) (r : Record) (ks : List ℕ) → all (λ k.
 none-due l x r ks h m = not-due l x r (none-of (dueAt x) ks (tagOf the-type r) h m)
 
 -- Inside a block nothing but an equation is due.
-pub equation-only : (l : Lengths) (x : Sofar) (r : Record) → Kept x → 0 < x .blocks .due → 0 < x .sizes .blocks → OneOf (0 ∷ 1 ∷ 2 ∷ 4 ∷ 5 ∷ 6 ∷ 7 ∷ 8 ∷ 9 ∷ []) (tagOf the-type r)
+pub equation-only : (l : Lengths) (x : Sofar) (r : Record) → Kept x → 0 < x .blocks .due → 0 < x .sizes .blocks → OneOf (0 ∷ 1 ∷ 2 ∷ 4 ∷ 5 ∷ 6 ∷ 7 ∷ 8 ∷ 9 ∷ 10 ∷ []) (tagOf the-type r)
     → no 2 ≡ plain l (inside x) (numbersOf r)
 equation-only l x r k h b m =
-    none-due l x r (0 ∷ 1 ∷ 2 ∷ 4 ∷ 5 ∷ 6 ∷ 7 ∷ 8 ∷ 9 ∷ [])
-    (rw (ne-eqb (x .blocks .count) 0 (λ e. omega arith), ne-eqb (x .blocks .due) 0 (λ e. omega arith), ne-eqb (x .sizes .blocks) 0 (λ e. omega arith)) refl) m
+    none-due l x r (0 ∷ 1 ∷ 2 ∷ 4 ∷ 5 ∷ 6 ∷ 7 ∷ 8 ∷ 9 ∷ 10 ∷ [])
+    (rw (ne-eqb (x .labels) 0 (λ e. omega arith), ne-eqb (x .blocks .count) 0 (λ e. omega arith), ne-eqb (x .blocks .due) 0 (λ e. omega arith), ne-eqb (x .sizes .blocks) 0 (λ e. omega arith)) refl) m
 
 -- Between two blocks nothing but a block is due.
-pub block-only : (l : Lengths) (x : Sofar) (r : Record) → x .blocks .due ≡ 0 → 0 < x .blocks .count → x .blocks .count < x .sizes .blocks
-    → OneOf (0 ∷ 1 ∷ 3 ∷ 4 ∷ 5 ∷ 6 ∷ 7 ∷ 8 ∷ 9 ∷ []) (tagOf the-type r) → no 2 ≡ plain l (inside x) (numbersOf r)
-block-only l x r d f h m =
-    none-due l x r (0 ∷ 1 ∷ 3 ∷ 4 ∷ 5 ∷ 6 ∷ 7 ∷ 8 ∷ 9 ∷ [])
-    (rw (d, ne-eqb (x .blocks .count) 0 (λ e. omega arith), ne-eqb (x .blocks .count) (x .sizes .blocks) (λ e. omega arith), ne-eqb (x .sizes .blocks) 0 (λ e. omega arith)) refl) m
+pub block-only : (l : Lengths) (x : Sofar) (r : Record) → Kept x → x .blocks .due ≡ 0 → 0 < x .blocks .count → x .blocks .count < x .sizes .blocks
+    → OneOf (0 ∷ 1 ∷ 3 ∷ 4 ∷ 5 ∷ 6 ∷ 7 ∷ 8 ∷ 9 ∷ 10 ∷ []) (tagOf the-type r) → no 2 ≡ plain l (inside x) (numbersOf r)
+block-only l x r k d f h m =
+    none-due l x r (0 ∷ 1 ∷ 3 ∷ 4 ∷ 5 ∷ 6 ∷ 7 ∷ 8 ∷ 9 ∷ 10 ∷ [])
+    (rw (d, ne-eqb (x .labels) 0 (λ e. omega arith), ne-eqb (x .blocks .count) 0 (λ e. omega arith), ne-eqb (x .blocks .count) (x .sizes .blocks) (λ e. omega arith), ne-eqb (x .sizes .blocks) 0 (λ e. omega arith)) refl) m
 
--- Before the first block nothing but a label or a block is due.
-pub label-or-block : (l : Lengths) (x : Sofar) (r : Record) → Kept x → x .blocks .count ≡ 0 → 0 < x .sizes .blocks → OneOf (0 ∷ 3 ∷ 4 ∷ 5 ∷ 6 ∷ 7 ∷ 8 ∷ 9 ∷ []) (tagOf the-type r)
+-- Before the first block nothing but a label, a block or the record of a live model is due.
+pub label-or-block : (l : Lengths) (x : Sofar) (r : Record) → Kept x → x .blocks .count ≡ 0 → 0 < x .sizes .blocks → OneOf (0 ∷ 3 ∷ 4 ∷ 5 ∷ 6 ∷ 7 ∷ 8 ∷ 10 ∷ []) (tagOf the-type r)
     → no 2 ≡ plain l (inside x) (numbersOf r)
 label-or-block l x r k h b m =
     let d : x .blocks .due ≡ 0 = omega arith in
-    none-due l x r (0 ∷ 3 ∷ 4 ∷ 5 ∷ 6 ∷ 7 ∷ 8 ∷ 9 ∷ []) (rw (d, ne-eqb (x .blocks .count) (x .sizes .blocks) (λ e. omega arith), ne-eqb (x .sizes .blocks) 0 (λ e. omega arith)) refl) m
+    none-due l x r (0 ∷ 3 ∷ 4 ∷ 5 ∷ 6 ∷ 7 ∷ 8 ∷ 10 ∷ []) (rw (d, ne-eqb (x .blocks .count) (x .sizes .blocks) (λ e. omega arith), ne-eqb (x .sizes .blocks) 0 (λ e. omega arith)) refl) m
 
 -- Between two equations with signs nothing but such an equation is due.
 pub signed-only : (l : Lengths) (x : Sofar) (r : Record) → Kept x → x .sizes .blocks ≡ 0 → 0 < x .blocks .equations → x .blocks .equations < x .sizes .variables
-    → OneOf (0 ∷ 1 ∷ 2 ∷ 3 ∷ 4 ∷ 5 ∷ 6 ∷ 7 ∷ 8 ∷ []) (tagOf the-type r) → no 2 ≡ plain l (inside x) (numbersOf r)
+    → OneOf (0 ∷ 1 ∷ 2 ∷ 3 ∷ 4 ∷ 5 ∷ 6 ∷ 7 ∷ 8 ∷ 9 ∷ []) (tagOf the-type r) → no 2 ≡ plain l (inside x) (numbersOf r)
 signed-only l x r k b f h m =
     let d : x .blocks .due ≡ 0 = omega arith in
     let c : x .blocks .count ≡ 0 = omega arith in
-    none-due l x r (0 ∷ 1 ∷ 2 ∷ 3 ∷ 4 ∷ 5 ∷ 6 ∷ 7 ∷ 8 ∷ [])
-    (rw (d, c, b, ne-eqb (x .blocks .equations) 0 (λ e. omega arith), ne-eqb (x .blocks .equations) (x .sizes .variables) (λ e. omega arith)) refl) m
+    none-due l x r (0 ∷ 1 ∷ 2 ∷ 3 ∷ 4 ∷ 5 ∷ 6 ∷ 7 ∷ 8 ∷ 9 ∷ [])
+    (rw (d, c, b, ne-eqb (x .labels) 0 (λ e. omega arith), ne-eqb (x .blocks .equations) 0 (λ e. omega arith), ne-eqb (x .blocks .equations) (x .sizes .variables) (λ e. omega arith)) refl) m
 
--- Before the first of them nothing but a label or such an equation is due.
+-- Before the first of them nothing but a label, such an equation or the record of a live model is due.
 pub label-or-signed : (l : Lengths) (x : Sofar) (r : Record) → Kept x → x .sizes .blocks ≡ 0 → x .blocks .equations ≡ 0
     → OneOf (0 ∷ 2 ∷ 3 ∷ 4 ∷ 5 ∷ 6 ∷ 7 ∷ 8 ∷ []) (tagOf the-type r) → no 2 ≡ plain l (inside x) (numbersOf r)
 label-or-signed l x r k b f m =
@@ -103,12 +105,12 @@ pub all-read : (x : Sofar) → movesDue x ≡ true → (x .blocks .due ≡ 0) ×
 all-read x h = let k = simp and-is at h in (eqb-is _ _ .0 (k .0 .0), eqb-is _ _ .0 (k .0 .1), eqb-is _ _ .0 (k .1))
 
 -- There nothing but a move or the end is due.
-pub move-or-end : (l : Lengths) (x : Sofar) (r : Record) → Kept x → movesDue x ≡ true → OneOf (0 ∷ 1 ∷ 2 ∷ 3 ∷ 6 ∷ 7 ∷ 8 ∷ 9 ∷ []) (tagOf the-type r)
+pub move-or-end : (l : Lengths) (x : Sofar) (r : Record) → Kept x → movesDue x ≡ true → OneOf (0 ∷ 1 ∷ 2 ∷ 3 ∷ 6 ∷ 7 ∷ 8 ∷ 9 ∷ 10 ∷ []) (tagOf the-type r)
     → no 2 ≡ plain l (inside x) (numbersOf r)
 move-or-end l x r k h m =
     let e = all-read x h in
-    none-due l x r (0 ∷ 1 ∷ 2 ∷ 3 ∷ 6 ∷ 7 ∷ 8 ∷ 9 ∷ [])
-    (rw (e .0, ne-eqb (x .blocks .equations) 0 (λ z. omega arith), le-ltb (x .blocks .count) (x .sizes .blocks) (omega arith), le-ltb (x .blocks .equations) (x .sizes .variables) (omega arith), and-no (eqb (x .blocks .count) 0) {y = false} refl, and-no (eqb (x .sizes .blocks) 0) {y = false} refl) refl) m
+    none-due l x r (0 ∷ 1 ∷ 2 ∷ 3 ∷ 6 ∷ 7 ∷ 8 ∷ 9 ∷ 10 ∷ [])
+    (rw (e .0, ne-eqb (x .labels) 0 (λ z. omega arith), ne-eqb (x .blocks .equations) 0 (λ z. omega arith), le-ltb (x .blocks .count) (x .sizes .blocks) (omega arith), le-ltb (x .blocks .equations) (x .sizes .variables) (omega arith), and-no (eqb (x .blocks .count) 0) {y = false} refl, and-no (eqb (x .sizes .blocks) 0) {y = false} refl) refl) m
 
 -- The first demands of a label, of a block, of an equation, of one with a sign and of a move, each where it is due.
 pub label-due : (x : Sofar) → (x .blocks .count ≡ 0) × (x .blocks .equations ≡ 0) → not (eqb (x .blocks .count) 0 && eqb (x .blocks .equations) 0) ≡ false

@@ -24,7 +24,7 @@ use Rattle.judge.specs.Going.{placeOf, answerOf, KeptTurn, Follows, Insi
 use Rattle.judge.specs.Plain.{plain, withSigns, without}
 use Rattle.judge.specs.Progress.{sofarOf, Kept}
 use Rattle.judge.specs.SignsRead.{signed-kind, other-kind, signed-back, signed-there, signs-length, one-more, spelled-none, spelled-more}
-use Rattle.judge.specs.TurnLaws.{Stepped, label, block, equation, move, sign, stepped, counted-by, first-is}
+use Rattle.judge.specs.TurnLaws.{Stepped, label, block, equation, move, lives, sign, stepped, counted-by, first-is}
 use Rattle.judge.specs.Turning.{readSays, summary, summaryAfter, readOn, from, Goes, Turned}
 use Rattle.judge.specs.declared.Progress.{Progress}
 use Rattle.judge.specs.declared.OneTurn.{OneTurn}
@@ -85,6 +85,7 @@ none-read l x y r k (label s v m) f b h = let q = simp tests at (m .0) in omega 
 none-read l x y r k (block a n m) f b h = let q = simp tests at (m .0) in absurd (omega arith)
 none-read l x y r k (equation o a c m) f b h = let q = ltb-is 0 (x .blocks .due) .0 (m .0) in absurd (omega arith)
 none-read l x y r k (move v m) f b h = let q = simp tests at (m .0) in absurd (omega arith)
+none-read l x y r k (lives m) f b h = let q = simp tests at (m .0) in omega arith
 none-read l x y r k (sign c o a d m) f b h = absurd (f refl)
 
 -- An equation with a sign: where it was due, and what is read with it.
@@ -100,6 +101,7 @@ signed-on l x y r (label s v m) e = absurd (omega arith)
 signed-on l x y r (block a n m) e = absurd (omega arith)
 signed-on l x y r (equation o a c m) e = absurd (omega arith)
 signed-on l x y r (move v m) e = absurd (omega arith)
+signed-on l x y r (lives m) e = absurd (omega arith)
 signed-on l x y r (sign c o a d m) e =
     let q = simp and-is at (m .0) in
     let k = simp and-is at (m .1 .0) in

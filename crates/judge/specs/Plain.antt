@@ -9,7 +9,8 @@ use Rattle.rules.specs.Rooms.{Lengths}
 
 -- What has been read so far, with these equations with signs.
 abbrev pub withSigns : List Equation → Sofar → Sofar
-withSigns es x = record { sizes = x .sizes; labels = x .labels; blocks = x .blocks; signs = es; moves = x .moves }
+withSigns es x =
+    record { sizes = x .sizes; live = x .live; labels = x .labels; blocks = x .blocks; signs = es; moves = x .moves }
 
 abbrev pub without : Sofar → Sofar
 without x = withSigns [] x

@@ -35,6 +35,7 @@ signed-kind R.End e = absurd (omega arith)
 signed-kind (R.Stamp n) e = absurd (omega arith)
 signed-kind (R.Insert m) e = absurd (omega arith)
 signed-kind (R.Delete m) e = absurd (omega arith)
+signed-kind R.Live e = absurd (omega arith)
 signed-kind (R.Signed k o a b) e = refl
 
 pub other-kind : (r : Record) → (numbersOf r .kind ≡ 11 → ⊥) → isSigned r ≡ false
@@ -47,6 +48,7 @@ other-kind R.End f = refl
 other-kind (R.Stamp n) f = refl
 other-kind (R.Insert m) f = refl
 other-kind (R.Delete m) f = refl
+other-kind R.Live f = refl
 other-kind (R.Signed k o a b) f = absurd (f refl)
 
 pub signed-back : (r : Record) → isSigned r ≡ true → numbersOf r .kind ≡ 11
@@ -76,7 +78,10 @@ other-body k s b e =
                   | inl t ↦ rw t refl
                   | inr t ↦ rw t (elim (tell true (eqb k 9)) [
                     | inl t ↦ rw t refl
-                    | inr t ↦ rw t (rw e refl)
+                    | inr t ↦ rw t (elim (tell true (eqb k 10)) [
+                      | inl t ↦ rw t refl
+                      | inr t ↦ rw t (rw e refl)
+                    ])
                   ])
                 ])
               ])

@@ -15,7 +15,7 @@ use Rattle.rules.specs.declared.Sizes.{Sizes}
 use Rattle.lists.specs.Tests.{tests, tell, and-is, or-out, eqb-is, ltb-is, leb-is}
 use Rattle.rules.specs.Answers.{numberOf}
 use Rattle.rules.specs.Limits.{most-moves, sizesOk}
-use Rattle.rules.specs.Load.{Sofar, State, before, inside, started, put, last, labelDemands, blockDemands, equationDemands, signedDemands, moveDemands, endDemands, sizesDemands, sizesOf, signedOf, afterLabel, afterBlock, afterEquation, afterSigned, afterMove, blockFits}
+use Rattle.rules.specs.Load.{Sofar, State, before, inside, started, put, last, labelDemands, blockDemands, equationDemands, signedDemands, moveDemands, endDemands, liveDemands, afterLive, sizesDemands, sizesOf, signedOf, afterLabel, afterBlock, afterEquation, afterSigned, afterMove, blockFits}
 use Rattle.rules.specs.Moves.{pack}
 use Rattle.rules.specs.Model.{Model}
 use Rattle.rules.specs.Records.{Rec, Parts, ends, broken, part, Turn, no, next, over, demand, Outcome, refused, accepted, onto, atEnd, run, numbersOf}
@@ -48,6 +48,7 @@ pub data Stepped (l : Lengths) (x : Sofar) : Record → Turn State → Type 0 wh
   move : (m : Move) → Met (moveDemands l x (m .source .0) (m .action .0) (m .target .0))
       → Stepped l x (R.Move m) (next (inside (afterMove x (pack (m .source .0) (m .action .0) (m .target .0)))))
   end : Met (endDemands x) → Stepped l x R.End over
+  lives : Met (liveDemands x) → Stepped l x R.Live (next (inside (afterLive x)))
   sign : (k o a b : ℕ) → Met (signedDemands x (signedOf k o a b)) → Stepped l x (R.Signed k o a b) (next (inside (without (afterSigned x (signedOf k o a b)))))
   refusal : {r : Record} {n : ℕ} → Stepped l x r (no n)
 
@@ -70,12 +71,14 @@ stepped l x R.End = by l x R.End (endDemands x) over end
 stepped l x (R.Stamp n) = refusal
 stepped l x (R.Insert m) = refusal
 stepped l x (R.Delete m) = refusal
+stepped l x R.Live = by l x R.Live (liveDemands x) (next (inside (afterLive x))) lives
 stepped l x (R.Signed k o a b) = by l x (R.Signed k o a b) (signedDemands x (signedOf k o a b)) (unasked (afterSigned x (signedOf k o a b))) (sign k o a b)
 
 -- A step keeps the numbers inside their limits.
 kept-by : (l : Lengths) (x y : Sofar) (r : Record) → Kept x → Stepped l x r (next (inside y)) → Kept y
 unfolding blockFits
 kept-by l x y r k (label s v m) =
+    let q = simp tests at (m .0) in
     let h = ltb-is (s .0) (x .sizes .states) .0 (simp and-is at (m .1 .0) .0 .0) in omega arith
 kept-by l x y r k (block a n m) =
     let q = simp tests at (m .0) in
@@ -87,6 +90,7 @@ kept-by l x y r k (block a n m) =
       | inr e ↦ let g = eqb-is (x .blocks .equations + n) (x .sizes .variables) .0 e in omega arith
     ]
 kept-by l x y r k (equation o a b m) = let h = ltb-is 0 (x .blocks .due) .0 (m .0) in omega arith
+kept-by l x y r k (lives m) = omega arith
 kept-by l x y r k (sign c o a b m) = let q = simp tests at (m .0) in omega arith
 kept-by l x y r k (move v m) = let h = ltb-is (x .moves .count) (min most-moves (l .moves)) .0 (m .1 .1 .1 .0) in omega arith
 
@@ -101,6 +105,7 @@ counted-by l x y r (refused n p) t = refl
 counted-by l x y r (accepted b) (label s v m) = refl
 counted-by l x y r (accepted b) (block a n m) = refl
 counted-by l x y r (accepted b) (equation o a c m) = refl
+counted-by l x y r (accepted b) (lives m) = refl
 counted-by l x y r (accepted b) (sign k o a c m) = refl
 counted-by l x y r (accepted b) (move v m) = let e : x .moves .count + suc (length (b .moves)) ≡ suc (x .moves .count) + length (b .moves) = omega arith in rw e refl
 
@@ -169,9 +174,9 @@ unfolding plain
 sizes-next l z f = sym (meets (sizesDemands l (numbersOf (R.Sizes z))) (next (inside (started z))) f)
 
 -- Any other record is not due there.
-pub sizes-due : (l : Lengths) (r : Record) → OneOf (1 ∷ 2 ∷ 3 ∷ 4 ∷ 5 ∷ 6 ∷ 7 ∷ 8 ∷ 9 ∷ []) (tagOf the-type r) → plain l before (numbersOf r) ≡ no 2
+pub sizes-due : (l : Lengths) (r : Record) → OneOf (1 ∷ 2 ∷ 3 ∷ 4 ∷ 5 ∷ 6 ∷ 7 ∷ 8 ∷ 9 ∷ 10 ∷ []) (tagOf the-type r) → plain l before (numbersOf r) ≡ no 2
 unfolding plain
-sizes-due l (R.Sizes a) m = absurd (miss (1 ∷ 2 ∷ 3 ∷ 4 ∷ 5 ∷ 6 ∷ 7 ∷ 8 ∷ 9 ∷ []) 0 tt m)
+sizes-due l (R.Sizes a) m = absurd (miss (1 ∷ 2 ∷ 3 ∷ 4 ∷ 5 ∷ 6 ∷ 7 ∷ 8 ∷ 9 ∷ 10 ∷ []) 0 tt m)
 sizes-due l (R.Label a b) m = refl
 sizes-due l (R.Block a b) m = refl
 sizes-due l (R.Equation a b d) m = refl
@@ -180,6 +185,7 @@ sizes-due l R.End m = refl
 sizes-due l (R.Stamp a) m = refl
 sizes-due l (R.Insert a) m = refl
 sizes-due l (R.Delete a) m = refl
+sizes-due l R.Live m = refl
 sizes-due l (R.Signed k o a b) m = refl
 
 -- What has been read after the sizes is inside the limits.

@@ -24,15 +24,16 @@ use Rattle.judge.specs.declared.ReadModel.the-variants as M
 use Rattle.judge.specs.declared.OneTurn.{OneTurn}
 use Rattle.judge.specs.declared.OneTurn.the-variants as T
 
--- What the small part of a session takes from a model: its sizes, and how many moves it has.
+-- What the small part of a session takes from a model: its sizes, whether it is live, and how many moves it has.
 pub record Summary : Type 0 where
   pub sizes : Sizes
+  pub live : ℕ
   pub moves : ℕ
 
 -- The summary of what is still to come, where k moves have been read.
 abbrev pub summaryAfter : ℕ → Outcome Model → Outcome Summary
 summaryAfter k (refused n p) = refused n p
-summaryAfter k (accepted m) = accepted (record { sizes = m .sizes; moves = k + length (m .moves) })
+summaryAfter k (accepted m) = accepted (record { sizes = m .sizes; live = m .live; moves = k + length (m .moves) })
 
 abbrev pub summary : Outcome Model → Outcome Summary
 summary o = summaryAfter 0 o
@@ -40,7 +41,7 @@ summary o = summaryAfter 0 o
 -- What the code's answer says.
 abbrev pub readSays : ReadModel → Outcome Summary
 readSays (M.Refused e p) = refused (numberOf e) p
-readSays (M.Good z n) = accepted (record { sizes = z; moves = n })
+readSays (M.Good z b n) = accepted (record { sizes = z; live = b; moves = n })
 
 -- How many moves have been read.
 abbrev pub movesOf : State → ℕ
@@ -56,7 +57,7 @@ from l s st at = summaryAfter (movesOf st) (readOn l s st at)
 
 -- After the end record.
 unfoldable pub endTurn : Progress → ℕ → ℕ → OneTurn
-endTurn x n len = cond (ltb n len) (T.Stop (M.Refused Why.NotDue n)) (T.Stop (M.Good (x .sizes) (x .moves .count)))
+endTurn x n len = cond (ltb n len) (T.Stop (M.Refused Why.NotDue n)) (T.Stop (M.Good (x .sizes) (x .live) (x .moves .count)))
 
 -- A turn that stops has the answer, and no record that goes on stands there. A turn that goes on has read the record at the
 -- place, and the step leads to what it hands on.

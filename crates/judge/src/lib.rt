@@ -3,9 +3,9 @@ ghost use mathlib.Core.Path.{_≡_};
 ghost use mathlib.Core.Bool.{true};
 ghost use Prim.Native.Nat.{_+_, _≤_, _<_};
 ghost use lib.ListN.{length, getD};
-ghost use Rattle.rules.specs.Load.{inside, started, readModel, go, movesDue, labelDemands, blockDemands, equationDemands, signedDemands, moveDemands, signedOf, afterLabel, afterBlock, afterEquation, afterSigned, afterMove, blockFits};
+ghost use Rattle.rules.specs.Load.{inside, started, readModel, go, movesDue, allMoving, liveDemands, labelDemands, blockDemands, equationDemands, signedDemands, moveDemands, endDemands, signedOf, afterLive, afterLabel, afterBlock, afterEquation, afterSigned, afterMove, blockFits};
 ghost use Rattle.rules.specs.Moves.{pack};
-ghost use Rattle.rules.specs.Records.{numbersOf};
+ghost use Rattle.rules.specs.Records.{numbersOf, over, demand};
 ghost use Rattle.rules.specs.Rooms.{Lengths};
 ghost use Rattle.rules.specs.Session.{word, unword};
 ghost use Rattle.limits.specs.Lent.{lengthsBy};
@@ -33,15 +33,18 @@ pub struct BlocksRead {
     pub equations: u32,
 }
 
-// Of the moves so far: how many, and the least number that the next may have.
+// Of the moves so far: how many, the least number that the next may have, and how many states, from the first on, have a move
+// each.
 pub struct MovesRead {
     pub count: u32,
     pub least: u64,
+    pub moving: u32,
 }
 
 // What has been read so far, in numbers. Labels have passed the states below `labels`.
 pub struct Progress {
     pub sizes: Sizes,
+    pub live: u8,
     pub labels: u32,
     pub blocks: BlocksRead,
     pub moves: MovesRead,
@@ -70,6 +73,7 @@ fn on_label(x: Progress, s: State, v: u32) -> Judged
     }
     Judged::Next(Progress {
         sizes: z,
+        live: x.live,
         labels: s.0 as u32 + 1,
         blocks: blocks,
         moves: moves,
@@ -104,6 +108,7 @@ fn on_block(x: Progress, k: u8, n: u8) -> Judged
     }
     Judged::Next(Progress {
         sizes: z,
+        live: x.live,
         labels: z.states as u32,
         blocks: BlocksRead {
             count: blocks.count + 1,
@@ -135,6 +140,7 @@ fn on_equation(x: Progress, o: u8, a: u8, b: u8) -> Judged
     let equations = blocks.equations + 1;
     Judged::Next(Progress {
         sizes: z,
+        live: x.live,
         labels: x.labels,
         blocks: BlocksRead {
             count: blocks.count,
@@ -160,6 +166,7 @@ fn on_signed(x: Progress, k: u8, o: u8, a: u8, b: u8) -> Judged
     }
     Judged::Next(Progress {
         sizes: z,
+        live: x.live,
         labels: z.states as u32,
         blocks: BlocksRead {
             count: blocks.count,
@@ -173,6 +180,7 @@ fn on_signed(x: Progress, k: u8, o: u8, a: u8, b: u8) -> Judged
 
 // A move, where moves are due: in range; in order; and there is room for it.
 fn on_move(l: Lent, x: Progress, m: Move) -> Judged
+    requires { ⌜ Kept (sofarOf x) ⌝ }
     requires { ⌜ movesDue (sofarOf x) ≡ true ⌝ }
     ensures { λ r. ⌜ judgedSays r ≡ go (moveDemands (lengthsBy l) (sofarOf x) (m .source .0) (m .action .0) (m .target .0)) (afterMove (sofarOf x) (pack (m .source .0) (m .action .0) (m .target .0))) ⌝ }
 {
@@ -180,6 +188,7 @@ fn on_move(l: Lent, x: Progress, m: Move) -> Judged
     let blocks = x.blocks;
     let count = x.moves.count as usize;
     let q = limits::packed(m);
+    let moving = limits::moving_with(x.moves.moving, m.source);
     if !limits::move_ok(z, m) {
         return Judged::Refused(Refusal::BadNumber);
     }
@@ -191,16 +200,58 @@ fn on_move(l: Lent, x: Progress, m: Move) -> Judged
     }
     Judged::Next(Progress {
         sizes: z,
+        live: x.live,
         labels: x.labels,
         blocks: blocks,
         moves: MovesRead {
             count: x.moves.count + 1,
             least: q + 1,
+            moving: moving,
         },
     })
 }
 
-// Before the first block a label or a block is due.
+// The record of a live model, where a label is due: directly after the sizes, and once.
+fn on_live(x: Progress) -> Judged
+    ensures { λ r. ⌜ judgedSays r ≡ go (liveDemands (sofarOf x)) (afterLive (sofarOf x)) ⌝ }
+{
+    let z = x.sizes;
+    let blocks = x.blocks;
+    let moves = x.moves;
+    if !((x.labels == 0) & (x.live == 0)) {
+        return Judged::Refused(Refusal::NotDue);
+    }
+    Judged::Next(Progress {
+        sizes: z,
+        live: 1,
+        labels: x.labels,
+        blocks: blocks,
+        moves: moves,
+    })
+}
+
+// Whether each state of a live model has a move.
+fn all_moving(x: Progress) -> bool
+    ensures { λ r. ⌜ r ≡ allMoving (sofarOf x) ⌝ }
+{
+    if x.live == 1 {
+        return x.moves.moving == x.sizes.states as u32;
+    }
+    true
+}
+
+// The end, where it is due: in a live model each state has a move.
+fn on_end(x: Progress) -> Judged
+    requires { ⌜ movesDue (sofarOf x) ≡ true ⌝ }
+    ensures { λ r. ⌜ judgedSays r ≡ demand (endDemands (sofarOf x)) over ⌝ }
+{
+    if !all_moving(x) {
+        return Judged::Refused(Refusal::Hangs);
+    }
+    Judged::Over
+}
+
+// Before the first block a label or a block is due, and first of all the record of a live model.
 fn before_blocks(x: Progress, rec: Record) -> Judged
     requires { ⌜ Kept (sofarOf x) ⌝ }
     requires { ⌜ (x .blocks .count ≡ 0) × (0 < x .sizes .blocks) ⌝ }
@@ -209,6 +260,7 @@ fn before_blocks(x: Progress, rec: Record) -> Judged
     match rec {
         Record::Label(s, v) => on_label(x, s, v),
         Record::Block(k, n) => on_block(x, k, n),
+        Record::Live => on_live(x),
         _ => Judged::Refused(Refusal::NotDue),
     }
 }
@@ -221,7 +273,7 @@ fn after_equations(l: Lent, x: Progress, rec: Record) -> Judged
 {
     match rec {
         Record::Move(m) => on_move(l, x, m),
-        Record::End => Judged::Over,
+        Record::End => on_end(x),
         _ => Judged::Refused(Refusal::NotDue),
     }
 }
@@ -244,7 +296,7 @@ fn outside_block(l: Lent, x: Progress, rec: Record) -> Judged
     on_block(x, k, n)
 }
 
-// Before the first equation with a sign a label or such an equation is due.
+// Before the first equation with a sign a label or such an equation is due, and first of all the record of a live model.
 fn before_signs(x: Progress, rec: Record) -> Judged
     requires { ⌜ Kept (sofarOf x) ⌝ }
     requires { ⌜ (x .sizes .blocks ≡ 0) × (x .blocks .equations ≡ 0) × (0 < x .sizes .variables) ⌝ }
@@ -252,6 +304,7 @@ fn before_signs(x: Progress, rec: Record) -> Judged
 {
     match rec {
         Record::Label(s, v) => on_label(x, s, v),
+        Record::Live => on_live(x),
         Record::Signed(k, o, a, b) => on_signed(x, k, o, a, b),
         _ => Judged::Refused(Refusal::NotDue),
     }
@@ -292,10 +345,10 @@ pub fn judge_record(l: Lent, x: Progress, rec: Record) -> Judged
     on_equation(x, o, a, b)
 }
 
-// What reading a model comes to: a refusal with its place, or the sizes and the number of moves.
+// What reading a model comes to: a refusal with its place, or the sizes, whether it is live, and the number of moves.
 pub enum ReadModel {
     Refused(Refusal, usize),
-    Good(Sizes, u32),
+    Good(Sizes, u8, u32),
 }
 
 // One record read and judged: the end of the reading, or the record, what has been read with it, and the next place.
@@ -312,7 +365,7 @@ fn at_end(x: Progress, next: usize, len: usize) -> OneTurn
     if next < len {
         return OneTurn::Stop(ReadModel::Refused(Refusal::NotDue, next));
     }
-    OneTurn::Stop(ReadModel::Good(z, x.moves.count))
+    OneTurn::Stop(ReadModel::Good(z, x.live, x.moves.count))
 }
 
 // What was read at the place of the turn before, judged: the turn after it. A reading that is over stays as it is.
@@ -412,6 +465,7 @@ fn started_with(z: Sizes) -> Progress
 {
     Progress {
         sizes: z,
+        live: 0,
         labels: 0,
         blocks: BlocksRead {
             count: 0,
@@ -419,7 +473,11 @@ fn started_with(z: Sizes) -> Progress
             due: 0,
             equations: 0,
         },
-        moves: MovesRead { count: 0, least: 0 },
+        moves: MovesRead {
+            count: 0,
+            least: 0,
+            moving: 0,
+        },
     }
 }
 

@@ -133,10 +133,10 @@ unfolding judged batch
 judged-out s l bytes b y e =
     let a = asked-out (sessionDemands s l) _ b e in
     let ok : sessionOk s l ≡ true = and-in (and-in (a .0 .0) (a .0 .1 .0)) (a .0 .1 .1 .0) in
-    let t = then-out (readBatch (s .sizes) bytes) (judge (length (l .moves)) (held s l .moves)) b (a .1) in
-    let j = judge-out (length (l .moves)) (held s l .moves) (t .0) b (t .2) in
+    let t = then-out (readBatch (s .sizes) bytes) (judge s (length (l .moves)) (held s l .moves)) b (a .1) in
+    let j = judge-out s (length (l .moves)) (held s l .moves) (t .0) b (t .2) in
     let h = session-holds s l ok in
-    let k = batch-keeps (held s l) (length (l .moves)) bytes (t .0) b (h .0) y (t .1) (t .2) in
+    let k = batch-keeps s (held s l) refl refl (length (l .moves)) bytes (t .0) b (h .0) y (t .1) (t .2) in
     let q = j .3 in
     record {
       session = ok;

@@ -9,6 +9,7 @@ use Rattle.lists.specs.Tests.{and-left, and-is}
 use Rattle.rules.specs.Limits.{most-moves, sizesOk}
 use Rattle.rules.specs.Moves.{stampOf}
 use Rattle.rules.specs.Records.{accepted}
+use Rattle.rules.specs.Model.{liveOk}
 use Rattle.rules.specs.Rooms.{Rooms, lengthsOf, roomsOk}
 use Rattle.rules.specs.Batch.{Batch, batchOk, encodeBatch, readBatch, edited, judge}
 use Rattle.rules.specs.Session.{held, sessionDemands, countsOk, restOk}
@@ -21,14 +22,14 @@ use Rattle.laws.specs.Accepted.{asked-in}
 
 pub batch-accepts : (s : Session) (l : Rooms) (b : Batch) → sessionOk s l ≡ true → batchOk (s .sizes) b ≡ true → b .stamp ≡ stampOf (held s l .moves)
     → Judged (held s l .moves) (b .changes) → length (edited (b .changes) (held s l .moves)) ≤ min most-moves (length (l .moves))
-    → batch s l (encodeBatch b) ≡ batchBy s l (accepted b)
+    → liveOk (s .live) (s .sizes .states) (edited (b .changes) (held s l .moves)) ≡ true → batch s l (encodeBatch b) ≡ batchBy s l (accepted b)
 unfolding batch judged countsOk
-batch-accepts s l b ok k e j n =
+batch-accepts s l b ok k e j n v =
     let y = and-is (countsOk s l && roomsOk (lengthsOf l) (s .sizes)) (restOk s l) .0 ok in
     let x = and-is (countsOk s l) (roomsOk (lengthsOf l) (s .sizes)) .0 (y .0) in
-    let z = and-left (sizesOk (s .sizes)) (leb (s .moves) (min most-moves (length (l .moves)))) (x .0) in
-    let look = andThen (readBatch (s .sizes) (encodeBatch b)) (judge (length (l .moves)) (held s l .moves)) in
+    let z = and-left (sizesOk (s .sizes)) (leb (s .live) 1 && leb (s .moves) (min most-moves (length (l .moves)))) (x .0) in
+    let look = andThen (readBatch (s .sizes) (encodeBatch b)) (judge s (length (l .moves)) (held s l .moves)) in
     ap (batchBy s l)
     (asked-in (sessionDemands s l) look (x .0, (x .1, (y .1, tt)))
-    ∙ ap (λ (o : _). andThen o (judge (length (l .moves)) (held s l .moves))) (read-batch-accepts (s .sizes) z b k)
-    ∙ judge-in (length (l .moves)) (held s l .moves) b e j n)
+    ∙ ap (λ (o : _). andThen o (judge s (length (l .moves)) (held s l .moves))) (read-batch-accepts (s .sizes) z b k)
+    ∙ judge-in s (length (l .moves)) (held s l .moves) b e j n v)

@@ -61,7 +61,7 @@ lent-solved s l other h e =
     let m = held s l in
     let r = simp tests at (h .holds .rooms) in
     let q : held s other ≡ m =
-    λ i. record { sizes = s .sizes; labels = e .labels i; equations = map unword (e .equations i); moves = e .moves i } in
+    λ i. record { sizes = s .sizes; live = s .live; labels = e .labels i; equations = map unword (e .equations i); moves = e .moves i } in
     let count = h .holds .count in
     let room = h .holds .room in
     let c1 = long-enough (s .sizes .states) (other .labels) (l .labels) (e .labels) (omega arith) in
@@ -73,6 +73,7 @@ lent-solved s l other h e =
       model = h .model;
       holds = record {
         sizes = refl;
+        live = refl;
         labels = e .labels;
         equations = e .equations ∙ h .holds .equations;
         moves = e .moves;

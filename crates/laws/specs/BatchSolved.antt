@@ -72,7 +72,7 @@ batch-holds s l bytes b h w =
     let vs = bits n (at (t .values)) in
     let vn : length vs ≡ n = listed-length 0 n (λ p. bit (at (t .values) p)) in
     let kn : length (marksOf n t) ≡ n = listed-length 0 n (λ p. markOf (at (t .shifted) p) (at (t .settled) p)) in
-    moved-holds s l m (changed cs m) vs (marksOf n t) h refl refl refl vn (bits-small n (at (t .values))) kn (marks-small n t) (w .room)
+    moved-holds s l m (changed cs m) vs (marksOf n t) h refl refl refl refl vn (bits-small n (at (t .values))) kn (marks-small n t) (w .room)
 
 -- Where the values were the model's, those after an accepted batch are the values of the model with the new moves.
 pub batch-solved : (s : Session) (l : Rooms) (bytes : List ℕ) (b : Batch) → Solved s l (held s l) → WasBatch s l bytes b

@@ -12,10 +12,11 @@ use Rattle.lists.specs.Lists.{sumOf, elem, is}
 use Rattle.lists.specs.Tests.{tell, ltb-is, leb-is, eqb-is, and-is, ltb-no, or-in, or-other, or-no, eqb-no}
 use Rattle.rules.specs.Limits.{most-moves}
 use Rattle.rules.specs.Moves.{source, action, target, weight, wrap, stampOf}
-use Rattle.rules.specs.Model.{Model, moveOk, movesOk, wellFormed, WellFormed}
+use Rattle.rules.specs.Model.{Model, moveOk, movesOk, liveOk, wellFormed, WellFormed}
 use Rattle.rules.specs.Records.{accepted}
 use Rattle.rules.specs.Batch.{Change, Batch, readBatch, remove, insert, removeAll, insertAll, inserts, deletes, edited, repeated, misplaced, unless, firstOf, judgements, judge, changesOk}
 use Rattle.rules.specs.declared.Sizes.{Sizes}
+use Rattle.rules.specs.declared.Session.{Session}
 use Rattle.rules.specs.Update.{changed}
 use Rattle.laws.specs.RecordLaws.{AreBytes}
 use Rattle.laws.specs.BatchReads.{read-batch-spelling}
@@ -276,15 +277,17 @@ at-out n true e = refl
 at-out n false e = let z : _≡_ {A = ℕ} 0 1 = cc in absurd (omega arith)
 
 -- A batch that is judged good is the batch, and nothing is wrong with it.
-pub judge-out : (room : ℕ) (ms : List ℕ) (b b′ : Batch) → judge room ms b ≡ accepted b′
+pub judge-out : (s : Session) (room : ℕ) (ms : List ℕ) (b b′ : Batch) → judge s room ms b ≡ accepted b′
     → (b .stamp ≡ stampOf ms) × Judged ms (b .changes) × (length (edited (b .changes) ms) ≤ min most-moves room) × (b′ ≡ b)
+    × (liveOk (s .live) (s .sizes .states) (edited (b .changes) ms) ≡ true)
 unfolding judge AllNone
-judge-out room ms b b′ e =
-    let a = all-none (judgements room ms b) b b′ e in
+judge-out s room ms b b′ e =
+    let a = all-none (judgements s room ms b) b b′ e in
     let r = repeated-in [] 5 (b .changes) (a .0 .1 .0) in
     let w = wrong-in ms 5 (b .changes) (a .0 .1 .1 .0) in
     let n = at-out 10 (leb (length (edited (b .changes) ms)) (min most-moves room)) (a .0 .1 .1 .1 .0) in
-    (eqb-is _ _ .0 (at-out 11 (eqb (b .stamp) (stampOf ms)) (a .0 .0)), (r .0, r .1, w .0, w .1), leb-is _ _ .0 n, a .1)
+    let v = at-out 16 (liveOk (s .live) (s .sizes .states) (edited (b .changes) ms)) (a .0 .1 .1 .1 .1 .0) in
+    (eqb-is _ _ .0 (at-out 11 (eqb (b .stamp) (stampOf ms)) (a .0 .0)), (r .0, r .1, w .0, w .1), leb-is _ _ .0 n, a .1, v)
 
 -- Moves become old less deletes plus inserts, still ascending and in range, with the stamp so carried.
 pub edited-ok : (z : Sizes) (ms : List ℕ) (cs : List Change) → Judged ms cs → AllOk z (inserts cs) → movesOk z 0 ms ≡ true → movesOk z 0 (edited cs ms) ≡ true
@@ -315,11 +318,11 @@ edited-stamp z ms cs j h =
     wrap-cancel _ (sumOf weight (deletes cs)) _ (c .0) (c .1 ∙ wrap-once (sumOf weight ms) (sumOf weight (inserts cs)) ∙ ap wrap (sym s))
 
 pub edited-wellFormed : (m : Model) (cs : List Change) → WellFormed m → Judged (m .moves) cs → AllOk (m .sizes) (inserts cs) → length (edited cs (m .moves)) ≤ most-moves
-    → WellFormed (changed cs m)
+    → liveOk (m .live) (m .sizes .states) (edited cs (m .moves)) ≡ true → WellFormed (changed cs m)
 unfolding wellFormed
-edited-wellFormed m cs h j o n =
+edited-wellFormed m cs h j o n v =
     let k = simp and-is at h in
-    simp and-is (((((k .0 .0 .0 .0 .0, k .0 .0 .0 .0 .1), k .0 .0 .0 .1), k .0 .0 .1), edited-ok (m .sizes) (m .moves) cs j o (k .0 .1)), leb-is _ _ .1 n)
+    simp and-is (((((k .0 .0 .0 .0 .0, k .0 .0 .0 .0 .1), k .0 .0 .0 .1), k .0 .0 .1), edited-ok (m .sizes) (m .moves) cs j o (k .0 .1)), (leb-is _ _ .1 n, (k .1 .1 .0, v)))
 
 -- Inserts of changes in range are in range.
 pub all-ok : (z : Sizes) (cs : List Change) → changesOk z cs ≡ true → AllOk z (inserts cs)
@@ -332,7 +335,7 @@ all-ok z (c ∷ cs) h =
     ]
 
 -- The judgement passes exactly where the stamp is the table's, no move is named twice, inserts are absent, deletes are
--- present, and the room suffices.
+-- present, the room suffices, and no state of a live model is left without a move.
 right-in : (ms : List ℕ) (at : ℕ) (cs : List Change) → AllAre false (inserts cs) ms → AllAre true (deletes cs) ms → misplaced ms at cs ≡ none
 right-in ms at [] a d = refl
 right-in ms at (c ∷ cs) a d =
@@ -381,23 +384,23 @@ once-in ms seen at (c ∷ cs) j f =
           | inr t ↦ f (or-other (eqb q p) (elem q seen) h t)
         ]
 
-pub judge-in : (room : ℕ) (ms : List ℕ) (b : Batch) → b .stamp ≡ stampOf ms → Judged ms (b .changes)
-    → length (edited (b .changes) ms) ≤ min most-moves room → judge room ms b ≡ accepted b
+pub judge-in : (s : Session) (room : ℕ) (ms : List ℕ) (b : Batch) → b .stamp ≡ stampOf ms → Judged ms (b .changes)
+    → length (edited (b .changes) ms) ≤ min most-moves room → liveOk (s .live) (s .sizes .states) (edited (b .changes) ms) ≡ true → judge s room ms b ≡ accepted b
 unfolding judge
-judge-in room ms b s j n =
-    rw (eqb-is _ _ .1 s, once-in ms [] 5 (b .changes) j (λ p h. absurd (false≢true h)), right-in ms 5 (b .changes) (j .2) (j .3), leb-is _ _ .1 n) refl
+judge-in s room ms b e j n v =
+    rw (eqb-is _ _ .1 e, once-in ms [] 5 (b .changes) j (λ p h. absurd (false≢true h)), right-in ms 5 (b .changes) (j .2) (j .3), leb-is _ _ .1 n, v) refl
 
 -- A batch that is read and judged leaves a model inside the limits, whose stamp is the one carried.
-pub batch-keeps : (m : Model) (room : ℕ) (s : List ℕ) (b b′ : Batch) → WellFormed m → AreBytes s → readBatch (m .sizes) s ≡ accepted b
-    → judge room (m .moves) b ≡ accepted b′
+pub batch-keeps : (held : Session) (m : Model) → held .sizes ≡ m .sizes → held .live ≡ m .live → (room : ℕ) (s : List ℕ) (b b′ : Batch) → WellFormed m → AreBytes s
+    → readBatch (m .sizes) s ≡ accepted b → judge held room (m .moves) b ≡ accepted b′
     → WellFormed (changed (b .changes) m) × (length (edited (b .changes) (m .moves)) ≤ room) × (stampOf (edited (b .changes) (m .moves)) ≡ carry (b .stamp) (b .changes))
 unfolding wellFormed
-batch-keeps m room s b b′ w y e f =
+batch-keeps held m z i room s b b′ w y e f =
     let k = simp and-is at w in
     let g = read-batch-spelling (m .sizes) (k .0 .0 .0 .0 .0) s b y e in
     let c = simp and-is at (g .0) in
-    let j = judge-out room (m .moves) b b′ f in
+    let j = judge-out held room (m .moves) b b′ f in
     let n = j .2 in
-    let v = edited-wellFormed m (b .changes) w (j .1) (all-ok (m .sizes) (b .changes) (c .1)) (omega arith) in
+    let v = edited-wellFormed m (b .changes) w (j .1) (all-ok (m .sizes) (b .changes) (c .1)) (omega arith) (rw (z, i) at (j .4)) in
     let t = edited-stamp (m .sizes) (m .moves) (b .changes) (j .1) (k .0 .1) in
     (v, omega arith, rw (j .0) (sym t))

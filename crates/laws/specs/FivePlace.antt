@@ -14,28 +14,29 @@ use Rattle.lists.specs.Tests.{tests, tell, and-in, and-is, eqb-is, ltb-is, leb-
 use Rattle.rules.specs.Model.{Equation, labelOk, signOk, equationIn, namesIn}
 use Rattle.rules.specs.Records.{Rec, field, widths, known, bodyOf, reads, bytes, bytesOf, Parts, ends, broken, part, partsFrom, parts, Turn, no, back, next, over, demand, refused, onTurn, run}
 use Rattle.rules.specs.Rooms.{Lengths}
-use Rattle.rules.specs.Load.{Sofar, State, before, inside, started, labelDemands, sizesDemands, signedDemands, afterLabel, afterSigned, askChains, sizesOf, signedOf, signOf, step, put, last, settleStyle, readModel}
-use Rattle.rules.specs.Spelling.{sizesRec, labelRecs, signedRec, signedRecs}
+use Rattle.rules.specs.Load.{Sofar, State, before, inside, started, labelDemands, liveDemands, afterLive, sizesDemands, signedDemands, afterLabel, afterSigned, askChains, sizesOf, signedOf, signOf, step, put, last, settleStyle, readModel}
+use Rattle.rules.specs.Spelling.{sizesRec, liveRec, liveRecs, labelRecs, signedRec, signedRecs}
 use Rattle.rules.specs.declared.Sizes.{Sizes}
 use Rattle.laws.specs.RecordLaws.{AreBytes, Writable, Met, judged, size, part-written, bytes-drop, fits-reads, writes-reads}
 use Rattle.laws.specs.ChainLaws.{Guilty}
-use Rattle.laws.specs.Walks.{nil-of}
+use Rattle.laws.specs.Walks.{nil-of, small}
 use Rattle.laws.specs.OneKind.{kindAt}
-use Rattle.laws.specs.ReadSpells.{rec-is, skip-zeros, zeros-ok, zero-ok, Stepped, label, block, equation, move, sign, stepped}
-use Rattle.laws.specs.SignsRefused.{Text, upTo, mixed-refused, Signing, Does, goes, stops, refuses, closes, does, told-number, un-told, end-not-five, signing-started, fiveless-demand}
+use Rattle.laws.specs.ReadSpells.{rec-is, skip-zeros, zeros-ok, zero-ok, Stepped, label, block, equation, move, lives, sign, stepped}
+use Rattle.laws.specs.SignsRefused.{Text, upToLabels, upTo, mixed-refused, Signing, Does, goes, stops, refuses, closes, does, told-number, un-told, end-not-five, signing-started, fiveless-demand}
 
--- The bytes s begin with the sizes, the labels and the equations with signs of a model, whatever comes after; the equations
--- have a closed chain with both signs; and q is the place of the first byte of the lowest equation on one.
+-- The bytes s begin with the sizes, the labels and the equations with signs of a model that is live or not, whatever comes
+-- after; the equations have a closed chain with both signs; and q is the place of the first byte of the lowest equation on one.
 pub record MixedAt (l : Lengths) (s : List ℕ) (q : ℕ) : Type 0 where
   pub sizes : Sizes
+  pub live : ℕ
   pub labels : List ℕ
   pub equations : List Equation
   pub rest : List ℕ
-  pub text : Text l sizes labels equations
-  pub spelled : s ≡ bytesOf (sizesRec sizes ∷ (labelRecs 0 labels ++ signedRecs equations)) ++ rest
+  pub text : Text l sizes live labels equations
+  pub spelled : s ≡ bytesOf (upToLabels sizes live labels ++ signedRecs equations) ++ rest
   pub lowest : ℕ
   pub guilty : Guilty (length equations) (namesIn equations) (kindAt equations) lowest
-  pub place : q ≡ length (bytesOf (upTo sizes labels equations lowest))
+  pub place : q ≡ length (bytesOf (upTo sizes live labels equations lowest))
 
 -- A whole record that stands at the head of bytes, and the bytes after it.
 record Head (s : List ℕ) : Type 0 where
@@ -66,13 +67,16 @@ headed p (k ∷ s) h =
           })
     ]
 
--- What the bytes s hold that are still to be read in the state x: labels, then equations with signs, with which some closed
--- chain holds both signs.
+-- What the bytes s hold that are still to be read in the state x: the record of a live model, where `flag` is 1, then labels,
+-- then equations with signs, with which some closed chain holds both signs.
 record Ahead (x : Sofar) (s : List ℕ) : Type 0 where
+  flag : ℕ
+  few : flag ≤ 1
+  once : 0 < x .labels + x .live → flag ≡ 0
   labels : List ℕ
   equations : List Equation
   rest : List ℕ
-  spelled : s ≡ bytesOf (labelRecs (x .labels) labels ++ signedRecs equations) ++ rest
+  spelled : s ≡ bytesOf (liveRecs flag ++ (labelRecs (x .labels) labels ++ signedRecs equations)) ++ rest
   states : x .labels + length labels ≡ x .sizes .states
   sets : all (labelOk (x .sizes)) labels ≡ true
   count : x .blocks .equations + length equations ≡ x .sizes .variables
@@ -80,13 +84,37 @@ record Ahead (x : Sofar) (s : List ℕ) : Type 0 where
   lowest : ℕ
   mixed : Guilty (x .sizes .variables) (namesIn (x .signs ++ equations)) (kindAt (x .signs ++ equations)) lowest
 
--- Labels are inside the states.
+-- There are states, and labels are inside them.
 abbrev Within : Sofar → Type 0
-Within x = x .labels ≤ x .sizes .states
+Within x = (x .labels ≤ x .sizes .states) × (1 ≤ x .sizes .states)
 
 -- One record more in front.
 in-front : (r : Rec) (rs : List Rec) (s rest : List ℕ) → s ≡ bytesOf rs ++ rest → bytes r ++ s ≡ bytesOf (r ∷ rs) ++ rest
 in-front r rs s rest e = ap (λ (t : List ℕ). bytes r ++ t) e ∙ sym (append-assoc (bytes r) (bytesOf rs) rest)
+
+-- Where no record of a live model is ahead, labels come first.
+unflagged : {x : Sofar} {s : List ℕ} (a : Ahead x s) → 0 < x .labels + x .live → s ≡ bytesOf (labelRecs (x .labels) (a .labels) ++ signedRecs (a .equations)) ++ a .rest
+unflagged a h = rw (a .once h) at (a .spelled)
+
+-- The record of a live model in front of what is ahead.
+flag-ahead : (x : Sofar) (t : List ℕ) → Met (liveDemands x) → Ahead (afterLive x) t → Ahead x (bytes liveRec ++ t)
+flag-ahead x t d a =
+    let k = simp tests at (d .0) in
+    record {
+      flag = 1;
+      few = omega arith;
+      once = λ h. absurd (omega arith);
+      labels = a .labels;
+      equations = a .equations;
+      rest = a .rest;
+      spelled = in-front liveRec (labelRecs (x .labels) (a .labels) ++ signedRecs (a .equations)) t (a .rest) (unflagged a (omega arith));
+      states = a .states;
+      sets = a .sets;
+      count = a .count;
+      good = a .good;
+      lowest = a .lowest;
+      mixed = a .mixed;
+    }
 
 -- A label in front of what is ahead.
 label-ahead : (x : Sofar) (s v : ℕ) (t : List ℕ) → Met (labelDemands x s v) → Ahead (afterLabel x s) t → Ahead x (bytes (record { kind = 2; body = s ∷ v ∷ [] }) ++ t)
@@ -99,10 +127,13 @@ label-ahead x s (suc v) t d a =
     let front : labelRecs (x .labels) (replicate (s - x .labels) 0 ++ (suc v ∷ a .labels)) ≡ r ∷ labelRecs (suc s) (a .labels) =
     skip-zeros (x .labels) (s - x .labels) (suc v ∷ a .labels) ∙ rw e refl in
     record {
+      flag = 0;
+      few = omega arith;
+      once = λ h. refl;
       labels = replicate (s - x .labels) 0 ++ (suc v ∷ a .labels);
       equations = a .equations;
       rest = a .rest;
-      spelled = in-front r (labelRecs (suc s) (a .labels) ++ signedRecs (a .equations)) t (a .rest) (a .spelled)
+      spelled = in-front r (labelRecs (suc s) (a .labels) ++ signedRecs (a .equations)) t (a .rest) (unflagged a (omega arith))
           ∙ ap (λ (rs : List Rec). bytesOf (rs ++ signedRecs (a .equations)) ++ a .rest) (sym front);
       states = simp (length-append, length-replicate) (omega (arith, a .states));
       sets = zeros-ok (x .sizes) (s - x .labels) _ (zero-ok (x .sizes)) (and-in (k .1) (a .sets));
@@ -129,11 +160,14 @@ sign-ahead x k o a b t h g d =
     let front : labelRecs (x .labels) (replicate (x .sizes .states - x .labels) 0 ++ d .labels) ≡ [] =
     skip-zeros (x .labels) (x .sizes .states - x .labels) (d .labels) ∙ rw none refl in
     record {
+      flag = 0;
+      few = omega arith;
+      once = λ h. refl;
       labels = replicate (x .sizes .states - x .labels) 0 ++ d .labels;
       equations = e ∷ d .equations;
       rest = d .rest;
       spelled = in-front (signedRec e) (signedRecs (d .equations)) t (d .rest)
-          (d .spelled ∙ ap (λ (rs : List Rec). bytesOf (rs ++ signedRecs (d .equations)) ++ d .rest) here)
+          (unflagged d (omega arith) ∙ ap (λ (rs : List Rec). bytesOf (rs ++ signedRecs (d .equations)) ++ d .rest) here)
           ∙ ap (λ (rs : List Rec). bytesOf (rs ++ signedRecs (e ∷ d .equations)) ++ d .rest) (sym front);
       states = simp (length-append, length-replicate) (omega (arith, d .states));
       sets = zeros-ok (x .sizes) (x .sizes .states - x .labels) _ (zero-ok (x .sizes)) (d .sets);
@@ -164,6 +198,9 @@ module _ (l : Lengths) (q : ℕ) where
   passed x r s st g h w (block e d) f = let k = simp tests at (d .0) in let b = g .signs in absurd (omega arith)
   passed x r s st g h w (equation e d) f = let k = ltb-is 0 (x .blocks .due) .0 (d .0) in let b = g .due in absurd (omega arith)
   passed x r s st g h w (move e d) f = let k = simp tests at (d .0) in let a = f h .0 in absurd (omega arith)
+  passed x r s st g h w (lives e d) f =
+      let a = f h in
+      (a .0, subst (λ (r : Rec). Ahead x (bytes r ++ s)) (sym (rec-is r 10 e w)) (flag-ahead x s d (a .1)))
   passed x r s st g h w (sign e d p) f =
       let k = simp tests at (d .0) in
       let a = f (omega arith) in
@@ -193,6 +230,9 @@ module _ (l : Lengths) (q : ℕ) where
       let met = back-met x r 5 m (c .kind) k in
       let end = c .last in
       let a : Ahead (afterSigned x (signOf r)) s = record {
+        flag = 0;
+        few = omega arith;
+        once = λ h. refl;
         labels = [];
         equations = [];
         rest = s;
@@ -240,8 +280,9 @@ module _ (l : Lengths) (q : ℕ) where
   at-place s k b e m a =
       let z = sizesOf (k .rec) in
       let n : length (a .equations) ≡ z .variables = let c = a .count in omega arith in
-      let text : Text l z (a .labels) (a .equations) = record {
+      let text : Text l z (a .flag) (a .labels) (a .equations) = record {
         sizes = m .1 .0;
+        flag = a .few;
         rooms = m .1 .1 .0;
         signs = b;
         labels = let c = a .states in omega arith;
@@ -249,13 +290,17 @@ module _ (l : Lengths) (q : ℕ) where
         count = n;
         good = a .good;
       } in
-      let spelled : s ≡ bytesOf (sizesRec z ∷ (labelRecs 0 (a .labels) ++ signedRecs (a .equations))) ++ a .rest =
+      let whole : sizesRec z ∷ (liveRecs (a .flag) ++ (labelRecs 0 (a .labels) ++ signedRecs (a .equations))) ≡ upToLabels z (a .flag) (a .labels) ++ signedRecs (a .equations) =
+      ap (λ (rs : List Rec). sizesRec z ∷ rs) (sym (append-assoc (liveRecs (a .flag)) (labelRecs 0 (a .labels)) (signedRecs (a .equations)))) in
+      let spelled : s ≡ bytesOf (upToLabels z (a .flag) (a .labels) ++ signedRecs (a .equations)) ++ a .rest =
       k .spelled ∙ ap (λ (r : Rec). bytes r ++ k .after) (rec-is (k .rec) 1 (eqb-is (k .rec .kind) 1 .0 (m .0)) (k .fits))
-      ∙ in-front (sizesRec z) (labelRecs 0 (a .labels) ++ signedRecs (a .equations)) (k .after) (a .rest) (a .spelled) in
+      ∙ in-front (sizesRec z) (liveRecs (a .flag) ++ (labelRecs 0 (a .labels) ++ signedRecs (a .equations))) (k .after) (a .rest) (a .spelled)
+      ∙ ap (λ (rs : List Rec). bytesOf rs ++ a .rest) whole in
       let below = a .mixed .below in
-      let t = mixed-refused l z (a .labels) (a .equations) text (a .rest) (a .lowest) (omega arith) (a .mixed .on) in
+      let t = mixed-refused l z (a .flag) (a .labels) (a .equations) text (a .rest) (a .lowest) (omega arith) (a .mixed .on) in
       record {
         sizes = z;
+        live = a .flag;
         labels = a .labels;
         equations = a .equations;
         rest = a .rest;
@@ -263,7 +308,7 @@ module _ (l : Lengths) (q : ℕ) where
         spelled = spelled;
         lowest = t .0;
         guilty = t .1;
-        place = told-number 5 q 5 (length (bytesOf (upTo z (a .labels) (a .equations) (t .0)))) (sym e ∙ ap (readModel l) spelled ∙ t .2) .1;
+        place = told-number 5 q 5 (length (bytesOf (upTo z (a .flag) (a .labels) (a .equations) (t .0)))) (sym e ∙ ap (readModel l) spelled ∙ t .2) .1;
       }
 
   -- The whole: sizes that meet their demands come first.
@@ -280,7 +325,7 @@ module _ (l : Lengths) (q : ℕ) where
         | inr d ↦ absurd (d .1 (told-number (d .0) 0 5 q (rw (d .2) at o) .0))
         | inl d ↦ elim (judged (sizesDemands l r) (next (inside (started z)))) [
           | inr m ↦ let c : _≡_ {A = ℕ} 0 1 = cc in absurd (omega arith)
-          | inl m ↦ at-place s k b e (m .0) (ahead (length (k .after)) (k .after) (omega arith) (k .bytes-after) (0 + size r) (started z) (signing-started z b) (omega arith)
+          | inl m ↦ at-place s k b e (m .0) (ahead (length (k .after)) (k .after) (omega arith) (k .bytes-after) (0 + size r) (started z) (signing-started z b) (let c = small z (m .0 .1 .0) in omega arith)
               (un-told (put before r) (run (step l) put last (inside (started z)) t) 5 q (rw d at o)) .1)
         ]
       ]
@@ -310,8 +355,8 @@ one-lowest {x = x} {y} g h =
 -- Such bytes are refused with 5 at q.
 five-in : (l : Lengths) (s : List ℕ) (q : ℕ) → MixedAt l s q → readModel l s ≡ refused 5 q
 five-in l s q m =
-    let t = mixed-refused l (m .sizes) (m .labels) (m .equations) (m .text) (m .rest) (m .lowest) (m .guilty .below) (m .guilty .on) in
-    ap (readModel l) (m .spelled) ∙ t .2 ∙ ap (λ (w : ℕ). refused 5 (length (bytesOf (upTo (m .sizes) (m .labels) (m .equations) w)))) (one-lowest (t .1) (m .guilty)) ∙ ap (refused 5) (sym (m .place))
+    let t = mixed-refused l (m .sizes) (m .live) (m .labels) (m .equations) (m .text) (m .rest) (m .lowest) (m .guilty .below) (m .guilty .on) in
+    ap (readModel l) (m .spelled) ∙ t .2 ∙ ap (λ (w : ℕ). refused 5 (length (bytesOf (upTo (m .sizes) (m .live) (m .labels) (m .equations) w)))) (one-lowest (t .1) (m .guilty)) ∙ ap (refused 5) (sym (m .place))
 
 -- A load of a model with signs is refused with 5 at the place q exactly where some closed chain of the equations that the
 -- bytes spell holds both signs, and q is the place of the lowest equation on such a chain.

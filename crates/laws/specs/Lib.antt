@@ -1,3 +1,4 @@
+pub mod Hanging
 pub mod RecordLaws
 pub mod ChainLaws
 pub mod Components
@@ -9,6 +10,7 @@ pub mod SpellingLength
 pub mod BatchReads
 pub mod Edits
 pub mod Named
+pub mod Emptied
 pub mod SessionHolds
 pub mod OneKind
 pub mod ModelSystem
@@ -32,3 +34,4 @@ pub mod SignsRefused
 pub mod FivePlace
 pub mod ComponentCount
 pub mod FewBlocks
+pub mod LiveApart

@@ -6,7 +6,8 @@ use mathlib.Core.List.{List, [], _∷_}
 use Prim.Native.Nat.{ℕ, zero, suc, _≤_}
 use native.Mathlib.Omega.{arith}
 use lib.ListN.{getD}
-use Rattle.lists.specs.Tests.{tests}
+use lib.Dec.{eqb}
+use Rattle.lists.specs.Tests.{eqb-is, all-at}
 use Rattle.rules.specs.Records.{Outcome, refused, accepted}
 use Rattle.rules.specs.Rooms.{Rooms}
 use Rattle.rules.specs.Answers.{numberOf, loadedSays, updatedSays, writtenSays, askedSays}
@@ -24,9 +25,9 @@ use Rattle.rules.specs.declared.Written.{Written}
 use Rattle.rules.specs.declared.Written.the-variants as W
 use Rattle.rules.specs.declared.Asked.{Asked}
 use Rattle.rules.specs.declared.Asked.the-variants as A
-use Rattle.laws.specs.Refusals.{paper, Told, load-told, batch-told, write-told, ask-told}
+use Rattle.laws.specs.Refusals.{numbers, paper, Told, load-told, batch-told, write-told, ask-told}
 
--- The refusal of a number. (There is no number 0.)
+-- The refusal of a number. (There is no number 0, 14 or 15.)
 abbrev refusals : List Refusal
 refusals =
     Why.Broken
@@ -43,6 +44,9 @@ refusals =
     ∷ Why.WrongStamp
     ∷ Why.NotAModel
     ∷ Why.ShortRoom
+    ∷ Why.Broken
+    ∷ Why.Broken
+    ∷ Why.Hangs
     ∷ []
 
 abbrev refusalOf : ℕ → Refusal
@@ -62,27 +66,11 @@ refusal-back Why.Full = refl
 refusal-back Why.WrongStamp = refl
 refusal-back Why.NotAModel = refl
 refusal-back Why.ShortRoom = refl
+refusal-back Why.Hangs = refl
 
--- Below 14 and not 0, number by number.
+-- Each of the paper's numbers is that of its refusal.
 number-back : (n : ℕ) → paper n ≡ true → numberOf (refusalOf n) ≡ n
-number-back zero h = absurd (false≢true h)
-number-back (suc n) h = go n (let k = simp tests at h in omega arith)
-  where
-    go : (n : ℕ) → n ≤ 12 → numberOf (refusalOf (suc n)) ≡ suc n
-    go zero k = refl
-    go (suc zero) k = refl
-    go (suc (suc zero)) k = refl
-    go (suc (suc (suc zero))) k = refl
-    go (suc (suc (suc (suc zero)))) k = refl
-    go (suc (suc (suc (suc (suc zero))))) k = refl
-    go (suc (suc (suc (suc (suc (suc zero)))))) k = refl
-    go (suc (suc (suc (suc (suc (suc (suc zero))))))) k = refl
-    go (suc (suc (suc (suc (suc (suc (suc (suc zero)))))))) k = refl
-    go (suc (suc (suc (suc (suc (suc (suc (suc (suc zero))))))))) k = refl
-    go (suc (suc (suc (suc (suc (suc (suc (suc (suc (suc zero)))))))))) k = refl
-    go (suc (suc (suc (suc (suc (suc (suc (suc (suc (suc (suc zero))))))))))) k = refl
-    go (suc (suc (suc (suc (suc (suc (suc (suc (suc (suc (suc (suc zero)))))))))))) k = refl
-    go (suc (suc (suc (suc (suc (suc (suc (suc (suc (suc (suc (suc (suc n))))))))))))) k = absurd (omega arith)
+number-back n h = eqb-is _ _ .0 (all-at (λ k. eqb (numberOf (refusalOf k)) k) numbers n refl h)
 
 -- An answer type says outcomes: it has a case for refusals, by `no`, and one for what is accepted, by `yes`.
 module _ {E B : Type 0} (says : E → Outcome B) (no : Refusal → ℕ → E) (yes : B → E)

@@ -15,7 +15,7 @@ use Rattle.rules.specs.Model.{Equation, Model, labelOk, moveOk, operandsOk, equ
 use Rattle.rules.specs.Records.{Rec, widths, accepted, onto}
 use Rattle.rules.specs.Rooms.{Lengths, roomsOk}
 use Rattle.rules.specs.Load.{step, put, last, settleStyle, readModel}
-use Rattle.rules.specs.Spelling.{labelRecs, equationRecs, signedRecs, styleRecs, moveRecs, records, encode}
+use Rattle.rules.specs.Spelling.{liveRecs, labelRecs, equationRecs, signedRecs, styleRecs, moveRecs, records, encode}
 use Rattle.rules.specs.declared.Sizes.{Sizes}
 use Rattle.laws.specs.RecordLaws.{AllWritable, run-written}
 use Rattle.laws.specs.Walks.{small, eq-count, run-le, unplaced, walks-records}
@@ -96,6 +96,15 @@ module _ (z : Sizes) (ok : sizesOk z ≡ true) where
         | inr t ↦ rw t (equations-w 0 0 0 es (rw t at h))
       ]
 
+-- So does the record of a live model.
+pub live-w : (n : ℕ) → AllWritable (liveRecs n)
+unfolding widths
+live-w n =
+    elim (tell true (eqb n 1)) [
+      | inl t ↦ rw t ((refl, tt), tt)
+      | inr t ↦ rw t tt
+    ]
+
 -- The records of a model inside the limits fit their widths.
 pub records-w : (m : Model) → WellFormed m → AllWritable (records m)
 unfolding records wellFormed widths
@@ -105,8 +114,8 @@ records-w m h =
     let s = small (m .sizes) z in
     let e = eqb-is (length (m .labels)) (m .sizes .states) .0 (k .0 .0 .0 .0 .1) in (
       (refl, omega arith),
-      append (labelRecs 0 (m .labels)) _ (labels-w (m .sizes) z 0 (m .labels) (omega arith) (k .0 .0 .0 .1))
-          (append (styleRecs (m .sizes) (m .equations)) _ (style-w (m .sizes) z (m .equations) (k .0 .0 .1)) (moves-w (m .sizes) z 0 (m .moves) (k .0 .1))),
+      append (liveRecs (m .live)) _ (live-w (m .live)) (append (labelRecs 0 (m .labels)) _ (labels-w (m .sizes) z 0 (m .labels) (omega arith) (k .0 .0 .0 .1))
+          (append (styleRecs (m .sizes) (m .equations)) _ (style-w (m .sizes) z (m .equations) (k .0 .0 .1)) (moves-w (m .sizes) z 0 (m .moves) (k .0 .1)))),
     )
 
 -- What is read of a model inside the limits, with its components, is the model.
@@ -119,7 +128,7 @@ unplaced-back l m h =
       | inl t ↦ rw t (placed-own (m .sizes) (m .equations) (λ i. 0) (signs-out (m .sizes) (m .equations) (rw t at (k .0 .0 .1))))
       | inr t ↦ rw t refl
     ] in
-    λ i. record { sizes = m .sizes; labels = m .labels; equations = e i; moves = m .moves }
+    λ i. record { sizes = m .sizes; live = m .live; labels = m .labels; equations = e i; moves = m .moves }
 
 -- Every model inside the limits is accepted where the rooms suffice.
 pub read-accepts : (l : Lengths) (m : Model) → WellFormed m → roomsOk l (m .sizes) ≡ true → length (m .moves) ≤ l .moves

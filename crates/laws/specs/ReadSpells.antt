@@ -15,10 +15,11 @@ use Rattle.rules.specs.Moves.{pack, source, action, target}
 use Rattle.rules.specs.Model.{Equation, Model, labelOk, moveOk, runOf, equationsOk, movesOk, wellFormed, WellFormed, signed, signOk, equationIn, guilty, componentIn, placed, styleOk}
 use Rattle.rules.specs.Records.{Rec, field, widths, Turn, no, back, next, demand, accepted, bytesOf, over, run, parts}
 use Rattle.rules.specs.Rooms.{Lengths, roomsOk}
-use Rattle.rules.specs.Load.{sizesOf, Sofar, State, before, inside, started, blockFits, labelDemands, blockDemands, equationDemands, moveDemands, endDemands, sizesDemands, afterLabel, afterBlock, afterEquation, afterMove, signedOf, signOf, signedDemands, afterSigned, askChains, step, put, last, lastOf, settleStyle, readModel, sayIn}
-use Rattle.rules.specs.Spelling.{sizesRec, labelRecs, blockRec, equationRecs, signedRecs, endRec, moveRecs, records, encode}
+use Rattle.rules.specs.Load.{sizesOf, Sofar, State, before, inside, started, blockFits, labelDemands, blockDemands, equationDemands, moveDemands, movesDue, endDemands, liveDemands, afterLive, sizesDemands, afterLabel, afterBlock, afterEquation, afterMove, signedOf, signOf, signedDemands, afterSigned, askChains, step, put, last, lastOf, settleStyle, readModel, putMove, sayIn}
+use Rattle.rules.specs.Spelling.{sizesRec, liveRec, liveRecs, labelRecs, blockRec, equationRecs, signedRecs, endRec, moveRecs, records, encode}
 use Rattle.rules.specs.declared.Sizes.{Sizes}
 use Rattle.laws.specs.RecordLaws.{Walks, done, more, Met, judged, Writable, AllWritable, AreBytes, tab, shape, un-onto, run-read}
+use Rattle.laws.specs.Hanging.{movingOver, all-moving, opened}
 use Rattle.laws.specs.Walks.{small, run-last, nil-of, eqb-pos}
 use Rattle.laws.specs.Placed.{signed-recs, signs-in, placed-signs}
 
@@ -75,6 +76,7 @@ pub data Stepped (l : Lengths) (x : Sofar) (r : Rec) : Turn State → Type 0 whe
   equation : r .kind ≡ 4 → Met (equationDemands x (field r 0) (field r 1) (field r 2)) → Stepped l x r (next (inside (afterEquation x)))
   move : r .kind ≡ 5 → Met (moveDemands l x (field r 0) (field r 1) (field r 2)) → Stepped l x r (next (inside (afterMove x (pack (field r 0) (field r 1) (field r 2)))))
   end : r .kind ≡ 6 → Met (endDemands x) → Stepped l x r over
+  lives : r .kind ≡ 10 → Met (liveDemands x) → Stepped l x r (next (inside (afterLive x)))
   sign : r .kind ≡ 11 → Met (signedDemands x (signOf r)) → Pure (afterSigned x (signOf r)) → Stepped l x r (next (inside (afterSigned x (signOf r))))
   refusal : {n : ℕ} → Stepped l x r (no n)
   earlier : {n d : ℕ} → Stepped l x r (back n d)
@@ -92,9 +94,12 @@ stepped l x r =
             | inl t ↦ rw t (by (moveDemands l x (field r 0) (field r 1) (field r 2)) _ (move (is 5 t)))
             | inr t ↦ rw t (elim (tell true (eqb (r .kind) 6)) [
               | inl t ↦ rw t (by (endDemands x) _ (end (is 6 t)))
-              | inr t ↦ rw t (elim (tell true (eqb (r .kind) 11)) [
-                | inl t ↦ rw t (by (signedDemands x (signOf r)) _ (λ m. asked (is 11 t) m))
-                | inr t ↦ rw t refusal
+              | inr t ↦ rw t (elim (tell true (eqb (r .kind) 10)) [
+                | inl t ↦ rw t (by (liveDemands x) _ (lives (is 10 t)))
+                | inr t ↦ rw t (elim (tell true (eqb (r .kind) 11)) [
+                  | inl t ↦ rw t (by (signedDemands x (signOf r)) _ (λ m. asked (is 11 t) m))
+                  | inr t ↦ rw t refusal
+                ])
               ])
             ])
           ])
@@ -151,11 +156,13 @@ record Rest (l : Lengths) (x : Sofar) (rs : List Rec) (m : Model) : Type 0 where
   signs : x .sizes .blocks ≡ 0 → SignsLeft x (m .equations)
   moves : movesOk (x .sizes) (x .moves .least) (m .moves) ≡ true
   room : x .moves .count + length (m .moves) ≤ min most-moves (l .moves)
+  live : m .live ≡ x .live
+  lively : cond (eqb (x .live) 1) (eqb (movingOver (x .moves .moving) (m .moves)) (x .sizes .states)) true ≡ true
   spelled : rs ≡ labelRecs (x .labels) (m .labels) ++ (recsFrom x (m .equations) ++ moveRecs (m .moves))
 
 module _ (l : Lengths) (x : Sofar) (z : sizesOk (x .sizes) ≡ true) (v : Inv l x) where
   -- One record more in front of what is still to come, kind by kind.
-  end-back : Pure x → Met (endDemands x) → Rest l x (endRec ∷ []) (lastOf (x .sizes))
+  end-back : Pure x → Met (endDemands x) → Rest l x (endRec ∷ []) (lastOf (x .sizes) (x .live))
   end-back pu m =
       let k = simp tests at (m .0) in
       let e = k .1 in
@@ -174,6 +181,8 @@ module _ (l : Lengths) (x : Sofar) (z : sizesOk (x .sizes) ≡ true) (v : Inv l 
         };
         moves = refl;
         room = omega arith;
+        live = refl;
+        lively = m .1 .0;
         spelled = none (signed (x .sizes));
       }
     where
@@ -181,9 +190,9 @@ module _ (l : Lengths) (x : Sofar) (z : sizesOk (x .sizes) ≡ true) (v : Inv l 
       none true = refl
       none false = refl
 
-  no-equations : {rs : List Rec} {m : Model} → Met (endDemands x) → Rest l x rs m → m .equations ≡ []
+  no-equations : {rs : List Rec} {m : Model} → movesDue x ≡ true → Rest l x rs m → m .equations ≡ []
   no-equations {m = m} d r =
-      let k = simp tests at (d .0) in
+      let k = simp tests at d in
       elim (tell true (signed (x .sizes))) [
         | inl t ↦ let s = r .signs (eqb-is _ _ .0 t) .count in nil-of (m .equations) (omega arith)
         | inr t ↦
@@ -194,14 +203,14 @@ module _ (l : Lengths) (x : Sofar) (z : sizesOk (x .sizes) ≡ true) (v : Inv l 
       ]
 
   move-back : (s a t : ℕ) {rs : List Rec} {m : Model} → Met (moveDemands l x s a t) → Rest l (afterMove x (pack s a t)) rs m
-      → Rest l x (record { kind = 5; body = s ∷ a ∷ t ∷ [] } ∷ rs) (record { sizes = m .sizes; labels = m .labels; equations = m .equations; moves = pack s a t ∷ m .moves })
+      → Rest l x (record { kind = 5; body = s ∷ a ∷ t ∷ [] } ∷ rs) (putMove (pack s a t) m)
   move-back s a t {rs} {m} d r =
       let k = simp tests at (d .0) in
       let b = small (x .sizes) z in
       let u = unpacked (x .sizes) s a t z (d .1 .0) in
       let ls = nil-of (m .labels) (omega (arith, r .count)) in
       let back : Rest l x (labelRecs (x .labels) (m .labels) ++ (recsFrom x (m .equations) ++ moveRecs (pack s a t ∷ m .moves)))
-      (record { sizes = m .sizes; labels = m .labels; equations = m .equations; moves = pack s a t ∷ m .moves }) = record {
+      (putMove (pack s a t) m) = record {
         same = r .same;
         count = r .count;
         sets = r .sets;
@@ -210,9 +219,11 @@ module _ (l : Lengths) (x : Sofar) (z : sizesOk (x .sizes) ≡ true) (v : Inv l 
         signs = λ h. let q = r .signs h in record { count = q .count; good = q .good; pure = q .pure };
         moves = and-in (and-in (d .1 .1 .0) (rw (u .0, u .1, u .2) (d .1 .0))) (r .moves);
         room = omega (arith, r .room);
+        live = r .live;
+        lively = r .lively;
         spelled = refl;
       } in
-      let es = no-equations (d .0, tt) back in
+      let es = no-equations (d .0) back in
       let sp : record { kind = 5; body = s ∷ a ∷ t ∷ [] } ∷ rs ≡ labelRecs (x .labels) (m .labels) ++ (recsFrom x (m .equations) ++ moveRecs (pack s a t ∷ m .moves)) =
       ap (λ (q : List Rec). record { kind = 5; body = s ∷ a ∷ t ∷ [] } ∷ q) (r .spelled)
       ∙ rw (ls, es, u .0, u .1, u .2) (two (signed (x .sizes)) (moveRecs (m .moves)) (record { kind = 5; body = s ∷ a ∷ t ∷ [] })) in
@@ -241,6 +252,8 @@ module _ (l : Lengths) (x : Sofar) (z : sizesOk (x .sizes) ≡ true) (v : Inv l 
         signs = λ h. absurd (omega arith);
         moves = r .moves;
         room = r .room;
+        live = r .live;
+        lively = r .lively;
         spelled = rw (hb, t, r .spelled, hb, ls) refl;
       }
 
@@ -261,6 +274,8 @@ module _ (l : Lengths) (x : Sofar) (z : sizesOk (x .sizes) ≡ true) (v : Inv l 
         signs = λ h. let q = r .signs h in record { count = q .count; good = q .good; pure = q .pure };
         moves = r .moves;
         room = r .room;
+        live = r .live;
+        lively = r .lively;
         spelled = rw (append-assoc, skip-zeros (x .labels) (s - x .labels) (suc w ∷ m .labels), e, r .spelled) refl;
       }
 
@@ -303,6 +318,8 @@ module _ (l : Lengths) (x : Sofar) (z : sizesOk (x .sizes) ≡ true) (v : Inv l 
         signs = λ h. absurd (omega arith);
         moves = r .moves;
         room = r .room;
+        live = r .live;
+        lively = r .lively;
         spelled = rw (skip-zeros (x .labels) (x .sizes .states - x .labels) (m .labels), r .spelled, ls, hb, e .2) refl;
       }
 
@@ -328,6 +345,8 @@ module _ (l : Lengths) (x : Sofar) (z : sizesOk (x .sizes) ≡ true) (v : Inv l 
         };
         moves = r .moves;
         room = r .room;
+        live = r .live;
+        lively = r .lively;
         spelled = rw (skip-zeros (x .labels) (x .sizes .states - x .labels) (m .labels), r .spelled, ls, hb) refl;
       }
     where
@@ -364,36 +383,63 @@ module _ (l : Lengths) (x : Sofar) (z : sizesOk (x .sizes) ≡ true) (v : Inv l 
   inv-move : (p : ℕ) → x .moves .count < min most-moves (l .moves) → Inv l (afterMove x p)
   inv-move p h = omega arith
 
+  inv-flag : Inv l (afterLive x)
+  inv-flag = omega arith
+
+-- What is still to come: the rest of a model, or the record that says that it is live, and then the rest.
+data Coming (l : Lengths) (x : Sofar) (m : Model) : List Rec → Type 0 where
+  said : {rs : List Rec} → Rest l x rs m → Coming l x m rs
+  unsaid : {rs : List Rec} → x .live ≡ 0 → x .labels ≡ 0 → Rest l (afterLive x) rs m → Coming l x m (liveRec ∷ rs)
+
+-- Once a state is passed, it is the rest of a model.
+no-flag : {l : Lengths} {x : Sofar} {m : Model} {rs : List Rec} → 1 ≤ x .labels → Coming l x m rs → Rest l x rs m
+no-flag h (said r) = r
+no-flag h (unsaid a b r) = absurd (omega arith)
+
 module _ (l : Lengths) where
   Back : State → List Rec → Model → Type 0
-  Back st rs m = (x : Sofar) → st ≡ inside x → sizesOk (x .sizes) ≡ true → Inv l x → Pure x → Rest l x rs m
+  Back st rs m = (x : Sofar) → st ≡ inside x → sizesOk (x .sizes) ≡ true → Inv l x → Pure x → Coming l x m rs
+
+  -- The record of a live model in front.
+  flag-back : (x : Sofar) (m : Model) (rs : List Rec) → Met (liveDemands x) → Coming l (afterLive x) m rs → Coming l x m (liveRec ∷ rs)
+  flag-back x m rs d (said r) = let k = simp tests at (d .0) in unsaid (k .1) (k .0) r
+  flag-back x m rs d (unsaid a b r) = absurd (omega arith)
 
   turn-back : (x : Sofar) (r : Rec) (rs : List Rec) (m : Model) (st : State) → sizesOk (x .sizes) ≡ true → Inv l x → Pure x → Writable r
-      → Stepped l x r (next st) → Back st rs m → Rest l x (r ∷ rs) (putIn x r m)
+      → Stepped l x r (next st) → Back st rs m → Coming l x (putIn x r m) (r ∷ rs)
   unfolding Back widths
   turn-back x r rs m st z v pu w (label e d) ih =
-      subst (λ (r : Rec). Rest l x (r ∷ rs) (putIn x r m)) (sym (rec-is r 2 e w))
-      (label-back l x z v (field r 0) (field r 1) d (ih _ refl z (inv-label l x z v (field r 0) (field r 1) d) pu))
+      said (subst (λ (r : Rec). Rest l x (r ∷ rs) (putIn x r m)) (sym (rec-is r 2 e w))
+      (label-back l x z v (field r 0) (field r 1) d (no-flag (omega arith) (ih _ refl z (inv-label l x z v (field r 0) (field r 1) d) pu))))
   turn-back x r rs m st z v pu w (block e d) ih =
-      subst (λ (r : Rec). Rest l x (r ∷ rs) (putIn x r m)) (sym (rec-is r 3 e w))
-      (block-back l x z v (field r 0) (field r 1) d (ih _ refl z (inv-block l x z v (field r 0) (field r 1) d) (λ b e. let q = simp tests at (d .0) in absurd (omega arith))))
+      let g = small (x .sizes) z in
+      said (subst (λ (r : Rec). Rest l x (r ∷ rs) (putIn x r m)) (sym (rec-is r 3 e w))
+      (block-back l x z v (field r 0) (field r 1) d (no-flag (omega arith) (ih _ refl z (inv-block l x z v (field r 0) (field r 1) d)
+      (λ b e. let q = simp tests at (d .0) in absurd (omega arith))))))
   turn-back x r rs m st z v pu w (equation e d) ih =
-      subst (λ (r : Rec). Rest l x (r ∷ rs) (putIn x r m)) (sym (rec-is r 4 e w))
-      (equation-back l x z v (field r 0) (field r 1) (field r 2) d (ih _ refl z (inv-equation l x z v (ltb-is _ _ .0 (d .0))) (λ b e. let q = ltb-is 0 (x .blocks .due) .0 (d .0) in absurd (omega arith))))
+      let g = small (x .sizes) z in
+      let q = ltb-is 0 (x .blocks .due) .0 (d .0) in
+      said (subst (λ (r : Rec). Rest l x (r ∷ rs) (putIn x r m)) (sym (rec-is r 4 e w))
+      (equation-back l x z v (field r 0) (field r 1) (field r 2) d (no-flag (omega arith) (ih _ refl z (inv-equation l x z v q) (λ b e. absurd (omega arith))))))
   turn-back x r rs m st z v pu w (move e d) ih =
-      subst (λ (r : Rec). Rest l x (r ∷ rs) (putIn x r m)) (sym (rec-is r 5 e w))
-      (move-back l x z v (field r 0) (field r 1) (field r 2) d (ih _ refl z (inv-move l x z v _ (ltb-is _ _ .0 (d .1 .1 .1 .0))) pu))
+      let g = small (x .sizes) z in
+      let q = simp tests at (d .0) in
+      said (subst (λ (r : Rec). Rest l x (r ∷ rs) (putIn x r m)) (sym (rec-is r 5 e w))
+      (move-back l x z v (field r 0) (field r 1) (field r 2) d (no-flag (omega arith) (ih _ refl z (inv-move l x z v _ (ltb-is _ _ .0 (d .1 .1 .1 .0))) pu))))
+  turn-back x r rs m st z v pu w (lives e d) ih =
+      subst (λ (r : Rec). Coming l x (putIn x r m) (r ∷ rs)) (sym (rec-is r 10 e w)) (flag-back x m rs d (ih _ refl z (inv-flag l x z v) pu))
   turn-back x r rs m st z v pu w (sign e d f) ih =
-      subst (λ (r : Rec). Rest l x (r ∷ rs) (putIn x r m)) (sym (rec-is r 11 e w))
-      (sign-back l x z v (field r 0) (field r 1) (field r 2) (field r 3) d (ih _ refl z (inv-sign l x z v (signOf r) d) f))
+      let g = small (x .sizes) z in
+      said (subst (λ (r : Rec). Rest l x (r ∷ rs) (putIn x r m)) (sym (rec-is r 11 e w))
+      (sign-back l x z v (field r 0) (field r 1) (field r 2) (field r 3) d (no-flag (omega arith) (ih _ refl z (inv-sign l x z v (signOf r) d) f))))
 
-  over-back : (x : Sofar) (r : Rec) → sizesOk (x .sizes) ≡ true → Inv l x → Pure x → Writable r → Stepped l x r over → Rest l x (r ∷ []) (lastOf (x .sizes))
+  over-back : (x : Sofar) (r : Rec) → sizesOk (x .sizes) ≡ true → Inv l x → Pure x → Writable r → Stepped l x r over → Rest l x (r ∷ []) (lastOf (x .sizes) (x .live))
   unfolding widths
-  over-back x r z v pu w (end e d) = subst (λ (r : Rec). Rest l x (r ∷ []) (lastOf (x .sizes))) (sym (rec-is r 6 e w)) (end-back l x z v pu d)
+  over-back x r z v pu w (end e d) = subst (λ (r : Rec). Rest l x (r ∷ []) (lastOf (x .sizes) (x .live))) (sym (rec-is r 6 e w)) (end-back l x z v pu d)
 
   backward : {st : State} {rs : List Rec} {m : Model} → Walks (step l) put last st rs m → AllWritable rs → Back st rs m
   unfolding Back put last
-  backward (done {r = r} e q) w x s z v pu = rw q (rw s (over-back x r z v pu (w .0) (rw (← s, e) at (stepped l x r))))
+  backward (done {r = r} e q) w x s z v pu = rw q (rw s (said (over-back x r z v pu (w .0) (rw (← s, e) at (stepped l x r)))))
   backward (more {st′ = st′} r {rs = rs} {b′ = m} e t q) w x s z v pu =
       rw q (rw s (turn-back x r rs m st′ z v pu (w .0) (rw (← s, e) at (stepped l x r)) (backward t (w .1))))
 
@@ -410,33 +456,38 @@ module _ (l : Lengths) where
         | inr t ↦ rw t refl
       ]
 
-  style-good : (z : Sizes) (es : List Equation) → sizesOk z ≡ true → (0 < z .blocks → equationsOk z 0 0 0 es ≡ true) → (z .blocks ≡ 0 → SignsLeft (started z) es)
+  style-good : (z : Sizes) (n : ℕ) (es : List Equation) → sizesOk z ≡ true → (0 < z .blocks → equationsOk z 0 0 0 es ≡ true) → (z .blocks ≡ 0 → SignsLeft (opened z n) es)
       → styleOk z (cond (signed z) (placed es) es) ≡ true
   unfolding styleOk
-  style-good z es ok f g =
+  style-good z n es ok f g =
       elim (tell true (signed z)) [
-        | inl t ↦ let s = g (eqb-is _ _ .0 t) in rw t (signs-in z (placed es) (placed-signs z es (let n = s .count in omega arith) (s .good) (s .pure)))
+        | inl t ↦ let s = g (eqb-is _ _ .0 t) in rw t (signs-in z (placed es) (placed-signs z es (let c = s .count in omega arith) (s .good) (s .pure)))
         | inr t ↦ rw t (f (eqb-pos (z .blocks) t))
       ]
 
-  whole : (r : Rec) (rs : List Rec) (m : Model) → Writable r → Met (sizesDemands l r) → Back (inside (started (sizesOf r))) rs m → Good (r ∷ rs) (settleStyle m)
-  unfolding wellFormed widths Back Good records
-  whole r rs m w d ih =
-      let g = small (sizesOf r) (d .1 .0) in
-      let a = ih (started (sizesOf r)) refl (d .1 .0) (omega arith) (λ b e. absurd (omega arith)) in
+  whole : (r : Rec) (rs : List Rec) (m : Model) (b : ℕ) → b ≤ 1 → Writable r → Met (sizesDemands l r) → Rest l (opened (sizesOf r) b) rs m → Good (r ∷ (liveRecs b ++ rs)) (settleStyle m)
+  unfolding wellFormed widths Good records
+  whole r rs m b few w d a =
       let same = a .same in
       let n : length (m .labels) ≡ sizesOf r .states = omega (arith, a .count) in
       let c : length (m .moves) ≤ most-moves = omega (arith, a .room) in
       let y = rec-is r 1 (eqb-is (r .kind) 1 .0 (d .0)) w in
-      let p : records m ≡ sizesRec (m .sizes) ∷ rs = rw (a .spelled, same) refl in (
-        ap (λ (r : Rec). r ∷ rs) y ∙ sym (same-records m ∙ p ∙ rw same refl),
-        rw same (simp and-is (((((d .1 .0, eqb-is _ _ .1 n), a .sets), style-good (sizesOf r) (m .equations) (d .1 .0) (a .equations) (a .signs)), a .moves), leb-is _ _ .1 c)),
+      let p : records m ≡ sizesRec (m .sizes) ∷ (liveRecs b ++ rs) = rw (a .spelled, same, a .live) refl in
+      let lively = sym (all-moving (sizesOf r) b (m .moves) (a .moves)) ∙ a .lively in (
+        ap (λ (r : Rec). r ∷ (liveRecs b ++ rs)) y ∙ sym (same-records m ∙ p ∙ rw same refl),
+        rw (same, a .live)
+            (simp and-is (((((d .1 .0, eqb-is _ _ .1 n), a .sets), style-good (sizesOf r) b (m .equations) (d .1 .0) (a .equations) (a .signs)), a .moves), (leb-is _ _ .1 c, (leb-is b 1 .1 few, lively)))),
         rw same (d .1 .1 .0),
         omega (arith, a .room),
       )
 
+  -- Live or not.
+  either-way : (r : Rec) (rs : List Rec) (m : Model) → Writable r → Met (sizesDemands l r) → Coming l (started (sizesOf r)) m rs → Good (r ∷ rs) (settleStyle m)
+  either-way r rs m w d (said a) = whole r rs m 0 (omega arith) w d a
+  either-way r rs m w d (unsaid {rs = t} e f a) = whole r t m 1 (omega arith) w d a
+
   first : {rs : List Rec} {m : Model} → Walks (step l) put last before rs m → AllWritable rs → Good rs (settleStyle m)
-  unfolding step put Good
+  unfolding step put Good Back
   first (done {r = r} e q) w =
       elim (judged (sizesDemands l r) (next (inside (started (sizesOf r))))) [
         | inl d ↦ let z : _≡_ {A = ℕ} 0 1 = cc in absurd (omega arith)
@@ -444,7 +495,10 @@ module _ (l : Lengths) where
       ]
   first (more {st′ = st′} r {rs = rs} {b′ = m} e t q) w =
       elim (judged (sizesDemands l r) (next (inside (started (sizesOf r))))) [
-        | inl d ↦ let s : st′ ≡ inside (started (sizesOf r)) = cc in rw q (whole r rs m (w .0) (d .0) (rw s at (backward t (w .1))))
+        | inl d ↦ let s : st′ ≡ inside (started (sizesOf r)) = cc in
+            let g = small (sizesOf r) (d .0 .1 .0) in
+            let b = rw s at (backward t (w .1)) in
+            rw q (either-way r rs m (w .0) (d .0) (b (started (sizesOf r)) refl (d .0 .1 .0) (omega arith) (λ b e. absurd (omega arith))))
         | inr d ↦ let z : _≡_ {A = ℕ} 0 1 = cc in absurd (omega arith)
       ]
 

@@ -1,4 +1,4 @@
--- Demand 1: a refusal changes nothing in any room lent, and every refusal has one of the paper's numbers 1 to 13.
+-- Demand 1: a refusal changes nothing in any room lent, and every refusal has one of the paper's numbers, 1 to 13 and 16.
 -- Assumes nothing.
 use mathlib.Core.Path.{_≡_, refl, sym}
 use mathlib.Core.Bool.{Bool, true, false, cond, _&&_}
@@ -13,9 +13,9 @@ use Rattle.laws.specs.RecordLaws.{never}
 use Rattle.rules.specs.Limits.{most-moves}
 use Rattle.rules.specs.Moves.{stampOf}
 use Rattle.rules.specs.Records.{Rec, field, Parts, ends, broken, part, parts, Outcome, refused, accepted, Turn, no, back, next, over, demand, onto, atEnd, onTurn, run}
-use Rattle.rules.specs.Model.{Model, guilty}
+use Rattle.rules.specs.Model.{Model, guilty, liveOk}
 use Rattle.rules.specs.Rooms.{Rooms, Lengths, lengthsOf}
-use Rattle.rules.specs.Load.{Sofar, State, before, inside, signedOf, signedDemands, afterSigned, askChains, settleStyle, sizesDemands, labelDemands, blockDemands, equationDemands, moveDemands, endDemands, step, put, last, readModel}
+use Rattle.rules.specs.Load.{Sofar, State, before, inside, signedOf, signedDemands, afterSigned, askChains, settleStyle, sizesDemands, labelDemands, blockDemands, equationDemands, moveDemands, endDemands, liveDemands, step, put, last, readModel}
 use Rattle.rules.specs.Batch.{Change, Batch, Place, first, after, changeDemands, stepBatch, putBatch, emptyBatch, readBatch, repeated, misplaced, unless, firstOf, edited, judge}
 use Rattle.rules.specs.Spelling.{encode}
 use Rattle.rules.specs.Values.{pair}
@@ -52,9 +52,12 @@ refusal-keeps = record {
     by-write m out n p (refused k q) e = refl
     by-write m out n p (accepted k) e = absurd (never (sym e))
 
--- One of the paper's numbers.
+-- The paper's numbers.
+abbrev pub numbers : List ℕ
+numbers = 1 ∷ 2 ∷ 3 ∷ 4 ∷ 5 ∷ 6 ∷ 7 ∷ 8 ∷ 9 ∷ 10 ∷ 11 ∷ 12 ∷ 13 ∷ 16 ∷ []
+
 abbrev pub paper : ℕ → Bool
-paper n = leb 1 n && leb n 13
+paper n = elem n numbers
 
 abbrev papers : List (ℕ × Bool) → Bool
 papers [] = true
@@ -136,7 +139,8 @@ step-told l (inside x) r =
     (either (eqb (r .kind) 4) _ _ (demand-told (equationDemands x a b c) _ refl tt)
     (either (eqb (r .kind) 5) _ _ (demand-told (moveDemands l x a b c) _ refl tt)
     (either (eqb (r .kind) 6) _ _ (demand-told (endDemands x) over refl tt)
-    (either (eqb (r .kind) 11) _ _ (demand-told (signedDemands x e) _ refl (chains-told (afterSigned x e))) refl)))))
+    (either (eqb (r .kind) 10) _ _ (demand-told (liveDemands x) _ refl tt)
+    (either (eqb (r .kind) 11) _ _ (demand-told (signedDemands x e) _ refl (chains-told (afterSigned x e))) refl))))))
 
 change-told : (z : Sizes) (p : Place) (r : Rec) → ToldTurn (stepBatch z p r)
 unfolding stepBatch
@@ -168,17 +172,19 @@ first-told : {B : Type 0} (o : Option (ℕ × ℕ)) (l : List (Option (ℕ × �
 first-told none l b h k = k
 first-told (some r) l b h k = h
 
-judge-told : (room : ℕ) (ms : List ℕ) (b : Batch) → Told (judge room ms b)
+judge-told : (s : Session) (room : ℕ) (ms : List ℕ) (b : Batch) → Told (judge s room ms b)
 unfolding judge
-judge-told room ms b =
+judge-told s room ms b =
     let right = unless 11 (eqb (b .stamp) (stampOf ms)) in
     let once = repeated [] 5 (b .changes) in
     let placed = misplaced ms 5 (b .changes) in
     let fits = unless 10 (leb (length (edited (b .changes) ms)) (min most-moves room)) in
-    first-told right (once ∷ placed ∷ fits ∷ []) b (unless-told 11 (eqb (b .stamp) (stampOf ms)) refl)
-    (first-told once (placed ∷ fits ∷ []) b (repeated-told [] 5 (b .changes))
-    (first-told placed (fits ∷ []) b (misplaced-told ms 5 (b .changes))
-    (first-told fits [] b (unless-told 10 (leb (length (edited (b .changes) ms)) (min most-moves room)) refl) tt)))
+    let lives = unless 16 (liveOk (s .live) (s .sizes .states) (edited (b .changes) ms)) in
+    first-told right (once ∷ placed ∷ fits ∷ lives ∷ []) b (unless-told 11 (eqb (b .stamp) (stampOf ms)) refl)
+    (first-told once (placed ∷ fits ∷ lives ∷ []) b (repeated-told [] 5 (b .changes))
+    (first-told placed (fits ∷ lives ∷ []) b (misplaced-told ms 5 (b .changes))
+    (first-told fits (lives ∷ []) b (unless-told 10 (leb (length (edited (b .changes) ms)) (min most-moves room)) refl)
+    (first-told lives [] b (unless-told 16 (liveOk (s .live) (s .sizes .states) (edited (b .changes) ms)) refl) tt))))
 
 -- Every refusal of the four calls has one of the paper's numbers.
 pub load-told : (l : Rooms) (bytes : List ℕ) → Told (load l bytes .answer)
@@ -204,7 +210,7 @@ unfolding batch judged readBatch
 batch-told s l bytes =
     go (judged s l bytes) (asked-told (sessionDemands s l) _ refl
     (then-told (readBatch (s .sizes) bytes) _ (run-told (stepBatch (s .sizes)) putBatch emptyBatch (change-told (s .sizes)) (parts bytes) first)
-    (judge-told (length (l .moves)) (held s l .moves))))
+    (judge-told s (length (l .moves)) (held s l .moves))))
   where
     go : (o : Outcome Batch) → Told o → Told (batchBy s l o .answer)
     go (refused n p) h = h

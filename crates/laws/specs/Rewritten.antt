@@ -44,7 +44,7 @@ unblocked z = record { states = z .states; actions = z .actions; propositions = 
 
 -- The model with a sign on each equation, which is the kind of its block.
 abbrev pub rewritten : Model → Model
-rewritten m = record { sizes = unblocked (m .sizes); labels = m .labels; equations = placed (m .equations); moves = m .moves }
+rewritten m = record { sizes = unblocked (m .sizes); live = m .live; labels = m .labels; equations = placed (m .equations); moves = m .moves }
 
 -- Neither the test on sizes nor the one on moves asks for blocks.
 sizes-same : (z : Sizes) → sizesOk z ≡ true → sizesOk (unblocked z) ≡ true
@@ -121,7 +121,7 @@ module _ (m : Model) (w : WellFormed m) where
   rewritten-good =
       let k = simp and-is at w in
       and-in (and-in (and-in (and-in (and-in (sizes-same (m .sizes) (k .0 .0 .0 .0 .0)) (k .0 .0 .0 .0 .1)) (k .0 .0 .0 .1)) (signs-in (unblocked (m .sizes)) (placed (m .equations)) signs))
-      (moves-same (m .sizes) 0 (m .moves) ∙ k .0 .1)) (k .1)
+      (moves-same (m .sizes) 0 (m .moves) ∙ k .0 .1)) (simp and-is (k .1))
 
   -- Each pair has the equation and the leanings that it had.
   same-term : (p : ℕ) → termAt (rewritten m) p ≡ termAt m p

@@ -27,6 +27,7 @@ sessionOk s l = countsOk s l && roomsOk (lengthsOf l) (s .sizes) && restOk s l
 -- The rooms hold the model m.
 pub record Holds (s : Session) (l : Rooms) (m : Model) : Type 0 where
   pub sizes : m .sizes ≡ s .sizes
+  pub live : m .live ≡ s .live
   pub labels : take (s .sizes .states) (l .labels) ≡ m .labels
   pub equations : take (s .sizes .variables) (l .equations) ≡ map word (m .equations)
   pub moves : take (s .moves) (l .moves) ≡ m .moves
@@ -72,11 +73,12 @@ pub session-holds : (s : Session) (l : Rooms) → sessionOk s l ≡ true → Wel
 unfolding countsOk restOk
 session-holds s l h =
     let k = simp and-is at h in
-    let c = leb-is (s .moves) (min most-moves (length (l .moves))) .0 (k .0 .0 .1) in
+    let c = leb-is (s .moves) (min most-moves (length (l .moves))) .0 (k .0 .0 .1 .1) in
     let n : s .moves ≡ length (take (s .moves) (l .moves)) = rw length-take (omega arith) in (
       k .1 .0 .0 .0,
       record {
         sizes = refl;
+        live = refl;
         labels = refl;
         equations = sym (words _);
         moves = refl;
@@ -99,17 +101,18 @@ holds-session s l m w h = (e, ok)
         let k = simp and-is at w in
         let u : map unword (take (s .sizes .variables) (l .equations)) ≡ m .equations =
         ap (map unword) (h .equations) ∙ signs-unwords (m .sizes) (k .0 .0 .0 .0 .0) (m .equations) (style-sign (m .sizes) (m .equations) (k .0 .0 .1)) in
-        λ i. record { sizes = sym (h .sizes) i; labels = h .labels i; equations = u i; moves = h .moves i }
+        λ i. record { sizes = sym (h .sizes) i; live = sym (h .live) i; labels = h .labels i; equations = u i; moves = h .moves i }
 
     ok : sessionOk s l ≡ true
     ok =
         let k = simp and-is at w in
-        let c = leb-is (length (m .moves)) most-moves .0 (k .1) in
+        let c = leb-is (length (m .moves)) most-moves .0 (k .1 .0) in
+        let b = rw (h .live) at (k .1 .1 .0) in
         let n : s .moves ≤ min most-moves (length (l .moves)) = omega (arith, h .count, h .room) in
         let z = rw (h .sizes) at (k .0 .0 .0 .0 .0) in
         let f : wellFormed (held s l) ≡ true = subst (λ (x : Model). wellFormed x ≡ true) (sym e) w in
         let t : s .stamp ≡ stampOf (take (s .moves) (l .moves)) = rw (h .moves) (h .stamp) in
-        and-in (and-in (and-in z (leb-is _ _ .1 n)) (h .rooms)) (and-in (and-in (and-in f (h .values)) (h .marks)) (eqb-is _ _ .1 t))
+        and-in (and-in (and-in z (and-in b (leb-is _ _ .1 n))) (h .rooms)) (and-in (and-in (and-in f (h .values)) (h .marks)) (eqb-is _ _ .1 t))
 
 -- A room keeps its length when its first places are filled.
 pub fill-length : (new room : List ℕ) → length new ≤ length room → length (fill new room) ≡ length room
@@ -147,6 +150,7 @@ module _ (m : Model) (values : List ℕ) (l : Rooms) where
       let e4 = fill-length zs (l .marks) (omega arith) in
       record {
         sizes = refl;
+        live = refl;
         labels = take-at (m .labels) _ (m .sizes .states) ls;
         equations = take-at (map word (m .equations)) _ (m .sizes .variables) en;
         moves = take-at (m .moves) _ (length (m .moves)) refl;
@@ -169,11 +173,11 @@ module _ (s : Session) (l : Rooms) (m n : Model) (values marks : List ℕ) where
     moves = fill (n .moves ++ replicate (s .moves - length (n .moves)) 0) (l .moves);
   }
 
-  pub moved-holds : Holds s l m → n .sizes ≡ m .sizes → n .labels ≡ m .labels → n .equations ≡ m .equations
+  pub moved-holds : Holds s l m → n .sizes ≡ m .sizes → n .live ≡ m .live → n .labels ≡ m .labels → n .equations ≡ m .equations
       → length values ≡ pairsOf (m .sizes) → all (λ v. leb v 1) values ≡ true → length marks ≡ pairsOf (m .sizes) → all (λ v. leb v 3) marks ≡ true
       → length (n .moves) ≤ length (l .moves) → Holds (sessionOf n) movedTo n
   unfolding roomsOk
-  moved-holds h ez el ee vn vb kn kb c =
+  moved-holds h ez eb el ee vn vb kn kb c =
       let r = simp tests at (h .rooms) in
       let z : n .sizes ≡ s .sizes = ez ∙ h .sizes in
       let pv : length values ≡ pairsOf (s .sizes) = vn ∙ ap pairsOf (h .sizes) in
@@ -185,6 +189,7 @@ module _ (s : Session) (l : Rooms) (m n : Model) (values marks : List ℕ) where
       let e5 = fill-length (n .moves ++ replicate (s .moves - length (n .moves)) 0) (l .moves) (simp (length-append, length-replicate) (omega arith)) in
       record {
         sizes = refl;
+        live = refl;
         labels = rw (z, el) (h .labels);
         equations = rw (z, ee) (h .equations);
         moves = rw append-assoc (take-at (n .moves) _ (length (n .moves)) refl);

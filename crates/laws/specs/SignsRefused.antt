@@ -16,14 +16,15 @@ use Rattle.rules.specs.Limits.{sizesOk}
 use Rattle.rules.specs.Model.{Equation, labelOk, signOk, equationIn, namesIn, guilty, numbered}
 use Rattle.rules.specs.Records.{Rec, widths, bytes, bytesOf, Parts, ends, broken, part, partsFrom, Turn, no, back, next, over, demand, Outcome, refused, accepted, onto, atEnd, run, parts, field}
 use Rattle.rules.specs.Rooms.{Lengths, roomsOk}
-use Rattle.rules.specs.Load.{Sofar, State, before, inside, started, labelDemands, blockDemands, equationDemands, moveDemands, endDemands, sizesDemands, afterLabel, afterEquation, signOf, signedDemands, afterSigned, askChains, step, put, last, settleStyle, readModel}
-use Rattle.rules.specs.Spelling.{sizesRec, labelRecs, signedRec, signedRecs}
+use Rattle.rules.specs.Load.{Sofar, State, before, inside, started, labelDemands, blockDemands, equationDemands, moveDemands, endDemands, liveDemands, sizesDemands, afterLabel, afterEquation, signOf, signedDemands, afterSigned, askChains, step, put, last, settleStyle, readModel}
+use Rattle.rules.specs.Spelling.{sizesRec, liveRec, liveRecs, labelRecs, signedRec, signedRecs}
 use Rattle.rules.specs.declared.Sizes.{Sizes}
 use Rattle.laws.specs.RecordLaws.{AllWritable, Writable, Met, met, size, part-written, never}
 use Rattle.laws.specs.ChainLaws.{Mixed, mixed-in, Guilty, guilty-lowest}
 use Rattle.laws.specs.Placed.{withBlock, numbered-length, guilty-same}
+use Rattle.laws.specs.Hanging.{opened}
 use Rattle.laws.specs.Walks.{small}
-use Rattle.laws.specs.ReadAccepts.{append, labels-w, signs-w}
+use Rattle.laws.specs.ReadAccepts.{append, live-w, labels-w, signs-w}
 use Rattle.laws.specs.SpellingLength.{sizeAll, all-length, size-append, size-signs}
 use Rattle.laws.specs.OneKind.{kindAt}
 use Rattle.laws.specs.Named.{signs-inside}
@@ -51,7 +52,7 @@ module _ {S B : Type 0} (turn : S → Rec → Turn S) (say : S → Rec → B →
 
 -- Labels are passed: the state after them differs in the labels alone.
 atLabel : Sofar → ℕ → Sofar
-atLabel x n = record { sizes = x .sizes; labels = n; blocks = x .blocks; signs = x .signs; moves = x .moves }
+atLabel x n = record { sizes = x .sizes; live = x .live; labels = n; blocks = x .blocks; signs = x .signs; moves = x .moves }
 
 -- The equations as they are read, before their components are known.
 raws : ℕ → List Equation → List Equation
@@ -132,9 +133,11 @@ module _ (l : Lengths) where
       ih ∙ ap₂ (λ (k : List Equation) (a : ℕ). refused 5 (a - 5 * (length k - suc (lowest (length k) (guilty k))))) a c in
       rw (append-assoc, part-written (signedRec e) p (bytesOf (signedRecs (f ∷ es)) ++ rest) (w .0)) (rw (t, u, ih′) refl)
 
--- The text of a model with signs, as far as its last equation, whatever comes after: sizes, labels and equations in range.
-pub record Text (l : Lengths) (z : Sizes) (ls : List ℕ) (es : List Equation) : Type 0 where
+-- The text of a model with signs, as far as its last equation, whatever comes after: sizes, labels and equations in range, and
+-- live is 1 where the model is said to be live.
+pub record Text (l : Lengths) (z : Sizes) (live : ℕ) (ls : List ℕ) (es : List Equation) : Type 0 where
   pub sizes : sizesOk z ≡ true
+  pub flag : live ≤ 1
   pub rooms : roomsOk l z ≡ true
   pub signs : z .blocks ≡ 0
   pub labels : length ls ≡ z .states
@@ -142,9 +145,12 @@ pub record Text (l : Lengths) (z : Sizes) (ls : List ℕ) (es : List Equation) :
   pub count : length es ≡ z .variables
   pub good : (j : ℕ) → j < length es → signOk z (equationIn es j) ≡ true
 
--- The records before equation w.
-abbrev pub upTo : Sizes → List ℕ → List Equation → ℕ → List Rec
-upTo z ls es w = sizesRec z ∷ (labelRecs 0 ls ++ signedRecs (take w es))
+-- The records before the first equation, and those before equation w.
+abbrev pub upToLabels : Sizes → ℕ → List ℕ → List Rec
+upToLabels z live ls = sizesRec z ∷ (liveRecs live ++ labelRecs 0 ls)
+
+abbrev pub upTo : Sizes → ℕ → List ℕ → List Equation → ℕ → List Rec
+upTo z live ls es w = upToLabels z live ls ++ signedRecs (take w es)
 
 -- Signs are 0 or 1, past the last equation too.
 small-kinds : (z : Sizes) (es : List Equation) → ((j : ℕ) → j < length es → signOk z (equationIn es j) ≡ true) → (y : ℕ) → kindAt es y ≤ 1
@@ -158,41 +164,58 @@ found : (z : Sizes) (es : List Equation) → length es ≡ z .variables → ((j 
 unfolding guilty
 found z es n g h = guilty-lowest (length es) (namesIn es) (signs-inside z es n g) (kindAt es) (small-kinds z es g) h
 
-module _ (l : Lengths) (z : Sizes) (ls : List ℕ) (es : List Equation) (text : Text l z ls es) where
+module _ (l : Lengths) (z : Sizes) (live : ℕ) (ls : List ℕ) (es : List Equation) (text : Text l z live ls es) where
   -- The test is asked of the equations as they were read.
   asked : (raw : List Equation) → raw ≡ raws 0 es → (length raw ≡ length es) × (_≡_ {A = ℕ → Bool} (guilty raw) (guilty es))
   unfolding raws
   asked raw e = (ap length e ∙ numbered-length (λ j. 0) 0 es, ap guilty e ∙ guilty-same (λ j. 0) es)
 
+  -- The record of a live model, where it is one, is passed.
+  flag-steps : {rs : List Rec} {end : State} → Steps (step l) put last (inside (opened z live)) rs end → Steps (step l) put last (inside (started z)) (liveRecs live ++ rs) end
+  unfolding step
+  flag-steps w =
+      elim (tell true (eqb live 1)) [
+        | inl t ↦ rw t (step-on {st = inside (started z)} {st′ = inside (opened z live)} liveRec (rw (eqb-is live 1 .0 t) refl) w)
+        | inr t ↦
+            let d = eqb-no live 1 .0 t in
+            let f = text .flag in
+            let e : live ≡ 0 = omega arith in
+            rw t (rw e at w)
+      ]
+
+  -- The records before the first equation fit their widths.
+  labels-writable : AllWritable (upToLabels z live ls)
+  labels-writable = (
+    sizes-writable z (text .sizes),
+    append (liveRecs live) (labelRecs 0 ls) (live-w live) (labels-w z (text .sizes) 0 ls (let k = text .labels in omega arith) (text .sets)),
+  )
+
   refused-at : (rest : List ℕ) → someBelow (length es) (guilty es) ≡ true
-      → readModel l (bytesOf (sizesRec z ∷ (labelRecs 0 ls ++ signedRecs es)) ++ rest)
-      ≡ refused 5 (size (sizesRec z) + sizeAll (labelRecs 0 ls) + 5 * lowest (length es) (guilty es))
+      → readModel l (bytesOf (upToLabels z live ls ++ signedRecs es) ++ rest) ≡ refused 5 (sizeAll (upToLabels z live ls) + 5 * lowest (length es) (guilty es))
   unfolding readModel step raws atLabel
   refused-at rest m =
       let s = small z (text .sizes) in
       let c = text .count in
-      let t = labels-steps l ls 0 (started z) (let k = text .labels in omega arith) (text .sets) refl refl in
-      let x = atLabel (started z) (t .0) in
+      let t = labels-steps l ls 0 (opened z live) (let k = text .labels in omega arith) (text .sets) refl refl in
+      let x = atLabel (opened z live) (t .0) in
       let first : step l before (sizesRec z) ≡ next (inside (started z)) = met (sizesDemands l (sizesRec z)) _ (refl, (text .sizes, (text .rooms, tt))) in
-      let walk : Steps (step l) put last before (sizesRec z ∷ labelRecs 0 ls) (inside x) = step-on (sizesRec z) first (t .1) in
+      let walk : Steps (step l) put last before (upToLabels z live ls) (inside x) = step-on (sizesRec z) first (flag-steps (t .1)) in
       let ws = signs-w z (text .sizes) es (text .good) in
-      let wl = labels-w z (text .sizes) 0 ls (let k = text .labels in omega arith) (text .sets) in
       let q = asked (raws 0 es) refl in
       let m′ : someBelow (length (raws 0 es)) (guilty (raws 0 es)) ≡ true = ap₂ someBelow (q .0) (q .1) ∙ m in
-      let p = 0 + sizeAll (sizesRec z ∷ labelRecs 0 ls) in
+      let p = 0 + sizeAll (upToLabels z live ls) in
       let low : lowest (length (raws 0 es)) (guilty (raws 0 es)) ≡ lowest (length es) (guilty es) = ap₂ lowest (q .0) (q .1) in
       let b = lowest-some (length es) (guilty es) m .below in
-      let at : place l p (length es) (raws 0 es) ≡ size (sizesRec z) + sizeAll (labelRecs 0 ls) + 5 * lowest (length es) (guilty es) = let n = q .0 in omega arith in
+      let at : place l p (length es) (raws 0 es) ≡ sizeAll (upToLabels z live ls) + 5 * lowest (length es) (guilty es) = let n = q .0 in omega arith in
       let e = signs-back l es 0 p x rest (omega arith) (omega arith) (text .signs) (text .good) ws m′ in
-      let r = steps-refused (step l) put last walk (sizes-writable z (text .sizes), wl) 0 5 (place l p (length es) (raws 0 es)) (bytesOf (signedRecs es) ++ rest) e in
-      ap (onto settleStyle) (ap (λ (s : List ℕ). run (step l) put last before (parts s)) (bytes-append (sizesRec z ∷ labelRecs 0 ls) (signedRecs es) rest) ∙ r) ∙ ap (refused 5) at
+      let r = steps-refused (step l) put last walk labels-writable 0 5 (place l p (length es) (raws 0 es)) (bytesOf (signedRecs es) ++ rest) e in
+      ap (onto settleStyle) (ap (λ (s : List ℕ). run (step l) put last before (parts s)) (bytes-append (upToLabels z live ls) (signedRecs es) rest) ∙ r) ∙ ap (refused 5) at
 
-  place-at : (w : ℕ) → w < length es → length (bytesOf (upTo z ls es w)) ≡ size (sizesRec z) + sizeAll (labelRecs 0 ls) + 5 * w
+  place-at : (w : ℕ) → w < length es → length (bytesOf (upTo z live ls es w)) ≡ sizeAll (upToLabels z live ls) + 5 * w
   place-at w h =
-      let wl = labels-w z (text .sizes) 0 ls (let k = text .labels in omega arith) (text .sets) in
       let ws = signs-w z (text .sizes) (take w es) (take-good z es w (text .good)) in
-      let a = all-length (upTo z ls es w) (sizes-writable z (text .sizes), append (labelRecs 0 ls) (signedRecs (take w es)) wl ws) in
-      let b = size-append (labelRecs 0 ls) (signedRecs (take w es)) in
+      let a = all-length (upTo z live ls es w) (append (upToLabels z live ls) (signedRecs (take w es)) labels-writable ws) in
+      let b = size-append (upToLabels z live ls) (signedRecs (take w es)) in
       let c = size-signs (take w es) in
       let d = length-take w es in
       omega arith
@@ -200,7 +223,7 @@ module _ (l : Lengths) (z : Sizes) (ls : List ℕ) (es : List Equation) (text : 
   -- Where some closed chain holds both signs, the load is refused with 5, at the record of the lowest equation on such a chain.
   pub mixed-refused : (rest : List ℕ) (x : ℕ) → x < length es → Mixed (namesIn es) (kindAt es) x
       → (w : ℕ) × Guilty (length es) (namesIn es) (kindAt es) w
-      × (readModel l (bytesOf (sizesRec z ∷ (labelRecs 0 ls ++ signedRecs es)) ++ rest) ≡ refused 5 (length (bytesOf (upTo z ls es w))))
+      × (readModel l (bytesOf (upToLabels z live ls ++ signedRecs es) ++ rest) ≡ refused 5 (length (bytesOf (upTo z live ls es w))))
   unfolding guilty
   mixed-refused rest x h c =
       let names = signs-inside z es (text .count) (text .good) in
@@ -280,9 +303,12 @@ does l x r s =
             | inl t ↦ rw t (by l x r (moveDemands l x (field r 0) (field r 1) (field r 2)) _ refl (λ m. goes refl (record { signs = s .signs; due = s .due; count = s .count; good = s .good })))
             | inr t ↦ rw t (elim (tell true (eqb (r .kind) 6)) [
               | inl t ↦ rw t (by l x r (endDemands x) _ refl (λ m. stops))
-              | inr t ↦ rw t (elim (tell true (eqb (r .kind) 11)) [
-                | inl t ↦ rw t (by l x r (signedDemands x (signOf r)) _ refl (λ m. asks l x r s (eqb-is _ _ .0 t) m))
-                | inr t ↦ rw t (refuses {n = 2} (λ e. absurd (omega arith)))
+              | inr t ↦ rw t (elim (tell true (eqb (r .kind) 10)) [
+                | inl t ↦ rw t (by l x r (liveDemands x) _ refl (λ m. goes refl (record { signs = s .signs; due = s .due; count = s .count; good = s .good })))
+                | inr t ↦ rw t (elim (tell true (eqb (r .kind) 11)) [
+                  | inl t ↦ rw t (by l x r (signedDemands x (signOf r)) _ refl (λ m. asks l x r s (eqb-is _ _ .0 t) m))
+                  | inr t ↦ rw t (refuses {n = 2} (λ e. absurd (omega arith)))
+                ])
               ])
             ])
           ])

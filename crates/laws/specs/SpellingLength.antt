@@ -7,12 +7,12 @@ use Prim.Native.Nat.{ℕ, zero, suc, _+_, _*_, _/_, _≤_}
 use native.Mathlib.Omega.{arith}
 use lib.ListN.{length, length-append}
 use lib.Dec.{eqb}
-use Rattle.lists.specs.Tests.{tests, tell, and-is, eqb-is}
+use Rattle.lists.specs.Tests.{tests, tell, and-is, eqb-is, leb-is}
 use Rattle.rules.specs.Model.{Equation, Model, equationsOk, wellFormed, WellFormed, signed, styleOk}
 use Rattle.rules.specs.Records.{Rec, widths, digits, writes, bytesOf, accepted}
 use Rattle.rules.specs.Rooms.{Lengths, roomsOk}
 use Rattle.rules.specs.Load.{readModel}
-use Rattle.rules.specs.Spelling.{labelRecs, equationRecs, signedRecs, styleRecs, moveRecs, records, encode}
+use Rattle.rules.specs.Spelling.{liveRecs, labelRecs, equationRecs, signedRecs, styleRecs, moveRecs, records, encode}
 use Rattle.rules.specs.declared.Sizes.{Sizes}
 use Rattle.laws.specs.RecordLaws.{AreBytes, AllWritable, len-writes, size}
 use Rattle.laws.specs.ReadAccepts.{read-accepts, records-w}
@@ -118,13 +118,22 @@ size-style z es h =
       | inr t ↦ let n = size-equations z 0 0 0 es (rw t at h) in rw t (omega arith)
     ]
 
+-- The record of a live model takes one byte.
+pub size-live : (n : ℕ) → n ≤ 1 → sizeAll (liveRecs n) ≡ n
+unfolding widths size
+size-live zero h = refl
+size-live (suc zero) h = refl
+size-live (suc (suc n)) h = absurd (omega arith)
+
 -- The length of a model's spelling.
 pub encode-length : (m : Model) → WellFormed m
-    → length (encode m) ≡ 8 + 7 * labelled (m .labels) + 3 * m .sizes .blocks + equationSize (m .sizes) * m .sizes .variables + 6 * length (m .moves)
+    → length (encode m) ≡ 8 + m .live + 7 * labelled (m .labels) + 3 * m .sizes .blocks + equationSize (m .sizes) * m .sizes .variables + 6 * length (m .moves)
 unfolding wellFormed records widths size
 encode-length m h =
     let k = simp and-is at h in
     let a = all-length (records m) (records-w m h) in
+    let n = size-live (m .live) (leb-is (m .live) 1 .0 (k .1 .1 .0)) in
+    let g = size-append (liveRecs (m .live)) (labelRecs 0 (m .labels) ++ (styleRecs (m .sizes) (m .equations) ++ moveRecs (m .moves))) in
     let b = size-append (labelRecs 0 (m .labels)) (styleRecs (m .sizes) (m .equations) ++ moveRecs (m .moves)) in
     let c = size-append (styleRecs (m .sizes) (m .equations)) (moveRecs (m .moves)) in
     let d = size-labels 0 (m .labels) in

@@ -15,10 +15,11 @@ use Rattle.rules.specs.Moves.{pack, source, action, target}
 use Rattle.rules.specs.Model.{Equation, Model, labelOk, moveOk, operandsOk, namesOk, runOf, equationsOk, movesOk, wellFormed, signed, signOk, equationIn, guilty, numbered, styleOk}
 use Rattle.rules.specs.Records.{Rec, next, over}
 use Rattle.rules.specs.Rooms.{Lengths, roomsOk}
-use Rattle.rules.specs.Load.{Sofar, State, before, inside, started, movesDue, blockFits, labelDemands, blockDemands, equationDemands, moveDemands, endDemands, sizesDemands, afterLabel, afterBlock, afterEquation, afterMove, signedDemands, afterSigned, askChains, step, put, last}
-use Rattle.rules.specs.Spelling.{labelRecs, equationRec, blockRec, equationRecs, moveRec, moveRecs, records, sizesRec, signedRec, signedRecs, styleRecs}
+use Rattle.rules.specs.Load.{Moves, Sofar, State, before, inside, started, movesDue, blockFits, labelDemands, blockDemands, equationDemands, moveDemands, endDemands, sizesDemands, afterLabel, afterBlock, afterEquation, afterMove, signedDemands, afterSigned, askChains, step, put, last}
+use Rattle.rules.specs.Spelling.{labelRecs, equationRec, blockRec, equationRecs, moveRec, moveRecs, records, sizesRec, signedRec, signedRecs, styleRecs, liveRec, liveRecs}
 use Rattle.rules.specs.declared.Sizes.{Sizes}
 use Rattle.laws.specs.RecordLaws.{Walks, done, more, met}
+use Rattle.laws.specs.Hanging.{movingOver, all-moving, opened}
 use Rattle.laws.specs.Placed.{withBlock, numbered-length, guilty-same, signs-out}
 
 -- A list without length is empty, and a number that is not 0 is above it.
@@ -85,25 +86,32 @@ module _ (l : Lengths) where
   go-on : (x y : Sofar) (r : Rec) {rs : List Rec} {b b′ : Model} → step l (inside x) r ≡ next (inside y) → W (inside y) rs b′ → b ≡ put (inside x) r b′ → W (inside x) (r ∷ rs) b
   go-on x y r e w q = more r e w q
 
-  moves-in : (x : Sofar) (ms : List ℕ) → sizesOk (x .sizes) ≡ true → movesDue x ≡ true → movesOk (x .sizes) (x .moves .least) ms ≡ true
-      → x .moves .count + length ms ≤ min most-moves (l .moves)
-      → W (inside x) (moveRecs ms) (record { sizes = x .sizes; labels = []; equations = []; moves = ms })
+  -- The moves ms are still to come, after those of w: in range and in order, there is room for them, and in a live model each
+  -- state has a move with them.
+  record MovesLeft (z : Sizes) (live : ℕ) (w : Moves) (ms : List ℕ) : Type 0 where
+    order : movesOk z (w .least) ms ≡ true
+    room : w .count + length ms ≤ min most-moves (l .moves)
+    lively : cond (eqb live 1) (eqb (movingOver (w .moving) ms) (z .states)) true ≡ true
+
+  moves-in : (x : Sofar) (ms : List ℕ) → sizesOk (x .sizes) ≡ true → movesDue x ≡ true → MovesLeft (x .sizes) (x .live) (x .moves) ms
+      → W (inside x) (moveRecs ms) (record { sizes = x .sizes; live = x .live; labels = []; equations = []; moves = ms })
   unfolding step put last
-  moves-in x [] z d o n = done (met (endDemands x) over (d, tt)) refl
-  moves-in x (p ∷ ms) z d o n =
-      let k = simp and-is at o in
+  moves-in x [] z d o = done (met (endDemands x) over (d, (o .lively, tt))) refl
+  moves-in x (p ∷ ms) z d o =
+      let n = o .room in
+      let k = simp and-is at (o .order) in
       let q = packed (x .sizes) p z (k .0 .1) in
       let f : x .moves .count < min most-moves (l .moves) = omega arith in
       let e : step l (inside x) (moveRec p) ≡ next (inside (afterMove x p)) =
       met (moveDemands l x (source p) (action p) (target p)) _ (d, (k .0 .1, (rw q (k .0 .0), (ltb-is _ _ .1 f, tt)))) ∙ rw q refl in
-      go-on x (afterMove x p) (moveRec p) e (moves-in (afterMove x p) ms z d (k .1) (omega arith)) (rw q refl)
+      go-on x (afterMove x p) (moveRec p) e (moves-in (afterMove x p) ms z d (record { order = k .1; room = omega arith; lively = o .lively })) (rw q refl)
 
   labelled : Sofar → ℕ → Sofar
-  labelled x n = record { sizes = x .sizes; labels = n; blocks = x .blocks; signs = x .signs; moves = x .moves }
+  labelled x n = record { sizes = x .sizes; live = x .live; labels = n; blocks = x .blocks; signs = x .signs; moves = x .moves }
 
   -- What is left to say.
   rest : Sofar → List ℕ → List Equation → List ℕ → Model
-  rest x ls es ms = record { sizes = x .sizes; labels = ls; equations = es; moves = ms }
+  rest x ls es ms = record { sizes = x .sizes; live = x .live; labels = ls; equations = es; moves = ms }
 
   block-fits : (x : Sofar) (n : ℕ) → 0 < n → x .blocks .equations + n ≤ x .sizes .variables
       → (x .sizes .blocks ≤ suc (x .blocks .count) → x .blocks .equations + n ≡ x .sizes .variables) → blockFits x n ≡ true
@@ -126,15 +134,14 @@ module _ (l : Lengths) where
 
   equations-in : (ms : List ℕ) (x : Sofar) (es : List Equation) → sizesOk (x .sizes) ≡ true → 0 < x .sizes .blocks
       → equationsOk (x .sizes) (x .blocks .equations) (x .blocks .count) (x .blocks .kind) es ≡ true → x .blocks .due ≡ runOf (x .blocks .count) es
-      → (x .blocks .count ≡ 0) ⊎ (x .labels ≡ x .sizes .states)
-      → movesOk (x .sizes) (x .moves .least) ms ≡ true → x .moves .count + length ms ≤ min most-moves (l .moves)
+      → (x .blocks .count ≡ 0) ⊎ (x .labels ≡ x .sizes .states) → MovesLeft (x .sizes) (x .live) (x .moves) ms
       → W (inside x) (equationRecs (x .blocks .count) es ++ moveRecs ms) (rest x (replicate (x .sizes .states - x .labels) 0) es ms)
   unfolding step put last rest
-  equations-in ms x [] z bl h d i o n =
+  equations-in ms x [] z bl h d i o =
       let k = simp tests at h in
       let b = small (x .sizes) z in
-      rw (none-left x (omega arith) i) (moves-in x ms z (and-in (and-in (eqb-is _ _ .1 d) (eqb-is _ _ .1 (k .1))) (eqb-is _ _ .1 (k .0))) o n)
-  equations-in ms x (e ∷ es) z bl h d i o n =
+      rw (none-left x (omega arith) i) (moves-in x ms z (and-in (and-in (eqb-is _ _ .1 d) (eqb-is _ _ .1 (k .1))) (eqb-is _ _ .1 (k .0))) o)
+  equations-in ms x (e ∷ es) z bl h d i o =
       let f = simp and-is at h in
       elim (tell true (eqb (suc (e .block)) (x .blocks .count))) [
         | inl t ↦
@@ -143,7 +150,7 @@ module _ (l : Lengths) where
             let k = eqb-is (e .kind) (x .blocks .kind) .0 g in
             let u : x .blocks .due ≡ suc (runOf (x .blocks .count) es) = rw t at d in
             rw t (equation-in x _ e es ms (equationRecs (x .blocks .count) es ++ moveRecs ms) (omega arith) (f .0 .0 .1) (rw (u, ← c) (f .0 .1)) (omega arith) k
-            (equations-in ms (afterEquation x) es z bl (rw (← c, ← k) (f .1)) (omega arith) i o n))
+            (equations-in ms (afterEquation x) es z bl (rw (← c, ← k) (f .1)) (omega arith) i o))
         | inr t ↦
             let g = simp and-is at (rw t at (f .0 .0 .0)) in
             let c = eqb-is (e .block) (x .blocks .count) .0 (g .0 .0) in
@@ -158,7 +165,7 @@ module _ (l : Lengths) where
             let b : e .block ≡ suc (x .blocks .count) - 1 = omega arith in
             let w : W (inside (afterEquation y)) (equationRecs (suc (e .block)) es ++ moveRecs ms) (rest x [] es ms) =
             subst (λ (k : ℕ). W (inside (afterEquation y)) (equationRecs (suc k) es ++ moveRecs ms) (rest x [] es ms)) (sym c)
-            (rw s0 at (equations-in ms (afterEquation y) es z bl (rw c at (f .1)) (rw c (omega arith)) (inr refl) o n)) in
+            (rw s0 at (equations-in ms (afterEquation y) es z bl (rw c at (f .1)) (rw c (omega arith)) (inr refl) o)) in
             rw t (go-on x y (blockRec (e .kind) (suc r))
             (met (blockDemands x (e .kind) (suc r)) _ (and-in (eqb-is _ _ .1 (rw t at d)) (g .0 .1), (block-fits x (suc r) (omega arith) (omega arith) full, (g .1, tt))))
             (equation-in y [] e es ms _ (omega arith) (f .0 .0 .1) (f .0 .1) b refl w) (rw append-nil refl))
@@ -178,16 +185,15 @@ module _ (l : Lengths) where
   signs-in : (ms : List ℕ) (x : Sofar) (i : ℕ) (es : List Equation) → sizesOk (x .sizes) ≡ true → x .sizes .blocks ≡ 0 → x .blocks .count ≡ 0 → x .blocks .due ≡ 0
       → x .blocks .equations + length es ≡ x .sizes .variables → (0 < length es) ⊎ (x .labels ≡ x .sizes .states)
       → ((j : ℕ) → j < length es → signOk (x .sizes) (equationIn es j) ≡ true)
-      → someBelow (length (x .signs ++ numbered raw i es)) (guilty (x .signs ++ numbered raw i es)) ≡ false
-      → movesOk (x .sizes) (x .moves .least) ms ≡ true → x .moves .count + length ms ≤ min most-moves (l .moves)
+      → someBelow (length (x .signs ++ numbered raw i es)) (guilty (x .signs ++ numbered raw i es)) ≡ false → MovesLeft (x .sizes) (x .live) (x .moves) ms
       → W (inside x) (signedRecs es ++ moveRecs ms) (rest x (replicate (x .sizes .states - x .labels) 0) (numbered raw i es) ms)
   unfolding step put last rest raw
-  signs-in ms x i [] z bl c d n lb g f o r =
+  signs-in ms x i [] z bl c d n lb g f o =
       let lb′ : x .labels ≡ x .sizes .states = elim lb [ inl h ↦ absurd (omega arith) | inr h ↦ h ] in
       let s0 : x .sizes .states - x .labels ≡ 0 = omega arith in
       let n0 : x .blocks .equations ≡ x .sizes .variables = omega arith in
-      rw s0 (moves-in x ms z (and-in (and-in (eqb-is _ _ .1 d) (eqb-is _ _ .1 (c ∙ sym bl))) (eqb-is _ _ .1 n0)) o r)
-  signs-in ms x i (e ∷ es) z bl c d n lb g f o r =
+      rw s0 (moves-in x ms z (and-in (and-in (eqb-is _ _ .1 d) (eqb-is _ _ .1 (c ∙ sym bl))) (eqb-is _ _ .1 n0)) o)
+  signs-in ms x i (e ∷ es) z bl c d n lb g f o =
       let y = afterSigned x (withBlock 0 e) in
       let app : x .signs ++ numbered raw i (e ∷ es) ≡ y .signs ++ numbered raw (suc i) es = sym (append-assoc (x .signs) (withBlock 0 e ∷ []) (numbered raw (suc i) es)) in
       let f′ : someBelow (length (y .signs ++ numbered raw (suc i) es)) (guilty (y .signs ++ numbered raw (suc i) es)) ≡ false =
@@ -197,7 +203,7 @@ module _ (l : Lengths) where
       let h : y .signs ++ numbered raw (suc i) es ≡ y .signs = rw nil (append-nil (y .signs)) in
       subst (λ (q : List Equation). someBelow (length q) (guilty q) ≡ false) h f′) in
       let lt : x .blocks .equations < x .sizes .variables = omega arith in
-      let w = signs-in ms y (suc i) es z bl c d (omega arith) (inr refl) (λ j h. g (suc j) (omega arith)) f′ o r in
+      let w = signs-in ms y (suc i) es z bl c d (omega arith) (inr refl) (λ j h. g (suc j) (omega arith)) f′ o in
       let s0 : x .sizes .states - x .sizes .states ≡ 0 = omega arith in
       go-on x y (signedRec e)
       (met (signedDemands x (withBlock 0 e)) (askChains y) (and-in (eqb-is _ _ .1 bl) (ltb-is _ _ .1 lt), (g 0 (omega arith), tt)) ∙ asked)
@@ -230,31 +236,46 @@ module _ (l : Lengths) where
   abbrev pub unplaced : Model → Model
   unplaced m = record {
     sizes = m .sizes;
+    live = m .live;
     labels = m .labels;
     equations = cond (signed (m .sizes)) (numbered (λ i. 0) 0 (m .equations)) (m .equations);
     moves = m .moves;
   }
 
   style-in : (m : Model) → wellFormed m ≡ true → length (m .moves) ≤ l .moves → (n : ℕ) → n ≤ m .sizes .states
-      → W (inside (labelled (started (m .sizes)) n)) (styleRecs (m .sizes) (m .equations) ++ moveRecs (m .moves))
-      (record { sizes = m .sizes; labels = replicate (m .sizes .states - n) 0; equations = unplaced m .equations; moves = m .moves })
+      → W (inside (labelled (opened (m .sizes) (m .live)) n)) (styleRecs (m .sizes) (m .equations) ++ moveRecs (m .moves))
+      (record { sizes = m .sizes; live = m .live; labels = replicate (m .sizes .states - n) 0; equations = unplaced m .equations; moves = m .moves })
   unfolding wellFormed styleOk rest labelled raw
   style-in m h q n le =
       let k = simp and-is at h in
-      let c = leb-is (length (m .moves)) most-moves .0 (k .1) in
+      let c = leb-is (length (m .moves)) most-moves .0 (k .1 .0) in
       let z = small (m .sizes) (k .0 .0 .0 .0 .0) in
+      let o : MovesLeft (m .sizes) (m .live) (started (m .sizes) .moves) (m .moves) =
+      record { order = k .0 .1; room = omega arith; lively = all-moving (m .sizes) (m .live) (m .moves) (k .0 .1) ∙ k .1 .1 .1 } in
       elim (tell true (signed (m .sizes))) [
         | inl t ↦
             let s = signs-out (m .sizes) (m .equations) (rw t at (k .0 .0 .1)) in
             let e = s .count in
             let p : someBelow (length (numbered raw 0 (m .equations))) (guilty (numbered raw 0 (m .equations))) ≡ false =
             ap₂ someBelow (numbered-length raw 0 (m .equations)) (guilty-same raw (m .equations)) ∙ s .pure in
-            rw t (signs-in (m .moves) (labelled (started (m .sizes)) n) 0 (m .equations) (k .0 .0 .0 .0 .0) (eqb-is _ _ .0 t) refl refl (omega arith)
-            (inl (omega arith)) (s .good) p (k .0 .1) (omega arith))
+            rw t (signs-in (m .moves) (labelled (opened (m .sizes) (m .live)) n) 0 (m .equations) (k .0 .0 .0 .0 .0) (eqb-is _ _ .0 t) refl refl (omega arith)
+            (inl (omega arith)) (s .good) p o)
         | inr t ↦
             let b = eqb-pos (m .sizes .blocks) t in
-            rw t (equations-in (m .moves) (labelled (started (m .sizes)) n) (m .equations) (k .0 .0 .0 .0 .0) b (rw t at (k .0 .0 .1)) (sym (run-none (m .equations)))
-            (inl refl) (k .0 .1) (omega arith))
+            rw t (equations-in (m .moves) (labelled (opened (m .sizes) (m .live)) n) (m .equations) (k .0 .0 .0 .0 .0) b (rw t at (k .0 .0 .1)) (sym (run-none (m .equations)))
+            (inl refl) o)
+      ]
+
+  -- The record of a live model, where it is one, in front of the others.
+  flag-in : (m : Model) (rs : List Rec) (b : Model) → m .live ≤ 1 → W (inside (opened (m .sizes) (m .live))) rs b → W (inside (started (m .sizes))) (liveRecs (m .live) ++ rs) b
+  unfolding step put
+  flag-in m rs b h w =
+      elim (tell true (eqb (m .live) 1)) [
+        | inl t ↦ rw t (go-on (started (m .sizes)) (opened (m .sizes) (m .live)) liveRec (rw (eqb-is (m .live) 1 .0 t) refl) w refl)
+        | inr t ↦
+            let d = eqb-no (m .live) 1 .0 t in
+            let e : m .live ≡ 0 = omega arith in
+            rw t (rw e at w)
       ]
 
   -- The records of a model inside the limits are passed, and say it.
@@ -263,6 +284,7 @@ module _ (l : Lengths) where
   walks-records m h r n =
       let k = simp and-is at h in
       let e = eqb-is (length (m .labels)) (m .sizes .states) .0 (k .0 .0 .0 .0 .1) in
-      let w = labels-in (m .labels) 0 (started (m .sizes)) (unplaced m .equations) (m .moves)
+      let w = labels-in (m .labels) 0 (opened (m .sizes) (m .live)) (unplaced m .equations) (m .moves)
       (styleRecs (m .sizes) (m .equations) ++ moveRecs (m .moves)) (omega arith) (k .0 .0 .0 .1) refl refl (style-in m h n) in
-      more {st = before} {st′ = inside (started (m .sizes))} (sizesRec (m .sizes)) (met (sizesDemands l (sizesRec (m .sizes))) _ (refl, (k .0 .0 .0 .0 .0, (r, tt)))) w refl
+      more {st = before} {st′ = inside (started (m .sizes))} (sizesRec (m .sizes)) (met (sizesDemands l (sizesRec (m .sizes))) _ (refl, (k .0 .0 .0 .0 .0, (r, tt))))
+      (flag-in m (labelRecs 0 (m .labels) ++ (styleRecs (m .sizes) (m .equations) ++ moveRecs (m .moves))) (unplaced m) (leb-is (m .live) 1 .0 (k .1 .1 .0)) w) refl

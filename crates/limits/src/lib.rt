@@ -2,6 +2,7 @@
 ghost use mathlib.Core.Path.{_≡_};
 ghost use Prim.Native.Nat.{_<_};
 ghost use Rattle.rules.specs.Limits.{sizesOk};
+ghost use Rattle.rules.specs.Load.{movingWith};
 ghost use Rattle.rules.specs.Model.{labelOk, moveOk, operandsOk, namesOk};
 ghost use Rattle.rules.specs.Moves.{pack};
 ghost use Rattle.rules.specs.Rooms.{pairsOf, roomsOk};
@@ -44,6 +45,16 @@ pub fn sizes_ok(z: Sizes) -> bool
         & (z.propositions <= MOST_PROPOSITIONS)
         & ((1 <= z.variables) & (z.variables <= MOST_VARIABLES))
         & (z.blocks <= MOST_BLOCKS)
+}
+
+// How many states, from the first on, have a move each, with one more move of a state.
+pub fn moving_with(n: u32, here: State) -> u32
+    ensures { λ r. ⌜ r ≡ movingWith n (here .0) ⌝ }
+{
+    if here.0 as u32 == n {
+        return n + 1;
+    }
+    n
 }
 
 // How many pairs there are.

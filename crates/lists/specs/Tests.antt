@@ -196,3 +196,13 @@ elem-in {q} m = any-in (eqb q) m (eqb-in q q refl)
 pub all-from : (f : ℕ → Bool) (l : List ℕ) → ((q : ℕ) → q ∈ l → f q ≡ true) → all f l ≡ true
 all-from f [] h = refl
 all-from f (q ∷ l) h = and-in (h q (List·Memᴰ·head refl)) (all-from f l (λ r m. h r (List·Memᴰ·tail m)))
+
+-- What each entry passes, an entry passes.
+pub all-at : (f : ℕ → Bool) (l : List ℕ) (q : ℕ) → all f l ≡ true → elem q l ≡ true → f q ≡ true
+all-at f [] q h e = absurd (false≢true e)
+all-at f (r ∷ l) q h e =
+    let k = and-is (f r) (all f l) .0 h in
+    elim (tell true (eqb q r)) [
+      | inl t ↦ rw (eqb-is q r .0 t) (k .0)
+      | inr t ↦ all-at f l q (k .1) (or-other (eqb q r) (elem q l) e t)
+    ]

@@ -1,6 +1,6 @@
 -- A load, in the words of the code: what each way out leaves. Assumes nothing.
 use mathlib.Core.Path.{_≡_, refl, sym, ap, _∙_, subst}
-use mathlib.Core.Bool.{true}
+use mathlib.Core.Bool.{Bool, true}
 use mathlib.Core.List.{List}
 use Prim.Native.Nat.{ℕ, _+_, _≤_}
 use native.Mathlib.Nat.{zero-add}
@@ -24,6 +24,7 @@ use Rattle.laws.specs.RecordLaws.{AreBytes, never}
 use Rattle.laws.specs.ReadSpells.{read-spelling}
 use Rattle.laws.specs.SessionHolds.{holds-session}
 use Rattle.laws.specs.Accepted.{load-solved}
+use Rattle.laws.specs.LiveApart.{still, still-good, solve-still}
 use Rattle.judge.specs.Turning.{Summary, summary}
 use Rattle.judge.specs.declared.ReadModel.{ReadModel}
 use Rattle.judge.specs.declared.ReadModel.the-variants as M
@@ -58,15 +59,15 @@ refused-leaves (refused k q) n p l u h e =
     }
 refused-leaves (accepted m) n p l u h e = absurd (never h)
 
--- A reading that found a model says its sizes and its number of moves.
-good-model : (o : Outcome Model) (z : Sizes) (n : ℕ) → accepted (record { sizes = z; moves = n }) ≡ summary o
-    → (m : Model) × (o ≡ accepted m) × (z ≡ m .sizes) × (n ≡ length (m .moves))
-good-model (refused k q) z n h = absurd (never (sym h))
-good-model (accepted m) z n h =
-    let s : Summary = record { sizes = z; moves = n } in
-    let t : Summary = record { sizes = m .sizes; moves = 0 + length (m .moves) } in
+-- A reading that found a model says its sizes, whether it is live, and its number of moves.
+good-model : (o : Outcome Model) (z : Sizes) (live n : ℕ) → accepted (record { sizes = z; live = live; moves = n }) ≡ summary o
+    → (m : Model) × (o ≡ accepted m) × (z ≡ m .sizes) × (live ≡ m .live) × (n ≡ length (m .moves))
+good-model (refused k q) z live n h = absurd (never (sym h))
+good-model (accepted m) z live n h =
+    let s : Summary = record { sizes = z; live = live; moves = n } in
+    let t : Summary = record { sizes = m .sizes; live = m .live; moves = 0 + length (m .moves) } in
     let e : s ≡ t = cc in
-    (m, refl, ap (λ (x : Summary). x .sizes) e, ap (λ (x : Summary). x .moves) e ∙ zero-add (length (m .moves)))
+    (m, refl, ap (λ (x : Summary). x .sizes) e, ap (λ (x : Summary). x .live) e, ap (λ (x : Summary). x .moves) e ∙ zero-add (length (m .moves)))
 
 -- A model inside the limits that fits the rooms l.
 module _ (l : Rooms) (m : Model) (w : WellFormed m) (r : roomsOk (lengthsOf l) (m .sizes) ≡ true) (c : length (m .moves) ≤ length (l .moves)) where
@@ -74,9 +75,9 @@ module _ (l : Rooms) (m : Model) (w : WellFormed m) (r : roomsOk (lengthsOf l) (
   abbrev laid : Stored
   laid = storedBy (accepted m) (readRooms l)
 
-  -- Laid into them, it is what is cut out of them again.
-  pub laid-table : tableOf (m .sizes) (laid .labels) (laid .equations) (laid .moves) (length (m .moves)) ≡ m
-  laid-table = holds-session (sessionOf m) (loadBy l (accepted m) .rooms) m w (load-solved l m w r c .holds) .0
+  -- Laid into them, it is what is cut out of them again, but for the flag.
+  pub laid-table : tableOf (m .sizes) (laid .labels) (laid .equations) (laid .moves) (length (m .moves)) ≡ still m
+  laid-table = ap still (holds-session (sessionOf m) (loadBy l (accepted m) .rooms) m w (load-solved l m w r c .holds) .0)
 
   -- So the rooms are long enough, and a model inside the limits lies in them.
   pub laid-drawn : Drawn (m .sizes) (laid .labels) (laid .equations) (laid .moves) (length (m .moves))
@@ -84,7 +85,7 @@ module _ (l : Rooms) (m : Model) (w : WellFormed m) (r : roomsOk (lengthsOf l) (
   laid-drawn =
       let h = load-solved l m w r c .holds in
       let k = simp tests at (h .rooms) in
-      record { long-labels = k .0 .0 .0; long-equations = k .0 .0 .1; long-moves = h .room; model = subst WellFormed (sym laid-table) w }
+      record { long-labels = k .0 .0 .0; long-equations = k .0 .0 .1; long-moves = h .room; model = subst WellFormed (sym laid-table) (still-good m w) }
 
 -- The rooms l, and a reading of the bytes s into them that answered r and left u.
 module _ (l : Rooms) (s : List ℕ) (y : AreBytes s) (r : ReadModel) (u : Stored) (h : ReadInto s (length (l .values)) (length (l .marks)) (readRooms l) r u) where
@@ -93,28 +94,30 @@ module _ (l : Rooms) (s : List ℕ) (y : AreBytes s) (r : ReadModel) (u : Stored
   unfolding load
   load-refused why p g = refused-leaves (readModel (lengthsOf l) s) (numberOf why) p l u (rw g at (h .says)) (h .stores)
 
-  module _ (z : Sizes) (n : ℕ) (g : r ≡ M.Good z n) where
+  module _ (z : Sizes) (live n : ℕ) (g : r ≡ M.Good z live n) where
     -- The model that was read, and that it lies in the rooms.
     pub record Found : Type 0 where
       pub model : Model
       pub read : readModel (lengthsOf l) s ≡ accepted model
+      pub flag : live ≡ model .live
       pub count : n ≡ length (model .moves)
       pub stored : u ≡ storedBy (accepted model) (readRooms l)
-      pub table : tableOf z (u .labels) (u .equations) (u .moves) n ≡ model
+      pub table : tableOf z (u .labels) (u .equations) (u .moves) n ≡ still model
       pub drawn : Drawn z (u .labels) (u .equations) (u .moves) n
       pub values-room : pairsOf z ≤ length (l .values)
       pub marks-room : pairsOf z ≤ length (l .marks)
 
     -- It is found from what the rules' reading comes to.
-    found-by : (m : Model) → readModel (lengthsOf l) s ≡ accepted m → z ≡ m .sizes → n ≡ length (m .moves) → Found
+    found-by : (m : Model) → readModel (lengthsOf l) s ≡ accepted m → z ≡ m .sizes → live ≡ m .live → n ≡ length (m .moves) → Found
     unfolding roomsOk
-    found-by m e a b =
+    found-by m e a d b =
         let w = read-spelling (lengthsOf l) s m y e in
         let t : u ≡ storedBy (accepted m) (readRooms l) = h .stores ∙ ap (λ (o : Outcome Model). storedBy o (readRooms l)) e in
         let k = simp tests at (w .2) in
         record {
           model = m;
           read = e;
+          flag = d;
           count = b;
           stored = t;
           table = rw (a, b, t) (laid-table l m (w .0) (w .2) (w .3));
@@ -125,26 +128,27 @@ module _ (l : Rooms) (s : List ℕ) (y : AreBytes s) (r : ReadModel) (u : Stored
 
     -- And from what the code's reading answered.
     pub found : Found
-    found = let q = good-model (readModel (lengthsOf l) s) z n (rw g at (h .says)) in found-by (q .0) (q .1) (q .2) (q .3)
+    found = let q = good-model (readModel (lengthsOf l) s) z live n (rw g at (h .says)) in found-by (q .0) (q .1) (q .2) (q .3) (q .4)
 
     -- A model that was read is the session, and the values found for what lies in the rooms are its own.
     pub load-good : (values marks : List ℕ) (stamp : ℕ)
         → values ≡ fill (bits (pairsOf z) (at (solve (tableOf z (u .labels) (u .equations) (u .moves) n)))) (l .values)
         → marks ≡ fill (replicate (pairsOf z) 0) (l .marks) → stamp ≡ stampOf (take n (u .moves))
-        → loaded (accepted (record { sizes = z; moves = n; stamp = stamp })) (withRead u values marks) ≡ load l s
+        → loaded (accepted (record { sizes = z; live = live; moves = n; stamp = stamp })) (withRead u values marks) ≡ load l s
     unfolding load
     load-good values marks stamp a b d =
         let f = found in
         let t = f .table in
         let zs : z ≡ f .model .sizes = ap (λ (x : Model). x .sizes) t in
         let vs : values ≡ fill (bits (pairsOf (f .model .sizes)) (at (solve (f .model)))) (l .values) =
-        a ∙ ap (λ (x : Model). fill (bits (pairsOf (x .sizes)) (at (solve x))) (l .values)) t in
+        a ∙ ap (λ (x : Model). fill (bits (pairsOf (x .sizes)) (at (solve x))) (l .values)) t
+        ∙ ap (λ (v : List Bool). fill (bits (pairsOf (f .model .sizes)) (at v)) (l .values)) (solve-still (f .model)) in
         let ks : marks ≡ fill (replicate (pairsOf (f .model .sizes)) 0) (l .marks) =
         b ∙ ap (λ (x : Sizes). fill (replicate (pairsOf x) 0) (l .marks)) zs in
         let ss : stamp ≡ stampOf (f .model .moves) = d ∙ ap (λ (x : Model). stampOf (x .moves)) t in
-        let is : loaded (accepted (record { sizes = z; moves = n; stamp = stamp })) (withRead u values marks) ≡ loadBy l (accepted (f .model)) =
+        let is : loaded (accepted (record { sizes = z; live = live; moves = n; stamp = stamp })) (withRead u values marks) ≡ loadBy l (accepted (f .model)) =
         λ i. record {
-          answer = accepted (record { sizes = zs i; moves = f .count i; stamp = ss i });
+          answer = accepted (record { sizes = zs i; live = f .flag i; moves = f .count i; stamp = ss i });
           rooms = record { labels = f .stored i .labels; equations = f .stored i .equations; values = vs i; marks = ks i; moves = f .stored i .moves };
         } in
         is ∙ sym (ap (loadBy l) (f .read))

@@ -23,12 +23,13 @@ pub fn load(
     let found = store::read_model(bytes, values.len(), marks.len(), labels, equations, moves);
     match found {
         ReadModel::Refused(why, at) => Loaded::Refused(why, at),
-        ReadModel::Good(sizes, count) => {
+        ReadModel::Good(sizes, live, count) => {
             let n = count as usize;
             engine::load_values(sizes, labels, equations, moves, n, values, marks);
             let stamp = table::stamp_of(moves, n);
             Loaded::Accepted(Session {
                 sizes: sizes,
+                live: live,
                 moves: count,
                 stamp: stamp,
             })

@@ -8,8 +8,8 @@ use Rattle.rules.specs.Records.{Outcome, refused, accepted}
 use Rattle.rules.specs.declared.Session.{Session}
 use Rattle.rules.specs.declared.Report.{Report}
 
--- The session that seven numbers stand for: states, actions, propositions, variables, blocks, moves, stamp. A number too large
--- for its field is the field's greatest, which is outside every limit.
+-- The session that eight numbers stand for: states, actions, propositions, variables, blocks, moves, stamp, and whether it is
+-- live. A number too large for its field is the field's greatest, which is outside every limit.
 abbrev pub sessionIn : List ℕ → Session
 sessionIn room = record {
   sizes = record {
@@ -19,14 +19,15 @@ sessionIn room = record {
     variables = min (getD room 3 0) 255;
     blocks = min (getD room 4 0) 255;
   };
+  live = min (getD room 7 0) 255;
   moves = getD room 5 0;
   stamp = getD room 6 0;
 }
 
--- The seven numbers of a session.
+-- The eight numbers of a session.
 abbrev pub sessionNumbers : Session → List ℕ
 sessionNumbers s =
-    s .sizes .states ∷ s .sizes .actions ∷ s .sizes .propositions ∷ s .sizes .variables ∷ s .sizes .blocks ∷ s .moves ∷ s .stamp ∷ []
+    s .sizes .states ∷ s .sizes .actions ∷ s .sizes .propositions ∷ s .sizes .variables ∷ s .sizes .blocks ∷ s .moves ∷ s .stamp ∷ s .live ∷ []
 
 -- The three numbers of a report: shift visits, settle visits, net change.
 abbrev pub reportNumbers : Report → List ℤ
@@ -41,7 +42,7 @@ abbrev pub told : {A : Type 0} → (A → ℕ) → Outcome A → ℕ
 told f (refused n p) = packed n p
 told f (accepted a) = packed 0 (f a)
 
--- The room of a session after an outcome: the seven numbers in front where there is a session, else as it was.
+-- The room of a session after an outcome: the eight numbers in front where there is a session, else as it was.
 abbrev pub sessionAfter : List ℕ → Outcome Session → List ℕ
 sessionAfter room (refused n p) = room
 sessionAfter room (accepted s) = fill (sessionNumbers s) room

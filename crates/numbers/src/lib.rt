@@ -53,6 +53,7 @@ pub fn session_of(room: &[u32]) -> Session
     };
     Session {
         sizes: sizes,
+        live: byte_in(room, 7),
         moves: rooms::word_at(room, 5),
         stamp: rooms::word_at(room, 6),
     }
@@ -60,7 +61,7 @@ pub fn session_of(room: &[u32]) -> Session
 
 // The paper's number for a refusal.
 pub fn number_of(why: Refusal) -> u32
-    ensures { λ r. ⌜ (r ≡ numberOf why) × (r ≤ 13) ⌝ }
+    ensures { λ r. ⌜ (r ≡ numberOf why) × (r ≤ 16) ⌝ }
 {
     match why {
         Refusal::Broken => 1,
@@ -76,6 +77,7 @@ pub fn number_of(why: Refusal) -> u32
         Refusal::WrongStamp => 11,
         Refusal::NotAModel => 12,
         Refusal::ShortRoom => 13,
+        Refusal::Hangs => 16,
     }
 }
 
@@ -115,14 +117,15 @@ fn keep_sizes(room: &mut [u32], sizes: Sizes)
     rooms::set_word(room, 4, sizes.blocks as u32);
 }
 
-// The seven numbers of a session into the front of a room that has place for them.
+// The eight numbers of a session into the front of a room that has place for them.
 fn keep_session(room: &mut [u32], session: Session)
-    requires { ⌜ 7 ≤ length (now room) ⌝ }
+    requires { ⌜ 8 ≤ length (now room) ⌝ }
     ensures { λ _. ⌜ now (room .exit) ≡ fill (sessionNumbers session) (now (room .entry)) ⌝ }
 {
     keep_sizes(room, session.sizes);
     rooms::set_word(room, 5, session.moves);
     rooms::set_word(room, 6, session.stamp);
+    rooms::set_word(room, 7, session.live as u32);
 }
 
 // The three numbers of a report into the front of a room that has place for them.
@@ -138,7 +141,7 @@ fn keep_report(room: &mut [i64], report: Report)
 
 // What a load answered, as a number; its session is kept where there is one.
 pub fn keep_loaded(found: Loaded, session: &mut [u32]) -> u64
-    requires { ⌜ 7 ≤ length (now session) ⌝ }
+    requires { ⌜ 8 ≤ length (now session) ⌝ }
     ensures { λ r. ⌜ (r ≡ told (λ _. 0) (loadedSays found)) × (now (session .exit) ≡ sessionAfter (now (session .entry)) (loadedSays found)) ⌝ }
 {
     match found {
@@ -152,7 +155,7 @@ pub fn keep_loaded(found: Loaded, session: &mut [u32]) -> u64
 
 // What a batch answered, as a number; its session and its report are kept where there are any.
 pub fn keep_updated(found: Updated, session: &mut [u32], report: &mut [i64]) -> u64
-    requires { ⌜ 7 ≤ length (now session) ⌝ }
+    requires { ⌜ 8 ≤ length (now session) ⌝ }
     requires { ⌜ 3 ≤ length (now report) ⌝ }
     ensures { λ r. ⌜ (r ≡ told (λ _. 0) (updatedSays found)) × (now (session .exit) ≡ sessionAfter (now (session .entry)) (movedTo (updatedSays found)))
         × (now (report .exit) ≡ reportAfter (now (report .entry)) (updatedSays found)) ⌝ }

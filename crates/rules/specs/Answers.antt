@@ -29,6 +29,7 @@ numberOf Why.Full = 10
 numberOf Why.WrongStamp = 11
 numberOf Why.NotAModel = 12
 numberOf Why.ShortRoom = 13
+numberOf Why.Hangs = 16
 
 -- What each answer says.
 abbrev pub loadedSays : Loaded → Outcome Session

@@ -8,10 +8,11 @@ use lib.Dec.{eqb, ltb, leb}
 use Rattle.lists.specs.Lists.{is, elem}
 use Rattle.rules.specs.Limits.{most-moves, most-changes}
 use Rattle.rules.specs.Moves.{pack, source, action, target, stampOf}
-use Rattle.rules.specs.Model.{moveOk}
+use Rattle.rules.specs.Model.{moveOk, liveOk}
 use Rattle.rules.specs.Records.{Rec, field, bytesOf, Turn, next, over, demand, Outcome, refused, accepted, run, parts}
 use Rattle.rules.specs.Spelling.{endRec}
 use Rattle.rules.specs.declared.Sizes.{Sizes}
+use Rattle.rules.specs.declared.Session.{Session}
 
 -- An insert or a delete of a move.
 pub record Change : Type 0 where
@@ -126,14 +127,16 @@ firstOf [] b = accepted b
 firstOf (none ∷ l) b = firstOf l b
 firstOf (some r ∷ l) b = refused (r .0) (r .1)
 
--- A batch that was read, against the moves of the table and the length of their room: 11, then 9, then 7 and 8, then 10.
-abbrev pub judgements : ℕ → List ℕ → Batch → List (Option (ℕ × ℕ))
-judgements room ms b =
+-- A batch that was read, against a session, its moves and the length of their room: 11, then 9, then 7 and 8, then 10, then 16
+-- of the moves as they will be.
+abbrev pub judgements : Session → ℕ → List ℕ → Batch → List (Option (ℕ × ℕ))
+judgements s room ms b =
     unless 11 (eqb (b .stamp) (stampOf ms))
     ∷ repeated [] 5 (b .changes)
     ∷ misplaced ms 5 (b .changes)
     ∷ unless 10 (leb (length (edited (b .changes) ms)) (min most-moves room))
+    ∷ unless 16 (liveOk (s .live) (s .sizes .states) (edited (b .changes) ms))
     ∷ []
 
-unfoldable pub judge : ℕ → List ℕ → Batch → Outcome Batch
-judge room ms b = firstOf (judgements room ms b) b
+unfoldable pub judge : Session → ℕ → List ℕ → Batch → Outcome Batch
+judge s room ms b = firstOf (judgements s room ms b) b

@@ -2,7 +2,7 @@
 -- and of its batches to the answers and the rooms. Two more rows have an equation that names one variable twice, and one
 -- that leans on an earlier block. Each model is also written, into room enough and into one place too few. Assumes nothing.
 use mathlib.Core.Path.{_≡_, refl}
-use mathlib.Core.List.{List, [], _∷_}
+use mathlib.Core.List.{List, [], _∷_, _++_}
 use Prim.Native.Nat.{ℕ, _-_}
 use lib.IntN.{ℤ, pos, negsuc}
 use lib.ListN.{length, replicate}
@@ -10,7 +10,7 @@ use Rattle.lists.specs.Lists.{fill}
 use Rattle.lists.specs.Smallest.{smallest}
 use Rattle.rules.specs.Limits.{sizesOk}
 use Rattle.rules.specs.Moves.{stampOf}
-use Rattle.rules.specs.Model.{labelOk, moveOk, operandsOk, namesOk, guilty, componentIn, placed, signsOk, styleOk, wellFormed}
+use Rattle.rules.specs.Model.{labelOk, moveOk, operandsOk, namesOk, guilty, componentIn, placed, signsOk, styleOk, noneHangs, liveOk, wellFormed}
 use Rattle.rules.specs.Chains.{leads, together, mixed, reach, stands, component}
 use Rattle.rules.specs.Records.{Outcome, refused, accepted, widths, partsFrom, run}
 use Rattle.rules.specs.Rooms.{Rooms, roomsOk}
@@ -152,7 +152,7 @@ pub bench :
 unfolding
     load readModel run partsFrom widths step put last sizesOk roomsOk blockFits labelOk moveOk operandsOk namesOk solve solveTo settles smallest
     blockOf greatest termAt gives leanings write writable countsOk restOk wellFormed stampOf records batch judged readBatch stepBatch putBatch judge edited
-    turnAll turnTo turnBlock shifts visitsOn styleOk
+    turnAll turnTo turnBlock shifts visitsOn styleOk liveOk
 bench = refl
 
 -- Equations with signs. E rewritten: X1 is component 0, X0 and X2 are component 1.
@@ -207,5 +207,83 @@ pub signed-bench :
 unfolding
     load readModel run partsFrom widths step put last sizesOk roomsOk blockFits labelOk moveOk operandsOk namesOk solve solveTo settles smallest
     blockOf greatest termAt gives leanings write writable countsOk restOk wellFormed stampOf records batch judged readBatch stepBatch putBatch judge edited
-    turnAll turnTo turnBlock shifts visitsOn styleOk signsOk guilty componentIn placed leads together mixed reach stands component
+    turnAll turnTo turnBlock shifts visitsOn styleOk signsOk guilty componentIn placed leads together mixed reach stands component liveOk
 signed-bench = refl
+
+-- Live models. Two states, one action, one greatest block, X = diamond 0 X, and the records `between` after the sizes and
+-- before the moves `ms`.
+abbrev live : List ℕ → List ℕ → List ℕ
+live between ms = 1 ∷ 2 ∷ 0 ∷ 1 ∷ 0 ∷ 1 ∷ 1 ∷ (between ++ (3 ∷ 1 ∷ 1 ∷ 4 ∷ 6 ∷ 0 ∷ 0 ∷ ms))
+
+-- The move (s, 0, t).
+abbrev from : ℕ → ℕ → List ℕ → List ℕ
+from s t rest = 5 ∷ s ∷ 0 ∷ 0 ∷ t ∷ 0 ∷ rest
+
+-- Each state has one move, to the other.
+abbrev strip : List ℕ
+strip = live (10 ∷ []) (from 0 1 (from 1 0 (6 ∷ [])))
+
+-- Deletes (1, 0, 0), the last move of state 1, to which (0, 0, 1) still leads.
+abbrev lastMove : List ℕ
+lastMove = change 4 1 1 9 1 0
+
+-- Moves the last move of state 1 in one batch; and then deletes it.
+abbrev turned : List ℕ
+turned = 7 ∷ 4 ∷ 1 ∷ 1 ∷ 0 ∷ 9 ∷ 1 ∷ 0 ∷ 0 ∷ 0 ∷ 0 ∷ 8 ∷ 1 ∷ 0 ∷ 0 ∷ 1 ∷ 0 ∷ 6 ∷ []
+
+abbrev thenLast : List ℕ
+thenLast = change 5 2 1 9 1 1
+
+-- State 1 has no move, though one leads to it; state 0 has none, and state 1 two. A byte after the end is not looked at.
+abbrev ledInto : List ℕ
+ledInto = live (10 ∷ []) (from 0 0 (from 0 1 (6 ∷ 0 ∷ [])))
+
+abbrev passedOver : List ℕ
+passedOver = live (10 ∷ []) (from 1 0 (from 1 1 (6 ∷ [])))
+
+-- Three states with four moves, which fill the room. The batch deletes the last move of state 2 and inserts two of others.
+abbrev threeStates : List ℕ
+threeStates =
+    1 ∷ 3 ∷ 0 ∷ 1 ∷ 0 ∷ 1 ∷ 1 ∷ 10 ∷ 3 ∷ 1 ∷ 1 ∷ 4 ∷ 6 ∷ 0 ∷ 0 ∷ from 0 0 (from 0 1 (from 1 0 (from 2 0 (6 ∷ []))))
+
+abbrev tooMany : List ℕ
+tooMany =
+    7 ∷ 8 ∷ 1 ∷ 3 ∷ 0 ∷ 9 ∷ 2 ∷ 0 ∷ 0 ∷ 0 ∷ 0 ∷ 8 ∷ 0 ∷ 0 ∷ 0 ∷ 2 ∷ 0 ∷ 8 ∷ 1 ∷ 0 ∷ 0 ∷ 1 ∷ 0 ∷ 6 ∷ []
+
+-- One state with a move to itself, X = diamond 0 X with a sign.
+abbrev liveSigned : List ℕ
+liveSigned = 1 ∷ 1 ∷ 0 ∷ 1 ∷ 0 ∷ 1 ∷ 0 ∷ 10 ∷ 11 ∷ 1 ∷ 6 ∷ 0 ∷ 0 ∷ from 0 0 (6 ∷ [])
+
+abbrev liveCases : List (List Seen)
+liveCases =
+    see strip (turned ∷ thenLast ∷ [])
+    ∷ see strip (lastMove ∷ [])
+    ∷ see ledInto []
+    ∷ see passedOver []
+    ∷ see threeStates (tooMany ∷ [])
+    ∷ see liveSigned []
+    ∷ see (live (10 ∷ 10 ∷ []) []) []
+    ∷ see (live [] (10 ∷ [])) []
+    ∷ see strip ((7 ∷ 4 ∷ 1 ∷ 1 ∷ 0 ∷ 10 ∷ 6 ∷ []) ∷ [])
+    ∷ []
+
+pub live-bench :
+    liveCases
+    ≡ (loaded (room 7 (1 ∷ 1 ∷ [])) 65796 (wrote strip) (short strip)
+    ∷ moved (room 7 (1 ∷ 1 ∷ [])) (room 7 (0 ∷ 0 ∷ [])) (pos 0) 0 0 66053
+    ∷ no 16 0
+    ∷ [])
+    ∷ (loaded (room 7 (1 ∷ 1 ∷ [])) 65796 (wrote strip) (short strip) ∷ no 16 0 ∷ [])
+    ∷ (no 16 27 ∷ [])
+    ∷ (no 16 27 ∷ [])
+    ∷ (loaded (room 7 (1 ∷ 1 ∷ 1 ∷ [])) 196872 (wrote threeStates) (short threeStates) ∷ no 10 0 ∷ [])
+    ∷ (loaded (room 7 (1 ∷ [])) 1 (wrote liveSigned) (short liveSigned) ∷ [])
+    ∷ (no 2 8 ∷ [])
+    ∷ (no 2 14 ∷ [])
+    ∷ (loaded (room 7 (1 ∷ 1 ∷ [])) 65796 (wrote strip) (short strip) ∷ no 2 5 ∷ [])
+    ∷ []
+unfolding
+    load readModel run partsFrom widths step put last sizesOk roomsOk blockFits labelOk moveOk operandsOk namesOk solve solveTo settles smallest
+    blockOf greatest termAt gives leanings write writable countsOk restOk wellFormed stampOf records batch judged readBatch stepBatch putBatch judge edited
+    turnAll turnTo turnBlock shifts visitsOn styleOk signsOk guilty componentIn placed leads together mixed reach stands component liveOk noneHangs
+live-bench = refl

@@ -61,10 +61,10 @@ loadBy l (accepted m) = record {
 unfoldable pub load : Rooms → List ℕ → Left Session Rooms
 load l s = loadBy l (readModel (lengthsOf l) s)
 
--- Batch: asked of the session 12, 13 and 12, then 1 to 4 of the bytes, then 11, 9, 7 and 8, and 10.
+-- Batch: asked of the session 12, 13 and 12, then 1 to 4 of the bytes, then 11, 9, 7 and 8, 10, and 16.
 unfoldable pub judged : Session → Rooms → List ℕ → Outcome Batch
 judged s l bytes =
-    asked (sessionDemands s l) (andThen (readBatch (s .sizes) bytes) (judge (length (l .moves)) (held s l .moves)))
+    asked (sessionDemands s l) (andThen (readBatch (s .sizes) bytes) (judge s (length (l .moves)) (held s l .moves)))
 
 -- The report of an update, and the rooms after it. Places that the move list frees at its end become 0.
 abbrev pub marksOf : ℕ → Turned → List ℕ

@@ -1,12 +1,12 @@
 -- How a model is read, record by record: every refusal of a load, with its number and its place. Definitions only.
-use mathlib.Core.Bool.{Bool, cond, _&&_, _||_}
+use mathlib.Core.Bool.{Bool, true, cond, _&&_, _||_}
 use mathlib.Core.List.{List, [], _∷_, _++_}
 use Prim.Native.Nat.{ℕ, suc, _+_, _-_, _*_, min}
 use lib.ListN.{length, replicate}
 use lib.Dec.{eqb, ltb, leb}
 use Rattle.lists.specs.Lists.{someBelow, lowest}
 use Rattle.rules.specs.Limits.{most-moves, sizesOk}
-use Rattle.rules.specs.Moves.{pack}
+use Rattle.rules.specs.Moves.{pack, source}
 use Rattle.rules.specs.Model.{Equation, Model, labelOk, moveOk, operandsOk, namesOk, signed, signOk, guilty, placed}
 use Rattle.rules.specs.Records.{Rec, field, Turn, no, back, next, over, demand, Outcome, onto, run, parts}
 use Rattle.rules.specs.Rooms.{Lengths, roomsOk}
@@ -20,14 +20,17 @@ pub record Blocks : Type 0 where
   pub due : ℕ
   pub equations : ℕ
 
--- Of the moves so far: how many, and the least number that the next may have.
+-- Of the moves so far: how many, the least number that the next may have, and how many states, from the first on, have a
+-- move each. Moves ascend by source, so that a state which is passed over has none.
 pub record Moves : Type 0 where
   pub count : ℕ
   pub least : ℕ
+  pub moving : ℕ
 
 -- What has been read so far: numbers, and the equations with signs. Labels have passed the states below `labels`.
 pub record Sofar : Type 0 where
   pub sizes : Sizes
+  pub live : ℕ
   pub labels : ℕ
   pub blocks : Blocks
   pub signs : List Equation
@@ -50,11 +53,19 @@ abbrev pub started : Sizes → Sofar
 started z =
     record {
       sizes = z;
+      live = 0;
       labels = 0;
       blocks = record { count = 0; kind = 0; due = 0; equations = 0 };
       signs = [];
-      moves = record { count = 0; least = 0 };
+      moves = record { count = 0; least = 0; moving = 0 };
     }
+
+-- The model is live: due once, directly after the sizes. The first label, block or equation passes a state.
+abbrev pub liveDemands : Sofar → List (ℕ × Bool)
+liveDemands x = (2, eqb (x .labels) 0 && eqb (x .live) 0) ∷ []
+
+abbrev pub afterLive : Sofar → Sofar
+afterLive x = record { sizes = x .sizes; live = 1; labels = x .labels; blocks = x .blocks; signs = x .signs; moves = x .moves }
 
 -- A label of state s with the set v: due before the first block or equation; a state, a set that is not empty and not too
 -- high; in order.
@@ -66,7 +77,8 @@ labelDemands x s v =
     ∷ []
 
 abbrev pub afterLabel : Sofar → ℕ → Sofar
-afterLabel x s = record { sizes = x .sizes; labels = suc s; blocks = x .blocks; signs = x .signs; moves = x .moves }
+afterLabel x s =
+    record { sizes = x .sizes; live = x .live; labels = suc s; blocks = x .blocks; signs = x .signs; moves = x .moves }
 
 -- A block of kind k with n variables: due where no equation is and blocks are left; it takes 1 to all of the variables
 -- that remain, and the last block all; its kind is 0 or 1.
@@ -83,6 +95,7 @@ abbrev pub afterBlock : Sofar → ℕ → ℕ → Sofar
 afterBlock x k n =
     record {
       sizes = x .sizes;
+      live = x .live;
       labels = x .sizes .states;
       blocks = record { count = suc (x .blocks .count); kind = k; due = n; equations = x .blocks .equations };
       signs = x .signs;
@@ -101,6 +114,7 @@ abbrev pub afterEquation : Sofar → Sofar
 afterEquation x =
     record {
       sizes = x .sizes;
+      live = x .live;
       labels = x .labels;
       blocks = record { count = x .blocks .count; kind = x .blocks .kind; due = x .blocks .due - 1; equations = suc (x .blocks .equations) };
       signs = x .signs;
@@ -116,6 +130,7 @@ abbrev pub afterSigned : Sofar → Equation → Sofar
 afterSigned x e =
     record {
       sizes = x .sizes;
+      live = x .live;
       labels = x .sizes .states;
       blocks = record { count = x .blocks .count; kind = x .blocks .kind; due = x .blocks .due; equations = suc (x .blocks .equations) };
       signs = x .signs ++ (e ∷ []);
@@ -130,7 +145,7 @@ askChains x =
     (back 5 (5 * (length (x .signs) - suc (lowest (length (x .signs)) (guilty (x .signs))))))
     (next (inside x))
 
--- A move: due after the last equation; in range; in order; and there is room for it. The end record is due there too.
+-- A move: due after the last equation; in range; in order; and there is room for it.
 abbrev pub movesDue : Sofar → Bool
 movesDue x =
     eqb (x .blocks .due) 0 && eqb (x .blocks .count) (x .sizes .blocks) && eqb (x .blocks .equations) (x .sizes .variables)
@@ -143,18 +158,27 @@ moveDemands l x s a t =
     ∷ (10, ltb (x .moves .count) (min most-moves (l .moves)))
     ∷ []
 
+-- How many states, from the first on, have a move each, with one more move of state s.
+abbrev pub movingWith : ℕ → ℕ → ℕ
+movingWith n s = cond (eqb s n) (suc n) n
+
 abbrev pub afterMove : Sofar → ℕ → Sofar
 afterMove x q =
     record {
       sizes = x .sizes;
+      live = x .live;
       labels = x .labels;
       blocks = x .blocks;
       signs = x .signs;
-      moves = record { count = suc (x .moves .count); least = suc q };
+      moves = record { count = suc (x .moves .count); least = suc q; moving = movingWith (x .moves .moving) (source q) };
     }
 
+-- The end: due where a move is; and in a live model each state has a move.
+abbrev pub allMoving : Sofar → Bool
+allMoving x = cond (eqb (x .live) 1) (eqb (x .moves .moving) (x .sizes .states)) true
+
 abbrev pub endDemands : Sofar → List (ℕ × Bool)
-endDemands x = (2, movesDue x) ∷ []
+endDemands x = (2, movesDue x) ∷ (16, allMoving x) ∷ []
 
 -- The equation that the numbers of kind 11 say, and a record of it. Its component is known once all are read.
 abbrev pub signedOf : ℕ → ℕ → ℕ → ℕ → Equation
@@ -176,8 +200,9 @@ stepIn ask l x k a b c d =
     (cond (eqb k 4) (go (equationDemands x a b c) (afterEquation x))
     (cond (eqb k 5) (go (moveDemands l x a b c) (afterMove x (pack a b c)))
     (cond (eqb k 6) (demand (endDemands x) over)
+    (cond (eqb k 10) (go (liveDemands x) (afterLive x))
     (cond (eqb k 11) (demand (signedDemands x (signedOf a b c d)) (ask (afterSigned x (signedOf a b c d))))
-    (no 2))))))
+    (no 2)))))))
 
 abbrev pub stepBy : (Sofar → Turn State) → Lengths → State → Rec → Turn State
 stepBy ask l before r = go (sizesDemands l r) (started (sizesOf r))
@@ -189,13 +214,16 @@ step l st r = stepBy askChains l st r
 
 -- What a record says, in front of what the later ones say. States without a label have the empty set.
 abbrev pub putLabels : List ℕ → Model → Model
-putLabels l m = record { sizes = m .sizes; labels = l ++ m .labels; equations = m .equations; moves = m .moves }
+putLabels l m =
+    record { sizes = m .sizes; live = m .live; labels = l ++ m .labels; equations = m .equations; moves = m .moves }
 
 abbrev pub putEquation : Equation → Model → Model
-putEquation e m = record { sizes = m .sizes; labels = m .labels; equations = e ∷ m .equations; moves = m .moves }
+putEquation e m =
+    record { sizes = m .sizes; live = m .live; labels = m .labels; equations = e ∷ m .equations; moves = m .moves }
 
 abbrev pub putMove : ℕ → Model → Model
-putMove q m = record { sizes = m .sizes; labels = m .labels; equations = m .equations; moves = q ∷ m .moves }
+putMove q m =
+    record { sizes = m .sizes; live = m .live; labels = m .labels; equations = m .equations; moves = q ∷ m .moves }
 
 abbrev pub equationOf : Sofar → ℕ → ℕ → ℕ → Equation
 equationOf x o a b = record { operator = o; first = a; second = b; block = x .blocks .count - 1; kind = x .blocks .kind }
@@ -213,18 +241,19 @@ unfoldable pub put : State → Rec → Model → Model
 put before r m = m
 put (inside x) r m = sayIn x (r .kind) (field r 0) (field r 1) (field r 2) (field r 3) m
 
-abbrev pub lastOf : Sizes → Model
-lastOf z = record { sizes = z; labels = []; equations = []; moves = [] }
+abbrev pub lastOf : Sizes → ℕ → Model
+lastOf z n = record { sizes = z; live = n; labels = []; equations = []; moves = [] }
 
 unfoldable pub last : State → Model
-last before = lastOf (record { states = 0; actions = 0; propositions = 0; variables = 0; blocks = 0 })
-last (inside x) = lastOf (x .sizes)
+last before = lastOf (record { states = 0; actions = 0; propositions = 0; variables = 0; blocks = 0 }) 0
+last (inside x) = lastOf (x .sizes) (x .live)
 
 -- The model once all is read: with signs, the components take the place of blocks.
 abbrev pub settleStyle : Model → Model
 settleStyle m =
     record {
       sizes = m .sizes;
+      live = m .live;
       labels = m .labels;
       equations = cond (signed (m .sizes)) (placed (m .equations)) (m .equations);
       moves = m .moves;

@@ -5,7 +5,7 @@ use mathlib.Core.List.{List, [], _∷_}
 use Prim.Native.Nat.{ℕ, suc, _+_, _^_, max}
 use lib.ListN.{length, getD}
 use lib.Dec.{eqb, ltb, leb}
-use Rattle.lists.specs.Lists.{all, someBelow, eachBelow}
+use Rattle.lists.specs.Lists.{any, all, someBelow, eachBelow}
 use Rattle.rules.specs.Limits.{most-moves, sizesOk}
 use Rattle.rules.specs.Moves.{source, action, target}
 use Rattle.rules.specs.Chains.{Names, mixed, component}
@@ -19,10 +19,11 @@ pub record Equation : Type 0 where
   pub block : ℕ
   pub kind : ℕ
 
--- A set of propositions for each state (bit p for proposition p), an equation for each variable, and the moves,
--- ascending, each as one number.
+-- Whether the model is live (1) or not (0), a set of propositions for each state (bit p for proposition p), an equation for
+-- each variable, and the moves, ascending, each as one number.
 pub record Model : Type 0 where
   pub sizes : Sizes
+  pub live : ℕ
   pub labels : List ℕ
   pub equations : List Equation
   pub moves : List ℕ
@@ -128,11 +129,24 @@ abbrev pub movesOk : Sizes → ℕ → List ℕ → Bool
 movesOk z least [] = true
 movesOk z least (q ∷ l) = leb least q && moveOk z (source q) (action q) (target q) && movesOk z (suc q) l
 
+-- Some move leaves the state, by whatever action.
+abbrev pub hasMove : List ℕ → ℕ → Bool
+hasMove ms s = any (λ q. eqb (source q) s) ms
+
+-- Each of n states has a move.
+unfoldable pub noneHangs : ℕ → List ℕ → Bool
+noneHangs n ms = eachBelow n (hasMove ms)
+
+-- In a live model each state has a move. Of any other nothing is asked.
+unfoldable pub liveOk : ℕ → ℕ → List ℕ → Bool
+liveOk live n ms = cond (eqb live 1) (noneHangs n ms) true
+
 -- A model inside the limits.
 unfoldable pub wellFormed : Model → Bool
 wellFormed m =
     sizesOk (m .sizes) && eqb (length (m .labels)) (m .sizes .states) && all (labelOk (m .sizes)) (m .labels)
-    && styleOk (m .sizes) (m .equations) && movesOk (m .sizes) 0 (m .moves) && leb (length (m .moves)) most-moves
+    && styleOk (m .sizes) (m .equations) && movesOk (m .sizes) 0 (m .moves)
+    && (leb (length (m .moves)) most-moves && (leb (m .live) 1 && liveOk (m .live) (m .sizes .states) (m .moves)))
 
 abbrev pub WellFormed : Model → Type 0
 WellFormed m = wellFormed m ≡ true

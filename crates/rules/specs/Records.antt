@@ -1,5 +1,5 @@
 -- Records on the wire: how one is read and written, and how a run of them is judged. Definitions only.
-use mathlib.Core.Bool.{Bool, not, cond, _&&_}
+use mathlib.Core.Bool.{Bool, cond, _&&_}
 use mathlib.Core.List.{List, [], _∷_, _++_}
 use Prim.Native.Nat.{ℕ, zero, suc, _+_, _-_, _*_, _/_, _%_}
 use lib.ListN.{length, getD, drop}
@@ -9,7 +9,7 @@ use Rattle.rules.specs.declared.Move.{Move}
 use Rattle.rules.specs.declared.Record.{Record}
 use Rattle.rules.specs.declared.Record.the-variants as R
 
--- The numbers of a body, each by its width in bytes, for the kinds 0 to 11. There is no kind 0 and no kind 10.
+-- The numbers of a body, each by its width in bytes, for the kinds 0 to 11. There is no kind 0.
 abbrev pub bodies : List (List ℕ)
 bodies =
     []
@@ -30,7 +30,7 @@ unfoldable pub widths : ℕ → List ℕ
 widths k = getD bodies k []
 
 abbrev pub known : ℕ → Bool
-known k = ltb 0 k && ltb k 12 && not (eqb k 10)
+known k = ltb 0 k && ltb k 12
 
 -- The length of a body.
 abbrev pub bodyOf : List ℕ → ℕ
@@ -78,6 +78,7 @@ numbersOf R.End = record { kind = 6; body = [] }
 numbersOf (R.Stamp n) = record { kind = 7; body = n ∷ [] }
 numbersOf (R.Insert m) = record { kind = 8; body = moveNumbers m }
 numbersOf (R.Delete m) = record { kind = 9; body = moveNumbers m }
+numbersOf R.Live = record { kind = 10; body = [] }
 numbersOf (R.Signed k o a b) = record { kind = 11; body = k ∷ o ∷ a ∷ b ∷ [] }
 
 -- The bytes of a record, and of several.

@@ -24,6 +24,7 @@ abbrev pub held : Session → Rooms → Model
 held s l =
     record {
       sizes = s .sizes;
+      live = s .live;
       labels = take (s .sizes .states) (l .labels);
       equations = map unword (take (s .sizes .variables) (l .equations));
       moves = take (s .moves) (l .moves);
@@ -31,11 +32,11 @@ held s l =
 
 -- The small part that belongs to a model.
 abbrev pub sessionOf : Model → Session
-sessionOf m = record { sizes = m .sizes; moves = length (m .moves); stamp = stampOf (m .moves) }
+sessionOf m = record { sizes = m .sizes; live = m .live; moves = length (m .moves); stamp = stampOf (m .moves) }
 
--- 12 for the sizes: each is inside its limits, and so is the move count, which is not over the move room either.
+-- 12 for the sizes: each is inside its limits, and so are the flag and the move count, which is not over the move room either.
 unfoldable pub countsOk : Session → Rooms → Bool
-countsOk s l = sizesOk (s .sizes) && leb (s .moves) (min most-moves (length (l .moves)))
+countsOk s l = sizesOk (s .sizes) && (leb (s .live) 1 && leb (s .moves) (min most-moves (length (l .moves))))
 
 -- 12 for the rest: a model that load accepts, no value over 1, no mark over 3, and the stamp of its moves.
 unfoldable pub restOk : Session → Rooms → Bool

@@ -1,5 +1,5 @@
--- The one spelling of a model: the sizes, labels by ascending state, each block with its equations or each equation with its
--- sign, moves, the end. Definitions only.
+-- The one spelling of a model: the sizes, whether it is live, labels by ascending state, each block with its equations or each
+-- equation with its sign, moves, the end. Definitions only.
 use mathlib.Core.Bool.{cond}
 use mathlib.Core.List.{List, [], _∷_, _++_}
 use Prim.Native.Nat.{ℕ, zero, suc}
@@ -11,6 +11,13 @@ use Rattle.rules.specs.declared.Sizes.{Sizes}
 
 abbrev pub sizesRec : Sizes → Rec
 sizesRec z = record { kind = 1; body = z .states ∷ z .actions ∷ z .propositions ∷ z .variables ∷ z .blocks ∷ [] }
+
+-- The record that says that the model is live, where it is.
+abbrev pub liveRec : Rec
+liveRec = record { kind = 10; body = [] }
+
+abbrev pub liveRecs : ℕ → List Rec
+liveRecs n = cond (eqb n 1) (liveRec ∷ []) []
 
 -- The labels from state s on. A state with the empty set has no record.
 abbrev pub labelRecs : ℕ → List ℕ → List Rec
@@ -56,7 +63,8 @@ moveRecs (q ∷ l) = moveRec q ∷ moveRecs l
 -- The records of a model.
 unfoldable pub records : Model → List Rec
 records m =
-    sizesRec (m .sizes) ∷ (labelRecs 0 (m .labels) ++ (styleRecs (m .sizes) (m .equations) ++ moveRecs (m .moves)))
+    sizesRec (m .sizes)
+    ∷ (liveRecs (m .live) ++ (labelRecs 0 (m .labels) ++ (styleRecs (m .sizes) (m .equations) ++ moveRecs (m .moves))))
 
 -- The bytes of a model.
 abbrev pub encode : Model → List ℕ

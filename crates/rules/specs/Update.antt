@@ -17,7 +17,7 @@ use Rattle.rules.specs.declared.State.{State}
 -- The model with the moves that a batch makes of its own.
 abbrev pub changed : List Change → Model → Model
 changed cs m =
-    record { sizes = m .sizes; labels = m .labels; equations = m .equations; moves = edited cs (m .moves) }
+    record { sizes = m .sizes; live = m .live; labels = m .labels; equations = m .equations; moves = edited cs (m .moves) }
 
 -- b is the value that a block shifts towards: true for a greatest block, false for a least one. A pair gains an own move
 -- where the batch inserts one: for a greatest block this counts for a diamond, for a least block for a box.

@@ -23,14 +23,16 @@ pub struct Sizes {
     pub blocks: u8,
 }
 
-// The small part of a session, kept by value: how many moves lie in the room lent for them, and their stamp.
+// The small part of a session, kept by value: whether the model is live (1) or not (0), how many moves lie in the room lent for
+// them, and their stamp.
 pub struct Session {
     pub sizes: Sizes,
+    pub live: u8,
     pub moves: u32,
     pub stamp: u32,
 }
 
-// Why the checker says no, in the order of the paper's numbers 1 to 13.
+// Why the checker says no, in the order of the paper's numbers: 1 to 13, and 16.
 pub enum Refusal {
     Broken,
     NotDue,
@@ -45,6 +47,7 @@ pub enum Refusal {
     WrongStamp,
     NotAModel,
     ShortRoom,
+    Hangs,
 }
 
 // What a load answers: a refusal with its place, or the session.
@@ -94,5 +97,6 @@ pub enum Record {
     Stamp(u32),
     Insert(Move),
     Delete(Move),
+    Live,
     Signed(u8, u8, u8, u8),
 }

@@ -3,3 +3,4 @@ pub mod EquationWalk
 pub mod MoveWalk
 pub mod CheckedMoves
 pub mod SignedWords
+pub mod LiveWalk

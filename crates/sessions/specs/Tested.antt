@@ -14,7 +14,7 @@ use Rattle.rules.specs.declared.Session.{Session}
 
 -- 12 for the sizes, where the move room has that length.
 unfoldable pub countsBy : Session → ℕ → Bool
-countsBy s room = sizesOk (s .sizes) && leb (s .moves) (min most-moves room)
+countsBy s room = sizesOk (s .sizes) && (leb (s .live) 1 && leb (s .moves) (min most-moves room))
 
 -- It is what the rules ask.
 pub counts-by : (s : Session) (l : Rooms) → countsOk s l ≡ countsBy s (length (l .moves))

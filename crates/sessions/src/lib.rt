@@ -10,15 +10,18 @@ ghost use Rattle.sessions.specs.SignedWords.{eachSign};
 ghost use Rattle.rules.specs.Session.{unword, restOk};
 ghost use Rattle.sessions.specs.Tested.{countsBy, roomsOf, heldIn, goesOn, equationOk};
 ghost use Rattle.sessions.specs.EquationWalk.{equationsFrom};
+ghost use Rattle.sessions.specs.LiveWalk.{liveBy};
+ghost use Rattle.laws.specs.Hanging.{movingOver};
 use rules::Session;
 use rules::Sizes;
 
-// 12 for the sizes: they and the move count are inside the limits, and the move room holds the moves.
+// 12 for the sizes: they, the flag and the move count are inside the limits, and the move room holds the moves.
 pub fn counts_ok(session: Session, room: usize) -> bool
     ensures { λ r. ⌜ r ≡ countsBy session room ⌝ }
 {
     let sizes = session.sizes;
-    limits::sizes_ok(sizes) & (session.moves as usize <= table::least(limits::MOST_MOVES, room))
+    limits::sizes_ok(sizes)
+        & ((session.live <= 1) & (session.moves as usize <= table::least(limits::MOST_MOVES, room)))
 }
 
 // Whether the highest proposition of each of the first n sets lies below the count.
@@ -62,6 +65,31 @@ fn moves_ok(sizes: Sizes, moves: &[u32], n: usize) -> bool
         i = i + 1;
     }
     ok
+}
+
+// How many states, from the first on, have a move each among the first n moves.
+fn moving(moves: &[u32], n: usize) -> u32
+    ensures { λ r. ⌜ r ≡ movingOver 0 (take n (now (moves .entry))) ⌝ }
+{
+    let end = table::least(n, moves.len());
+    let mut i: usize = 0;
+    let mut r: u32 = 0;
+    while i < end {
+        let m = table::unpacked(rooms::word_at(moves, i));
+        r = limits::moving_with(r, m.source);
+        i = i + 1;
+    }
+    r
+}
+
+// Whether all states of a live session are counted among those that have a move.
+fn live_ok(session: Session, moves: &[u32]) -> bool
+    ensures { λ r. ⌜ r ≡ liveBy session (now (moves .entry)) ⌝ }
+{
+    if session.live == 1 {
+        return moving(moves, session.moves as usize) == session.sizes.states as u32;
+    }
+    true
 }
 
 // The block number and the kind of an equation.
@@ -194,7 +222,8 @@ pub fn model_ok(session: Session, labels: &[u32], equations: &[u32], moves: &[u3
         & labels_ok(sizes, labels, states)
         & style_ok(sizes, equations, sizes.variables as usize)
         & moves_ok(sizes, moves, count)
-        & (table::least(count, moves.len()) <= limits::MOST_MOVES)
+        & ((table::least(count, moves.len()) <= limits::MOST_MOVES)
+            & ((session.live <= 1) & live_ok(session, moves)))
 }
 
 // 12 for the rest: the rooms hold a model inside the limits, no value is over 1, no mark over 3, and the stamp is that of

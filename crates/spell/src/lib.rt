@@ -5,7 +5,7 @@ ghost use Prim.Native.Nat.{_%_, _<_};
 ghost use lib.Seq.{sets};
 ghost use Rattle.rules.specs.Records.{bytes};
 ghost use Rattle.rules.specs.Session.{unword};
-ghost use Rattle.rules.specs.Spelling.{sizesRec, blockRec, equationRec, signedRec, moveRec, endRec};
+ghost use Rattle.rules.specs.Spelling.{sizesRec, liveRec, blockRec, equationRec, signedRec, moveRec, endRec};
 ghost use Rattle.spell.specs.Written.{labelRec, operatorBytes};
 use rules::Sizes;
 
@@ -57,6 +57,12 @@ pub fn write_sizes(out: &mut [u8], at: usize, z: Sizes)
     let states = z.states as u32;
     put4(out, at, 1, low(states), low(states / 256), z.actions);
     put3(out, at + 4, z.propositions, z.variables, z.blocks);
+}
+
+pub fn write_live(out: &mut [u8], at: usize)
+    ensures { λ _. ⌜ now (out .exit) ≡ sets (now (out .entry)) at (bytes liveRec) ⌝ }
+{
+    rooms::set_byte(out, at, 10);
 }
 
 pub fn write_label(out: &mut [u8], at: usize, s: u32, v: u32)

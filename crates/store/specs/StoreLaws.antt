@@ -46,7 +46,7 @@ use Rattle.judge.specs.declared.ReadModel.the-variants as M
 use Rattle.rules.specs.Answers.{numberOf}
 use Rattle.rules.specs.declared.Refusal.{Refusal}
 use Rattle.rules.specs.declared.Sizes.{Sizes}
-use Rattle.judge.specs.TurnLaws.{Stepped, label, block, equation, move, sign, stepped}
+use Rattle.judge.specs.TurnLaws.{Stepped, label, block, equation, move, lives, sign, stepped}
 use Rattle.judge.specs.declared.Progress.{Progress}
 use Rattle.store.specs.Stored.{Stored, putRooms, putTurn, laid, withComponents, storedBy, lengthsWith, ReadInto}
 
@@ -74,6 +74,7 @@ laid-by l x y r m t k (block a n d) =
     let e : x .labels + length z ≡ x .sizes .states = rw length-replicate (omega arith) in
     rw (sets-append z (m .labels) (t .labels) (x .labels), e) refl
 laid-by l x y r m t k (equation o a b d) = refl
+laid-by l x y r m t k (lives d) = refl
 laid-by l x y r m t k (sign c o a b d) =
     let z : List ℕ = replicate (x .sizes .states - x .labels) 0 in
     let e : x .labels + length z ≡ x .sizes .states = rw length-replicate (omega arith) in
@@ -187,18 +188,19 @@ module _ (l : Lengths) (s : List ℕ) (t₀ : Stored) where
   storing-over x t g e = over-by x t (g .going) (g .holds) e
 
 -- Other records store nothing.
-pub puts-nothing : (x : Sofar) (r : Record) (t : Stored) → OneOf (0 ∷ 5 ∷ 6 ∷ 7 ∷ 8 ∷ []) (tagOf the-type r) → t ≡ putRooms x r t
+pub puts-nothing : (x : Sofar) (r : Record) (t : Stored) → OneOf (0 ∷ 5 ∷ 6 ∷ 7 ∷ 8 ∷ 9 ∷ []) (tagOf the-type r) → t ≡ putRooms x r t
 unfolding putRooms
 puts-nothing x (R.Sizes a) t m = refl
-puts-nothing x (R.Label a b) t m = absurd (miss (0 ∷ 5 ∷ 6 ∷ 7 ∷ 8 ∷ []) 1 tt m)
-puts-nothing x (R.Block a b) t m = absurd (miss (0 ∷ 5 ∷ 6 ∷ 7 ∷ 8 ∷ []) 2 tt m)
-puts-nothing x (R.Equation a b d) t m = absurd (miss (0 ∷ 5 ∷ 6 ∷ 7 ∷ 8 ∷ []) 3 tt m)
-puts-nothing x (R.Move a) t m = absurd (miss (0 ∷ 5 ∷ 6 ∷ 7 ∷ 8 ∷ []) 4 tt m)
+puts-nothing x (R.Label a b) t m = absurd (miss (0 ∷ 5 ∷ 6 ∷ 7 ∷ 8 ∷ 9 ∷ []) 1 tt m)
+puts-nothing x (R.Block a b) t m = absurd (miss (0 ∷ 5 ∷ 6 ∷ 7 ∷ 8 ∷ 9 ∷ []) 2 tt m)
+puts-nothing x (R.Equation a b d) t m = absurd (miss (0 ∷ 5 ∷ 6 ∷ 7 ∷ 8 ∷ 9 ∷ []) 3 tt m)
+puts-nothing x (R.Move a) t m = absurd (miss (0 ∷ 5 ∷ 6 ∷ 7 ∷ 8 ∷ 9 ∷ []) 4 tt m)
 puts-nothing x R.End t m = refl
 puts-nothing x (R.Stamp a) t m = refl
 puts-nothing x (R.Insert a) t m = refl
 puts-nothing x (R.Delete a) t m = refl
-puts-nothing x (R.Signed a b c d) t m = absurd (miss (0 ∷ 5 ∷ 6 ∷ 7 ∷ 8 ∷ []) 9 tt m)
+puts-nothing x R.Live t m = refl
+puts-nothing x (R.Signed a b c d) t m = absurd (miss (0 ∷ 5 ∷ 6 ∷ 7 ∷ 8 ∷ 9 ∷ []) 10 tt m)
 
 -- Stored from the front on, where there is room, is the room filled.
 sets-fill : (new room : List ℕ) → length new ≤ length room → sets room 0 new ≡ fill new room
@@ -282,14 +284,14 @@ pub read-refused : (s : List ℕ) (values marks : ℕ) (t : Stored) (r : ReadMod
 read-refused s values marks t r e p q h =
     record { says = h; stores = refused-stores (readModel (lengthsWith values marks t) s) (numberOf e) p t (rw q at h) }
 
-pub read-good : (s : List ℕ) (values marks : ℕ) (t u : Stored) (out : List ℕ) (r : ReadModel) (z : Sizes) (n : ℕ) → AreBytes s → r ≡ M.Good z n
+pub read-good : (s : List ℕ) (values marks : ℕ) (t u : Stored) (out : List ℕ) (r : ReadModel) (z : Sizes) (live n : ℕ) → AreBytes s → r ≡ M.Good z live n
     → readSays r ≡ summary (readModel (lengthsWith values marks t) s)
     → ((m : Model) → readPlain (lengthsWith values marks t) s ≡ accepted m → u ≡ laid (started (m .sizes)) m t) → out ≡ withComponents z (u .equations)
-    → ReadInto s values marks t (M.Good z n) (record { labels = u .labels; equations = out; moves = u .moves })
-read-good s values marks t u out r z n b q h f c =
+    → ReadInto s values marks t (M.Good z live n) (record { labels = u .labels; equations = out; moves = u .moves })
+read-good s values marks t u out r z live n b q h f c =
     record {
       says = rw q at h;
-      stores = good-stores (readModel (lengthsWith values marks t) s) (record { sizes = z; moves = n }) t _ (rw q at h) (λ m e g.
+      stores = good-stores (readModel (lengthsWith values marks t) s) (record { sizes = z; live = live; moves = n }) t _ (rw q at h) (λ m e g.
           let d = plain-accepts (lengthsWith values marks t) s m e in
           ap (λ (ws : List ℕ). record { labels = u .labels; equations = ws; moves = u .moves }) c
           ∙ ap₂ completed g (f (d .0) (d .1)) ∙ stored-whole s values marks t m (d .0) b e (d .2));
@@ -300,6 +302,6 @@ good-fits : (o : Outcome Model) (b : Summary) (t : Stored) → accepted b ≡ su
 good-fits (refused k q) b t h f = absurd (never (sym h))
 good-fits (accepted m) b t h f = let e : b .sizes ≡ m .sizes = cc in rw e (f m refl)
 
-pub read-fits : (s : List ℕ) (values marks : ℕ) (t : Stored) (r : ReadModel) (z : Sizes) (n : ℕ) → AreBytes s → r ≡ M.Good z n → readSays r ≡ summary (readModel (lengthsWith values marks t) s) → Fitting z t
-read-fits s values marks t r z n b q h =
-    good-fits (readModel (lengthsWith values marks t) s) (record { sizes = z; moves = n }) t (rw q at h) (λ m e. accepted-fits s values marks t m b e)
+pub read-fits : (s : List ℕ) (values marks : ℕ) (t : Stored) (r : ReadModel) (z : Sizes) (live n : ℕ) → AreBytes s → r ≡ M.Good z live n → readSays r ≡ summary (readModel (lengthsWith values marks t) s) → Fitting z t
+read-fits s values marks t r z live n b q h =
+    good-fits (readModel (lengthsWith values marks t) s) (record { sizes = z; live = live; moves = n }) t (rw q at h) (λ m e. accepted-fits s values marks t m b e)

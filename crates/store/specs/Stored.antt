@@ -47,6 +47,7 @@ putRooms x R.End t = t
 putRooms x (R.Stamp n) t = t
 putRooms x (R.Insert m) t = t
 putRooms x (R.Delete m) t = t
+putRooms x R.Live t = t
 putRooms x (R.Signed k o a b) t =
     record {
       labels = sets (t .labels) (x .labels) (replicate (x .sizes .states - x .labels) 0);

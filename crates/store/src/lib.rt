@@ -158,7 +158,7 @@ pub fn read_model(
         moves: moves.len(),
     };
     let answer = judge::judge_model(bytes, l);
-    let ReadModel::Good(z, _) = answer else {
+    let ReadModel::Good(z, _, _) = answer else {
         return answer;
     };
     store_model(bytes, l, labels, equations, moves);

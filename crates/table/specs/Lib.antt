@@ -7,3 +7,4 @@ pub mod Searching
 pub mod OwnMoves
 pub mod PartEnds
 pub mod Members
+pub mod StateMoves

@@ -1,11 +1,12 @@
 // The sorted list of packed moves: its stamp, which part of it belongs to a state and an action, and what stands in it.
 ghost use mathlib.Core.Path.{_≡_};
 ghost use mathlib.Core.Bool.{true, cond};
-ghost use Prim.Native.Nat.{_+_, _-_, _<_, min};
+ghost use Prim.Native.Nat.{_+_, _-_, _≤_, _<_, min};
 ghost use lib.ListN.{length, getD, take, drop};
 ghost use lib.Dec.{ltb};
 ghost use Rattle.lists.specs.Lists.{elem};
 ghost use Rattle.rules.specs.Moves.{source, action, target, weight, wrap, stampOf};
+ghost use Rattle.laws.specs.Emptied.{movesOf};
 ghost use Rattle.table.specs.Ascending.{ascends, below, leading};
 ghost use Rattle.table.specs.Halving.{testsFor};
 ghost use Rattle.table.specs.OwnMoves.{partOf};
@@ -184,4 +185,15 @@ pub fn part_of(moves: &[u32], n: usize, source: u32, action: u32) -> Part
         from: from.at,
         end: end.at,
     }
+}
+
+// How many of the first n moves are of a state: two searches find the ends of its part.
+pub fn moves_of(moves: &[u32], n: usize, here: State) -> usize
+    requires { ⌜ ascends 0 (take n (now moves)) ≡ true ⌝ }
+    ensures { λ r. ⌜ (r ≡ movesOf (here .0) (take n (now (moves .entry)))) × (r ≤ length (now (moves .entry))) ⌝ }
+{
+    let first = 65536 * (here.0 as u64);
+    let from = search(moves, n, 0, first);
+    let end = search(moves, n, 0, first + 65536);
+    end.at - from.at
 }

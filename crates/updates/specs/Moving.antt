@@ -11,7 +11,7 @@ use lib.Dec.{leb}
 use Rattle.lists.specs.Lists.{all}
 use Rattle.lists.specs.Tests.{tell, and-is, leb-is}
 use Rattle.rules.specs.Limits.{most-moves, sizesOk}
-use Rattle.rules.specs.Model.{wellFormed, WellFormed}
+use Rattle.rules.specs.Model.{liveOk, wellFormed, WellFormed}
 use Rattle.rules.specs.Records.{accepted}
 use Rattle.rules.specs.Rooms.{Rooms, pairsOf}
 use Rattle.rules.specs.Batch.{Change, Batch, changesOk, judge, inserts, edited}
@@ -19,6 +19,7 @@ use Rattle.rules.specs.Session.{held}
 use Rattle.rules.specs.Update.{changed}
 use Rattle.rules.specs.declared.Session.{Session}
 use Rattle.laws.specs.Edits.{Judged, AllOk, judge-out, edited-wellFormed, all-ok}
+use Rattle.laws.specs.LiveApart.{still, still-good}
 use Rattle.laws.specs.ModelSystem.{Sound, sound}
 use Rattle.sessions.specs.CheckedMoves as Moves
 use Rattle.applies.specs.Kept.{Kept, appliedTo}
@@ -28,6 +29,7 @@ use Rattle.calls.specs.Passed.{Fits, passed-fits, passed-holds, passed-moves}
 use Rattle.calls.specs.declared.Checked.{Checked}
 use Rattle.calls.specs.declared.Checked.the-variants as Found
 use Rattle.pairs.specs.Drawn.{tableOf, Drawn}
+use Rattle.edits.specs.Fits.{Held}
 use Rattle.engine.specs.Runs.{Started, withMoves}
 
 -- What a session that was checked is known to be.
@@ -46,16 +48,22 @@ pub sane-sizes : (s : Session) (l : Rooms) → Sane s l → sizesOk (s .sizes) �
 unfolding wellFormed
 sane-sizes s l p = let k = simp and-is at (p .model) in k .0 .0 .0 .0 .0
 
+-- What a batch may rely on when it is judged.
+pub sane-held : (s : Session) (l : Rooms) → Sane s l → Held s (l .moves)
+unfolding wellFormed
+sane-held s l p = let k = simp and-is at (p .model) in record { stamp = p .moves .stamp; in-range = p .moves .in-range; lively = k .1 .1 .1 }
+
 -- Changes with which nothing is wrong in such a session.
 pub record Able (s : Session) (l : Rooms) (cs : List Change) : Type 0 where
   pub is-sane : Sane s l
   pub judged : Judged (held s l .moves) cs
   pub in-range : changesOk (s .sizes) cs ≡ true
   pub few : length (edited cs (held s l .moves)) ≤ min most-moves (length (l .moves))
+  pub lives : liveOk (s .live) (s .sizes .states) (edited cs (held s l .moves)) ≡ true
 
 -- The judgement says so.
-pub able : (s : Session) (l : Rooms) (b b′ : Batch) → Sane s l → changesOk (s .sizes) (b .changes) ≡ true → judge (length (l .moves)) (held s l .moves) b ≡ accepted b′ → Able s l (b .changes)
-able s l b b′ p r j = let k = judge-out (length (l .moves)) (held s l .moves) b b′ j in record { is-sane = p; judged = k .1; in-range = r; few = k .2 }
+pub able : (s : Session) (l : Rooms) (b b′ : Batch) → Sane s l → changesOk (s .sizes) (b .changes) ≡ true → judge s (length (l .moves)) (held s l .moves) b ≡ accepted b′ → Able s l (b .changes)
+able s l b b′ p r j = let k = judge-out s (length (l .moves)) (held s l .moves) b b′ j in record { is-sane = p; judged = k .1; in-range = r; few = k .2; lives = k .4 }
 
 -- Where no number of a list is over 1, none is.
 each-small : (l : List ℕ) → all (λ v. leb v 1) l ≡ true → (p : ℕ) → getD l p 0 ≤ 1
@@ -92,12 +100,12 @@ module _ (s : Session) (l : Rooms) (cs : List Change) (a : Able s l cs) (ms : Li
       let g = length-append (es ++ zs) (drop (length (es ++ zs)) (l .moves)) in
       let h = length-append es zs in omega arith
 
-  -- The table in the rooms is the changed model.
-  pub made-table : tableOf (s .sizes) (l .labels) (l .equations) ms n ≡ changed cs (held s l)
-  made-table = ap (λ (k : List ℕ). withMoves k (held s l)) made-moves
+  -- The table in the rooms is the changed model, but for the flag.
+  pub made-table : tableOf (s .sizes) (l .labels) (l .equations) ms n ≡ still (changed cs (held s l))
+  made-table = ap (λ (k : List ℕ). withMoves k (still (held s l))) made-moves
 
   made-model : WellFormed (changed cs (held s l))
-  made-model = let f = a .few in edited-wellFormed (held s l) cs (a .is-sane .model) (a .judged) (all-ok (s .sizes) cs (a .in-range)) (omega arith)
+  made-model = let f = a .few in edited-wellFormed (held s l) cs (a .is-sane .model) (a .judged) (all-ok (s .sizes) cs (a .in-range)) (omega arith) (a .lives)
 
   -- It is one that a load accepts.
   pub made-drawn : Drawn (s .sizes) (l .labels) (l .equations) ms n
@@ -105,7 +113,7 @@ module _ (s : Session) (l : Rooms) (cs : List Change) (a : Able s l cs) (ms : Li
     long-labels = a .is-sane .fits .labels-room;
     long-equations = a .is-sane .fits .equations-room;
     long-moves = made-long;
-    model = subst WellFormed (sym made-table) made-model;
+    model = subst WellFormed (sym made-table) (still-good (changed cs (held s l)) made-model);
   }
 
   -- And the machine can start on it.
@@ -114,8 +122,8 @@ module _ (s : Session) (l : Rooms) (cs : List Change) (a : Able s l cs) (ms : Li
     old = held s l .moves;
     made = sym made-moves;
     judged = a .judged;
-    was-sound = sound (held s l) (a .is-sane .model);
-    is-sound = subst Sound (sym made-table) (sound (changed cs (held s l)) made-model);
+    was-sound = sound (still (held s l)) (still-good (held s l) (a .is-sane .model));
+    is-sound = subst Sound (sym made-table) (sound (still (changed cs (held s l))) (still-good (changed cs (held s l)) made-model));
     long = length-take-le (pairsOf (s .sizes)) (l .values) (a .is-sane .fits .values-room);
     small = each-small (take (pairsOf (s .sizes)) (l .values)) (a .is-sane .values);
   }

@@ -15,7 +15,7 @@ use Rattle.rules.specs.Records.{Outcome, refused, accepted}
 use Rattle.rules.specs.Rooms.{Rooms, pairsOf}
 use Rattle.rules.specs.Batch.{Change, Batch, readBatch, judge, edited}
 use Rattle.rules.specs.Session.{held}
-use Rattle.rules.specs.Update.{Turned, turnAll, trues}
+use Rattle.rules.specs.Update.{Turned, changed, turnAll, trues}
 use Rattle.rules.specs.Values.{Values}
 use Rattle.rules.specs.Calls.{Left, andThen, valueAt, batchBy}
 use Rattle.rules.specs.Answers.{numberOf}
@@ -23,6 +23,7 @@ use Rattle.rules.specs.declared.Refusal.{Refusal}
 use Rattle.rules.specs.declared.Session.{Session}
 use Rattle.rules.specs.declared.Report.{Report}
 use Rattle.laws.specs.Edits.{carry, edited-stamp}
+use Rattle.laws.specs.LiveApart.{still, turn-still, visits-still}
 use Rattle.edits.specs.Judging.{verdictSays}
 use Rattle.edits.specs.declared.Verdict.{Verdict}
 use Rattle.edits.specs.declared.Verdict.the-variants as Found
@@ -40,10 +41,25 @@ batchOf s l cs = batchBy s l (accepted (record { stamp = 0; changes = cs }))
 
 -- What the rule says of a batch that was read, and of bytes.
 abbrev pub batchRead : Session → Rooms → Batch → Left Report Rooms
-batchRead s l b = batchBy s l (judge (length (l .moves)) (held s l .moves) b)
+batchRead s l b = batchBy s l (judge s (length (l .moves)) (held s l .moves) b)
 
 abbrev pub batchBytes : Session → Rooms → List ℕ → Left Report Rooms
-batchBytes s l bytes = batchBy s l (andThen (readBatch (s .sizes) bytes) (judge (length (l .moves)) (held s l .moves)))
+batchBytes s l bytes = batchBy s l (andThen (readBatch (s .sizes) bytes) (judge s (length (l .moves)) (held s l .moves)))
+
+-- Whether the model is live plays no part in what an update leaves.
+leaves-live : (m : Model) (cs : List Change) (values₀ marks₀ values marks : List ℕ) (shift settle : ℕ) (net : ℤ)
+    → Leaves (still m) (turnAll (still m) cs (valueAt values₀)) values₀ marks₀ values marks shift settle net
+    → Leaves m (turnAll m cs (valueAt values₀)) values₀ marks₀ values marks shift settle net
+leaves-live m cs values₀ marks₀ values marks shift settle net f =
+    let g = subst (λ (t : Turned). Leaves (still m) t values₀ marks₀ values marks shift settle net) (turn-still m cs (valueAt values₀)) f in
+    let t = turnAll m cs (valueAt values₀) in
+    record {
+      values-are = g .values-are;
+      marks-are = g .marks-are;
+      shift-is = g .shift-is ∙ visits-still m (at (t .shifted));
+      settle-is = g .settle-is ∙ visits-still m (at (t .settled));
+      net-is = g .net-is;
+    }
 
 -- The values, the marks, the visits and the net that the machine leaves, with the stamp carried.
 pub update-reports : (s : Session) (l : Rooms) (cs : List Change) (a : Able s l cs) (ms : List ℕ) (n : ℕ)
@@ -51,16 +67,17 @@ pub update-reports : (s : Session) (l : Rooms) (cs : List Change) (a : Able s l 
     → (values marks : List ℕ) (shift settle : ℕ) (net : ℤ) (stamp : ℕ)
     → Leaves (tableOf (s .sizes) (l .labels) (l .equations) ms n) (turnAll (tableOf (s .sizes) (l .labels) (l .equations) ms n) cs (valueAt (l .values))) (l .values) (l .marks) values marks shift settle net
     → stamp ≡ carry (s .stamp) cs
-    → updated (accepted (record { session = record { sizes = s .sizes; moves = n; stamp = stamp }; visits = record { shift = shift; settle = settle }; net = net })) (roomsOf (l .labels) (l .equations) values marks ms)
+    → updated (accepted (record { session = record { sizes = s .sizes; live = s .live; moves = n; stamp = stamp }; visits = record { shift = shift; settle = settle }; net = net })) (roomsOf (l .labels) (l .equations) values marks ms)
     ≡ batchOf s l cs
 update-reports s l cs a ms n e values marks shift settle net stamp f c =
-    let g = subst (λ (m : Model). Leaves m (turnAll m cs (valueAt (l .values))) (l .values) (l .marks) values marks shift settle net) (made-table s l cs a ms n e) f in
+    let g = leaves-live (changed cs (held s l)) cs (l .values) (l .marks) values marks shift settle net
+    (subst (λ (m : Model). Leaves m (turnAll m cs (valueAt (l .values))) (l .values) (l .marks) values marks shift settle net) (made-table s l cs a ms n e) f) in
     let k = made s l cs a ms n e in
     let p : stamp ≡ stampOf (edited cs (held s l .moves)) =
     c ∙ ap (λ (x : ℕ). carry x cs) (a .is-sane .moves .stamp) ∙ edited-stamp (s .sizes) (held s l .moves) cs (a .judged) (a .is-sane .moves .in-range) in
     λ i. record {
       answer = accepted (record {
-        session = record { sizes = s .sizes; moves = k i .count; stamp = p i };
+        session = record { sizes = s .sizes; live = s .live; moves = k i .count; stamp = p i };
         visits = record { shift = g .shift-is i; settle = g .settle-is i };
         net = g .net-is i;
       });
@@ -81,9 +98,9 @@ net-small m t values₀ marks₀ values marks shift settle net h f =
     subst (λ (z : ℤ). mag z < 2 ^ 31) (sym (f .net-is)) (mag-sub (trues n (at (t .values))) (trues n (valueAt values₀)) (omega arith) (omega arith))
 
 -- A batch that was judged: v is the verdict.
-module _ (s : Session) (l : Rooms) (b : Batch) (v : Verdict) (h : verdictSays b v ≡ judge (length (l .moves)) (held s l .moves) b) where
+module _ (s : Session) (l : Rooms) (b : Batch) (v : Verdict) (h : verdictSays b v ≡ judge s (length (l .moves)) (held s l .moves) b) where
   -- A good verdict is the judgement's.
-  pub judged-good : v ≡ Found.Good → judge (length (l .moves)) (held s l .moves) b ≡ accepted b
+  pub judged-good : v ≡ Found.Good → judge s (length (l .moves)) (held s l .moves) b ≡ accepted b
   judged-good g = sym h ∙ ap (verdictSays b) g
 
   -- A batch with a good verdict is applied.
@@ -96,7 +113,7 @@ module _ (s : Session) (l : Rooms) (b : Batch) (v : Verdict) (h : verdictSays b 
 
 -- Bytes that are read as a batch come to what the batch comes to, and a refusal of the reading is the answer.
 pub bytes-good : (s : Session) (l : Rooms) (bytes : List ℕ) (b : Batch) → readBatch (s .sizes) bytes ≡ accepted b → batchRead s l b ≡ batchBytes s l bytes
-bytes-good s l bytes b e = sym (ap (λ (o : Outcome Batch). batchBy s l (andThen o (judge (length (l .moves)) (held s l .moves)))) e)
+bytes-good s l bytes b e = sym (ap (λ (o : Outcome Batch). batchBy s l (andThen o (judge s (length (l .moves)) (held s l .moves)))) e)
 
 pub bytes-bad : (s : Session) (l : Rooms) (bytes : List ℕ) (n p : ℕ) → readBatch (s .sizes) bytes ≡ refused n p → updated (refused n p) l ≡ batchBytes s l bytes
-bytes-bad s l bytes n p e = sym (ap (λ (o : Outcome Batch). batchBy s l (andThen o (judge (length (l .moves)) (held s l .moves)))) e)
+bytes-bad s l bytes n p e = sym (ap (λ (o : Outcome Batch). batchBy s l (andThen o (judge s (length (l .moves)) (held s l .moves)))) e)

@@ -53,6 +53,7 @@ fn move_on(
     let held = n as u32;
     let after = Session {
         sizes: sizes,
+        live: session.live,
         moves: held,
         stamp: edits::carried(session.stamp, changes, count),
     };
@@ -63,7 +64,7 @@ fn move_on(
     }
 }
 
-// A batch that was read: 11, 9, 7 and 8, or 10, or it is applied.
+// A batch that was read: 11, 9, 7 and 8, 10, or 16, or it is applied.
 fn judge_on(
     session: Session,
     changes: &[u32],
@@ -82,9 +83,8 @@ fn judge_on(
         ≡ batchRead session (roomsOf (now (labels .entry)) (now (equations .entry)) (now (values .entry)) (now (marks .entry)) (now (moves .entry)))
         (record { stamp = stamp; changes = changesOf (take count (now (changes .entry))) }) ⌝ }
 {
-    let n = session.moves as usize;
     let room = moves.len();
-    let verdict = edits::judge_batch(changes, count, stamp, session.stamp, moves, n, room);
+    let verdict = edits::judge_batch(session, changes, count, stamp, moves, room);
     match verdict {
         Verdict::Refused(why, at) => Updated::Refused(why, at),
         Verdict::Good => Updated::Accepted(move_on(

@@ -54,7 +54,7 @@ move-body s b = let e : b + 2 + 1 ≡ b + 3 = omega arith in simp (drop-drop, nu
 
 -- There is no kind over 11.
 unknown : (k : ℕ) → known (suc (suc (suc (suc (suc (suc (suc (suc (suc (suc (suc (suc k)))))))))))) ≡ true → ⊥
-unknown k h = let f = simp and-is at h in let g = ltb-is (suc (suc (suc (suc (suc (suc (suc (suc (suc (suc (suc (suc k)))))))))))) 12 .0 (f .0 .1) in omega arith
+unknown k h = let f = simp and-is at h in let g = ltb-is (suc (suc (suc (suc (suc (suc (suc (suc (suc (suc (suc (suc k)))))))))))) 12 .0 (f .1) in omega arith
 
 -- The enum's kind and numbers are those of the record's bytes.
 enum-numbers : (k : ℕ) (s : List ℕ) (b : ℕ) → known k ≡ true → numbersOf (recordOf k s b) ≡ record { kind = k; body = reads (widths k) (drop b s) }
@@ -73,7 +73,7 @@ enum-numbers (suc (suc (suc (suc (suc (suc zero)))))) s b h = refl
 enum-numbers (suc (suc (suc (suc (suc (suc (suc zero))))))) s b h = simp number4
 enum-numbers (suc (suc (suc (suc (suc (suc (suc (suc zero)))))))) s b h = ap (ofKind 8) (sym (move-body s b))
 enum-numbers (suc (suc (suc (suc (suc (suc (suc (suc (suc zero))))))))) s b h = ap (ofKind 9) (sym (move-body s b))
-enum-numbers (suc (suc (suc (suc (suc (suc (suc (suc (suc (suc zero)))))))))) s b h = absurd (false≢true h)
+enum-numbers (suc (suc (suc (suc (suc (suc (suc (suc (suc (suc zero)))))))))) s b h = refl
 enum-numbers (suc (suc (suc (suc (suc (suc (suc (suc (suc (suc (suc zero))))))))))) s b h =
     let e2 : b + 1 + 1 ≡ b + 2 = omega arith in
     let e3 : b + 2 + 1 ≡ b + 3 = omega arith in
@@ -93,7 +93,7 @@ body-known (suc (suc (suc (suc (suc (suc zero)))))) h = (refl, omega arith)
 body-known (suc (suc (suc (suc (suc (suc (suc zero))))))) h = (refl, omega arith)
 body-known (suc (suc (suc (suc (suc (suc (suc (suc zero)))))))) h = (refl, omega arith)
 body-known (suc (suc (suc (suc (suc (suc (suc (suc (suc zero))))))))) h = (refl, omega arith)
-body-known (suc (suc (suc (suc (suc (suc (suc (suc (suc (suc zero)))))))))) h = absurd (false≢true h)
+body-known (suc (suc (suc (suc (suc (suc (suc (suc (suc (suc zero)))))))))) h = (refl, omega arith)
 body-known (suc (suc (suc (suc (suc (suc (suc (suc (suc (suc (suc zero))))))))))) h = (refl, omega arith)
 body-known (suc (suc (suc (suc (suc (suc (suc (suc (suc (suc (suc (suc k)))))))))))) h = absurd (unknown k h)
 
@@ -109,10 +109,10 @@ body-unknown (suc (suc (suc (suc (suc (suc zero)))))) h = absurd (false≢true (
 body-unknown (suc (suc (suc (suc (suc (suc (suc zero))))))) h = absurd (false≢true (sym h))
 body-unknown (suc (suc (suc (suc (suc (suc (suc (suc zero)))))))) h = absurd (false≢true (sym h))
 body-unknown (suc (suc (suc (suc (suc (suc (suc (suc (suc zero))))))))) h = absurd (false≢true (sym h))
-body-unknown (suc (suc (suc (suc (suc (suc (suc (suc (suc (suc zero)))))))))) h = refl
+body-unknown (suc (suc (suc (suc (suc (suc (suc (suc (suc (suc zero)))))))))) h = absurd (false≢true (sym h))
 body-unknown (suc (suc (suc (suc (suc (suc (suc (suc (suc (suc (suc zero))))))))))) h = absurd (false≢true (sym h))
 body-unknown (suc (suc (suc (suc (suc (suc (suc (suc (suc (suc (suc (suc k)))))))))))) h =
-    rw (off 1 (omega arith), off 2 (omega arith), off 3 (omega arith), off 4 (omega arith), off 5 (omega arith), off 6 (omega arith), off 7 (omega arith), off 8 (omega arith), off 9 (omega arith), off 11 (omega arith)) refl
+    rw (off 1 (omega arith), off 2 (omega arith), off 3 (omega arith), off 4 (omega arith), off 5 (omega arith), off 6 (omega arith), off 7 (omega arith), off 8 (omega arith), off 9 (omega arith), off 10 (omega arith), off 11 (omega arith)) refl
   where
     off : (j : ℕ) → j < 12 → eqb (suc (suc (suc (suc (suc (suc (suc (suc (suc (suc (suc (suc k)))))))))))) j ≡ false
     off j l = eqb-no _ j .1 (λ e. omega arith)

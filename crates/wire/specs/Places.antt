@@ -39,8 +39,9 @@ bodyLen k =
     (cond (eqb k 7) 4
     (cond (eqb k 8) 5
     (cond (eqb k 9) 5
+    (cond (eqb k 10) 0
     (cond (eqb k 11) 4
-    255)))))))))
+    255))))))))))
 
 -- The record of a kind whose body stands at b.
 unfoldable pub recordOf : ℕ → List ℕ → ℕ → Record
@@ -53,8 +54,9 @@ recordOf k s b =
     (cond (eqb k 7) (R.Stamp (le32 s b))
     (cond (eqb k 8) (R.Insert (moveAt s b))
     (cond (eqb k 9) (R.Delete (moveAt s b))
+    (cond (eqb k 10) R.Live
     (cond (eqb k 11) (R.Signed (getD s b 0) (getD s (b + 1) 0) (getD s (b + 2) 0) (getD s (b + 3) 0))
-    R.End))))))))
+    R.End)))))))))
 
 -- The record at a place and the place after it. Past the end, at an unknown kind and at a record that is cut off, nothing.
 unfoldable pub recordAt : List ℕ → ℕ → Read

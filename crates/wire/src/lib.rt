@@ -87,6 +87,7 @@ fn body_len(kind: u8) -> usize
         7 => 4,
         8 => 5,
         9 => 5,
+        10 => 0,
         11 => 4,
         _ => 255,
     }
@@ -106,6 +107,7 @@ fn body_at(s: &[u8], kind: u8, at: usize) -> Record
         7 => Record::Stamp(u32_at(s, at)),
         8 => Record::Insert(move_at(s, at)),
         9 => Record::Delete(move_at(s, at)),
+        10 => Record::Live,
         11 => Record::Signed(s[at], s[at + 1], s[at + 2], s[at + 3]),
         _ => Record::End,
     }

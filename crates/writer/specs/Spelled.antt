@@ -10,7 +10,7 @@ use Rattle.lists.specs.Lists.{listed}
 use Rattle.rules.specs.Model.{Equation, Model, runOf}
 use Rattle.rules.specs.Records.{bytes, bytesOf}
 use Rattle.rules.specs.Session.{unword}
-use Rattle.rules.specs.Spelling.{labelRecs, blockRec, equationRec, equationRecs, signedRec, signedRecs, moveRecs}
+use Rattle.rules.specs.Spelling.{liveRecs, labelRecs, blockRec, equationRec, equationRecs, signedRec, signedRecs, moveRecs}
 use Rattle.rules.specs.declared.Sizes.{Sizes}
 
 -- The entries of a room from place i up to place n; what lies past the room's end is 0.
@@ -20,6 +20,10 @@ rest room i n = listed i (n - i) (λ p. getD room p 0)
 -- Bytes written into a room from a place on: the room after, and the place after.
 abbrev pub Wrote : List ℕ → ℕ → List ℕ → List ℕ → ℕ → Type 0
 Wrote out at bs after next = (after ≡ sets out at bs) × (next ≡ at + length bs)
+
+-- The bytes that say whether the model is live: one byte where it is, else none.
+unfoldable pub liveBytes : ℕ → List ℕ
+liveBytes n = bytesOf (liveRecs n)
 
 -- One label's bytes, and those of the labels from state i on.
 abbrev pub oneLabel : ℕ → ℕ → List ℕ
@@ -45,7 +49,7 @@ equationBytes signs b room i n =
 unfoldable pub moveBytes : List ℕ → ℕ → ℕ → List ℕ
 moveBytes room i n = bytesOf (moveRecs (rest room i n))
 
--- The model that sizes and a move count cut out of the rooms.
-abbrev pub heldIn : Sizes → ℕ → List ℕ → List ℕ → List ℕ → Model
-heldIn z n labels equations moves =
-    record { sizes = z; labels = rest labels 0 (z .states); equations = map unword (rest equations 0 (z .variables)); moves = rest moves 0 n }
+-- The model that sizes, the flag and a move count cut out of the rooms.
+abbrev pub heldIn : Sizes → ℕ → ℕ → List ℕ → List ℕ → List ℕ → Model
+heldIn z live n labels equations moves =
+    record { sizes = z; live = live; labels = rest labels 0 (z .states); equations = map unword (rest equations 0 (z .variables)); moves = rest moves 0 n }

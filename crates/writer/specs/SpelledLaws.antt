@@ -16,12 +16,12 @@ use Rattle.rules.specs.Model.{Equation, runOf, signed, WellFormed}
 use Rattle.rules.specs.Records.{Rec, bytes, bytesOf, widths}
 use Rattle.rules.specs.Rooms.{Rooms}
 use Rattle.rules.specs.Session.{unword, held}
-use Rattle.rules.specs.Spelling.{labelRecs, blockRec, equationRec, equationRecs, signedRec, styleRecs, moveRec, moveRecs, endRec, sizesRec, records, encode}
+use Rattle.rules.specs.Spelling.{liveRec, liveRecs, labelRecs, blockRec, equationRec, equationRecs, signedRec, styleRecs, moveRec, moveRecs, endRec, sizesRec, records, encode}
 use Rattle.rules.specs.declared.Session.{Session}
 use Rattle.rules.specs.declared.Sizes.{Sizes}
 use Rattle.laws.specs.SpellingLength.{labelled, equationSize, encode-length}
 use Rattle.spell.specs.Written.{labelRec, sets-append}
-use Rattle.writer.specs.Spelled.{rest, Wrote, oneLabel, labelBytes, inBlock, oneEquation, equationBytes, moveBytes, heldIn}
+use Rattle.writer.specs.Spelled.{rest, Wrote, liveBytes, oneLabel, labelBytes, inBlock, oneEquation, equationBytes, moveBytes, heldIn}
 
 -- The entries from a place on are the one there, and those after it.
 pub rest-step : (room : List ℕ) (i n : ℕ) → i < n → rest room i n ≡ getD room i 0 ∷ rest room (i + 1) n
@@ -49,6 +49,15 @@ wrote-none out at = (refl, sym (add-zero at))
 bytes-append : (rs ts : List Rec) → bytesOf (rs ++ ts) ≡ bytesOf rs ++ bytesOf ts
 bytes-append [] ts = refl
 bytes-append (r ∷ rs) ts = rw (bytes-append rs ts) (sym (append-assoc (bytes r) (bytesOf rs) (bytesOf ts)))
+
+-- The record of a live model, by what code has in hand.
+pub live-said : (n : ℕ) → n ≡ 1 → liveBytes n ≡ bytes liveRec
+unfolding liveBytes widths
+live-said n e = rw e refl
+
+pub live-unsaid : (n : ℕ) → (n ≡ 1 → ⊥) → liveBytes n ≡ []
+unfolding liveBytes
+live-unsaid n e = rw (eqb-no n 1 .1 e) refl
 
 -- One label, and the labels after it.
 pub no-label : (s v : ℕ) → v ≡ 0 → oneLabel s v ≡ []
@@ -152,16 +161,19 @@ pub labelled-one : (v : ℕ) → (v ≡ 0 → ⊥) → labelled (v ∷ []) ≡ 1
 labelled-one zero h = absurd (h refl)
 labelled-one (suc v) h = refl
 
--- The spelling is the sizes, the labels, the equations, and the moves with the end.
-pub spelled : (z : Sizes) (n : ℕ) (labels equations moves : List ℕ)
-    → encode (heldIn z n labels equations moves)
-    ≡ bytes (sizesRec z) ++ (labelBytes labels 0 (z .states) ++ (equationBytes (signed z) 0 equations 0 (z .variables) ++ moveBytes moves 0 n))
-unfolding records labelBytes equationBytes moveBytes
-spelled z n labels equations moves =
+-- The spelling is the sizes, whether the model is live, the labels, the equations, and the moves with the end.
+pub spelled : (z : Sizes) (live n : ℕ) (labels equations moves : List ℕ)
+    → encode (heldIn z live n labels equations moves)
+    ≡ bytes (sizesRec z) ++ (liveBytes live ++ (labelBytes labels 0 (z .states) ++ (equationBytes (signed z) 0 equations 0 (z .variables) ++ moveBytes moves 0 n)))
+unfolding records liveBytes labelBytes equationBytes moveBytes
+spelled z live n labels equations moves =
+    let vs = liveRecs live in
     let ls = labelRecs 0 (rest labels 0 (z .states)) in
     let es = styleRecs z (map unword (rest equations 0 (z .variables))) in
     let ms = moveRecs (rest moves 0 n) in
-    ap (λ (l : List ℕ). bytes (sizesRec z) ++ l) (bytes-append ls (es ++ ms) ∙ ap (λ (l : List ℕ). bytesOf ls ++ l) (bytes-append es ms))
+    ap (λ (l : List ℕ). bytes (sizesRec z) ++ l)
+    (bytes-append vs (ls ++ (es ++ ms))
+    ∙ ap (λ (l : List ℕ). bytesOf vs ++ l) (bytes-append ls (es ++ ms) ∙ ap (λ (l : List ℕ). bytesOf ls ++ l) (bytes-append es ms)))
 
 -- The entries of a room that is long enough are its first ones.
 listed-take : (room : List ℕ) (i k : ℕ) → i + k ≤ length room → listed i k (λ p. getD room p 0) ≡ take k (drop i room)
@@ -174,7 +186,7 @@ rest-take room n h = let e : n - 0 ≡ n = omega arith in rw e (listed-take room
 
 -- In rooms that are long enough it is the model that the session holds.
 pub held-is : (s : Session) (l : Rooms) → s .sizes .states ≤ length (l .labels) → s .sizes .variables ≤ length (l .equations) → s .moves ≤ length (l .moves)
-    → heldIn (s .sizes) (s .moves) (l .labels) (l .equations) (l .moves) ≡ held s l
+    → heldIn (s .sizes) (s .live) (s .moves) (l .labels) (l .equations) (l .moves) ≡ held s l
 held-is s l a b c = rw (rest-take (l .labels) (s .sizes .states) a, rest-take (l .equations) (s .sizes .variables) b, rest-take (l .moves) (s .moves) c) refl
 
 -- An equation's length in either style, by what code has in hand.
@@ -185,12 +197,12 @@ pub size-block : (z : Sizes) → (z .blocks ≡ 0 → ⊥) → equationSize z �
 size-block z e = cond-no 5 4 (eqb-no (z .blocks) 0 .1 e)
 
 -- The length that is foretold is the spelling's.
-pub length-is : (z : Sizes) (n : ℕ) (labels equations moves : List ℕ) → WellFormed (heldIn z n labels equations moves)
-    → length (encode (heldIn z n labels equations moves))
-    ≡ 8 + 7 * labelled (rest labels 0 (z .states)) + 3 * z .blocks + equationSize z * z .variables + 6 * n
+pub length-is : (z : Sizes) (live n : ℕ) (labels equations moves : List ℕ) → WellFormed (heldIn z live n labels equations moves)
+    → length (encode (heldIn z live n labels equations moves))
+    ≡ 8 + live + 7 * labelled (rest labels 0 (z .states)) + 3 * z .blocks + equationSize z * z .variables + 6 * n
 unfolding rest
-length-is z n labels equations moves h =
-    let k = encode-length (heldIn z n labels equations moves) h in
+length-is z live n labels equations moves h =
+    let k = encode-length (heldIn z live n labels equations moves) h in
     let e = listed-length 0 (n - 0) (λ p. getD moves p 0) in
     omega arith
 

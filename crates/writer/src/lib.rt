@@ -6,9 +6,21 @@ ghost use lib.ListN.{getD};
 ghost use Rattle.rules.specs.Model.{runOf};
 ghost use Rattle.rules.specs.Session.{unword};
 ghost use Rattle.laws.specs.SpellingLength.{labelled, equationSize};
-ghost use Rattle.writer.specs.Spelled.{rest, Wrote, oneLabel, labelBytes, inBlock, oneEquation, equationBytes, moveBytes, heldIn};
+ghost use Rattle.writer.specs.Spelled.{rest, Wrote, liveBytes, oneLabel, labelBytes, inBlock, oneEquation, equationBytes, moveBytes, heldIn};
 ghost use Rattle.rules.specs.Spelling.{encode};
 use rules::Sizes;
+
+// The record of a live model, where it is one.
+fn put_live(out: &mut [u8], at: usize, live: u8) -> usize
+    requires { ⌜ at < 65536 ⌝ }
+    ensures { λ r. ⌜ Wrote (now (out .entry)) at (liveBytes live) (now (out .exit)) r × (r ≤ at + 1) ⌝ }
+{
+    if live == 1 {
+        spell::write_live(out, at);
+        return at + 1;
+    }
+    at
+}
 
 // A label, where the set is not empty.
 fn put_label(out: &mut [u8], at: usize, s: usize, v: u32) -> usize
@@ -163,28 +175,30 @@ fn equations_length(z: Sizes) -> usize
     4 * (z.variables as usize)
 }
 
-// The length of a model's spelling.
-pub fn spelled_length(z: Sizes, n: u32, labels: &[u32]) -> usize
-    ensures { λ r. ⌜ r ≡ 8 + 7 * labelled (rest (now (labels .entry)) 0 (z .states)) + 3 * z .blocks + equationSize z * z .variables + 6 * n ⌝ }
+// The length of a model's spelling. A live model takes a byte more.
+pub fn spelled_length(z: Sizes, live: u8, n: u32, labels: &[u32]) -> usize
+    ensures { λ r. ⌜ r ≡ 8 + live + 7 * labelled (rest (now (labels .entry)) 0 (z .states)) + 3 * z .blocks + equationSize z * z .variables + 6 * n ⌝ }
 {
     let k = count_labels(labels, z.states);
-    8 + 7 * k + 3 * (z.blocks as usize) + equations_length(z) + 6 * (n as usize)
+    8 + (live as usize) + 7 * k + 3 * (z.blocks as usize) + equations_length(z) + 6 * (n as usize)
 }
 
 // A model's spelling, written from the front of the room on.
 pub fn write_model(
     out: &mut [u8],
     z: Sizes,
+    live: u8,
     n: usize,
     labels: &[u32],
     equations: &[u32],
     moves: &[u32],
 ) -> usize
     requires { ⌜ (z .states ≤ 256) × (z .variables ≤ 32) × (n ≤ 1024) ⌝ }
-    ensures { λ r. ⌜ Wrote (now (out .entry)) 0 (encode (heldIn z n (now (labels .entry)) (now (equations .entry)) (now (moves .entry)))) (now (out .exit)) r ⌝ }
+    ensures { λ r. ⌜ Wrote (now (out .entry)) 0 (encode (heldIn z live n (now (labels .entry)) (now (equations .entry)) (now (moves .entry)))) (now (out .exit)) r ⌝ }
 {
     spell::write_sizes(out, 0, z);
-    let a = write_labels(out, 7, labels, z.states as usize);
+    let start = put_live(out, 7, live);
+    let a = write_labels(out, start, labels, z.states as usize);
     let b = write_equations(out, a, equations, z.blocks == 0, z.variables as usize);
     write_moves(out, b, moves, n)
 }

@@ -28,11 +28,11 @@ module _ (s : Session) (l : Rooms) (out : List ℕ) (found : Checked) (h : check
   good-limits = let f = passed-fits s l found h g in (f .states, f .variables, f .moves)
 
   -- The model written is the one that the session holds.
-  good-held : heldIn (s .sizes) (s .moves) (l .labels) (l .equations) (l .moves) ≡ held s l
+  good-held : heldIn (s .sizes) (s .live) (s .moves) (l .labels) (l .equations) (l .moves) ≡ held s l
   good-held = let f = passed-fits s l found h g in held-is s l (f .labels-room) (f .equations-room) (f .moves-room)
 
   -- A number n that was counted as the length.
-  module _ (n : ℕ) (e : n ≡ 8 + 7 * labelled (rest (l .labels) 0 (s .sizes .states)) + 3 * s .sizes .blocks + equationSize (s .sizes) * s .sizes .variables + 6 * s .moves) where
+  module _ (n : ℕ) (e : n ≡ 8 + s .live + 7 * labelled (rest (l .labels) 0 (s .sizes .states)) + 3 * s .sizes .blocks + equationSize (s .sizes) * s .sizes .variables + 6 * s .moves) where
     -- It is the spelling's length.
     counted-is : n ≡ length (encode (held s l))
     counted-is =
@@ -47,7 +47,7 @@ module _ (s : Session) (l : Rooms) (out : List ℕ) (found : Checked) (h : check
     -- Where it has room, the writer is handed as many places of the output as the spelling needs. What it leaves there, with the
     -- places past them, is what the call leaves.
     pub leaves-written : n ≤ length out → (part : List ℕ) (next : ℕ)
-        → Wrote (take n out) 0 (encode (heldIn (s .sizes) (s .moves) (l .labels) (l .equations) (l .moves))) part next
+        → Wrote (take n out) 0 (encode (heldIn (s .sizes) (s .live) (s .moves) (l .labels) (l .equations) (l .moves))) part next
         → wrote (accepted n) (part ++ drop n out) ≡ write s l out
     leaves-written f part next w =
         let bs = encode (held s l) in

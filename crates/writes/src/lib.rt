@@ -27,13 +27,14 @@ pub fn write(
         }
         Checked::Good => {}
     }
-    let n = writer::spelled_length(session.sizes, session.moves, labels);
+    let n = writer::spelled_length(session.sizes, session.live, session.moves, labels);
     if out.len() < n {
         return Written::Refused(Refusal::ShortRoom, 0);
     }
     writer::write_model(
         &mut out[..n],
         session.sizes,
+        session.live,
         session.moves as usize,
         labels,
         equations,

@@ -4,13 +4,13 @@
 //! first, and then that many bytes. A line is one of
 //!
 //! ```text
-//! loaded stamp S values V marks M
-//! batch visits SHIFT SETTLE net N stamp S values V marks M
+//! loaded stamp S live L values V marks M
+//! batch visits SHIFT SETTLE net N stamp S live L values V marks M
 //! refused NUMBER at PLACE
 //! ```
 //!
-//! V and M have a digit for each pair, all states of the first variable, then all of the second, and so on. Each value is asked
-//! for with `ask`. After a refused model nothing more is read.
+//! L is 1 where the model is live, else 0. V and M have a digit for each pair, all states of the first variable, then all of
+//! the second, and so on. Each value is asked for with `ask`. After a refused model nothing more is read.
 use huepaxochi::{Checker, Refusal, State, Variable};
 use std::io::{self, Read, Write};
 use std::process::ExitCode;
@@ -32,7 +32,8 @@ fn parts(mut input: &[u8]) -> Option<Vec<&[u8]>> {
     Some(found)
 }
 
-/// The stamp, the values and the marks, as a line ends. The sizes stand in the bytes of the model that was accepted.
+/// The stamp, whether the model is live, the values and the marks, as a line ends. The sizes stand in the bytes of the model
+/// that was accepted.
 fn standing(checker: &Checker, model: &[u8]) -> Result<String, Refusal> {
     let states = u16::from_le_bytes([model[1], model[2]]);
     let mut values = String::new();
@@ -43,8 +44,10 @@ fn standing(checker: &Checker, model: &[u8]) -> Result<String, Refusal> {
         }
     }
     let marks: String = checker.marks().iter().map(u8::to_string).collect();
-    let stamp = checker.stamp();
-    Ok(format!("stamp {stamp} values {values} marks {marks}"))
+    let (stamp, live) = (checker.stamp(), u8::from(checker.is_live()));
+    Ok(format!(
+        "stamp {stamp} live {live} values {values} marks {marks}"
+    ))
 }
 
 /// The line for a batch that was accepted.

@@ -1,6 +1,7 @@
 //! The proved checker for Rust: a [`Checker`] owns the rooms that the four proved calls are lent.
 //!
 //! A model has its equations in blocks, or a sign on each equation and no blocks; `write` gives back the style that was loaded.
+//! A model may be live: each of its states has a move then, and what would leave a state without one is refused with 16.
 //!
 //! ```
 //! use huepaxochi::{Checker, State, Variable};
@@ -26,7 +27,8 @@ pub struct State(pub u16);
 #[derive(Clone, Copy, Debug, PartialEq, Eq)]
 pub struct Variable(pub u8);
 
-/// Why a call was refused: the number, 1 to 13, as embed/huepaxochi.h tells them, and the place in the bytes.
+/// Why a call was refused: the number, 1 to 13 or 16, as embed/huepaxochi.h tells them, and the place in the bytes. The header
+/// also says how to find the state that has no move after a refusal with 16.
 #[derive(Clone, Copy, Debug, PartialEq, Eq)]
 pub struct Refusal {
     pub number: u32,
@@ -71,11 +73,11 @@ impl Lengths {
 }
 
 /// How many numbers a session and a report are.
-const SESSION: usize = 7;
+const SESSION: usize = 8;
 const REPORT: usize = 3;
 
-/// The most bytes that a model within the limits is spelled with: one whose 32 equations have signs.
-const MOST_BYTES: usize = 8 + 7 * 256 + 5 * 32 + 6 * 1024;
+/// The most bytes that a model within the limits is spelled with: a live one whose 32 equations have signs.
+const MOST_BYTES: usize = 9 + 7 * 256 + 5 * 32 + 6 * 1024;
 
 /// A session with its rooms. A refusal leaves all of them as they were.
 #[derive(Clone, Debug, PartialEq, Eq)]
@@ -119,7 +121,7 @@ impl Checker {
         }
     }
 
-    /// Reads a model of either style and finds the value of every pair.
+    /// Reads a model of either style, live or not, and finds the value of every pair.
     pub fn load(&mut self, bytes: &[u8]) -> Result<(), Refusal> {
         told(ffi::load(
             bytes,
@@ -154,7 +156,7 @@ impl Checker {
         })
     }
 
-    /// The bytes of the model that the session holds, as `load` reads them, in the style that was loaded.
+    /// The bytes of the model that the session holds, as `load` reads them, in the style that was loaded and live if it was.
     pub fn write(&self) -> Result<Vec<u8>, Refusal> {
         let mut out = vec![0; MOST_BYTES];
         let n = self.write_into(&mut out)?;
@@ -184,6 +186,11 @@ impl Checker {
     /// The stamp that the next batch must begin with.
     pub fn stamp(&self) -> u32 {
         self.session[6]
+    }
+
+    /// Whether the model that was loaded is live: each of its states has a move, and batches keep it so.
+    pub fn is_live(&self) -> bool {
+        self.session[7] == 1
     }
 
     /// The marks of all pairs; that of state s and variable x is at x × states + s.

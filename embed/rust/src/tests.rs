@@ -131,8 +131,8 @@ fn an_accepted_load_leaves_the_places_past_it() {
     let mut checker = filled();
     let before = checker.clone();
     checker.load(&G).unwrap();
-    assert_eq!(checker.session[..7], [2, 1, 0, 1, 1, 0, 0]);
-    assert_eq!(checker.session[7..], before.session[7..]);
+    assert_eq!(checker.session[..8], [2, 1, 0, 1, 1, 0, 0, 0]);
+    assert_eq!(checker.session[8..], before.session[8..]);
     assert_eq!(checker.labels[..2], [0, 0]);
     assert_eq!(checker.labels[2..], before.labels[2..]);
     assert_eq!(checker.equations[1..], before.equations[1..]);
@@ -206,8 +206,8 @@ fn an_accepted_batch_leaves_the_places_past_it() {
     assert_eq!(answer, 0);
     assert_eq!(out[..3], [2, 0, 2]);
     assert_eq!(out[3..], [-7, -7]);
-    assert_eq!(checker.session[..7], [2, 1, 0, 1, 1, 2, 65_539]);
-    assert_eq!(checker.session[7..], before.session[7..]);
+    assert_eq!(checker.session[..8], [2, 1, 0, 1, 1, 2, 65_539, 0]);
+    assert_eq!(checker.session[8..], before.session[8..]);
     assert_eq!(
         (&checker.labels, &checker.equations),
         (&before.labels, &before.equations)
@@ -397,7 +397,7 @@ const RULES: [[u8; 4]; 5] = [
 fn a_with_a_sign() {
     let mut checker = Checker::new();
     checker.load(&SIGNED_G).unwrap();
-    assert_eq!(checker.session, [2, 1, 0, 1, 0, 0, 0]);
+    assert_eq!(checker.session, [2, 1, 0, 1, 0, 0, 0, 0]);
     assert_eq!(checker.equations[0], 6 + (1 << 24));
     assert_eq!(checker.batch(&changes(0, &[(8, 0, 0, 0)])), report(1, 0, 1));
     assert_eq!((checker.marks(), checker.stamp()), (&[1, 0][..], 1));
@@ -456,4 +456,121 @@ fn signs_that_load_refuses() {
             place: 0
         })
     );
+}
+
+/// G, or G with a sign, live and with these moves.
+fn live(model: &[u8], moves: &[(u16, u8, u16)]) -> Vec<u8> {
+    let (end, rest) = model.split_last().unwrap();
+    let mut bytes = [&rest[..7], &[10], &rest[7..]].concat();
+    for &(source, action, target) in moves {
+        bytes.push(5);
+        bytes.extend(source.to_le_bytes());
+        bytes.push(action);
+        bytes.extend(target.to_le_bytes());
+    }
+    bytes.push(*end);
+    bytes
+}
+
+const LOOPS: [(u16, u8, u16); 2] = [(0, 0, 0), (1, 0, 0)];
+
+#[test]
+fn a_live_model_loads_and_is_written_again() {
+    for model in [&G[..], &SIGNED_G] {
+        let bytes = live(model, &LOOPS);
+        let mut checker = Checker::new();
+        assert!(!checker.is_live());
+        checker.load(&bytes).unwrap();
+        assert!(checker.is_live());
+        assert_eq!(checker.session[5..], [2, 65_539, 1]);
+        assert_eq!(checker.ask(State(1), Variable(0)), Ok(true));
+        assert_eq!(checker.write().unwrap(), bytes);
+        checker.load(model).unwrap();
+        assert!(!checker.is_live());
+    }
+}
+
+#[test]
+fn a_live_model_that_hangs_is_16_at_its_end_record() {
+    for model in [&G[..], &SIGNED_G] {
+        let before = filled();
+        for moves in [&LOOPS[..0], &LOOPS[..1], &LOOPS[1..]] {
+            let bytes = live(model, moves);
+            let place = bytes.len() as u32 - 1;
+            let more = [&bytes[..], &[0]].concat();
+            for bytes in [bytes, more] {
+                let mut checker = before.clone();
+                let hangs = Err(Refusal { number: 16, place });
+                assert_eq!(checker.load(&bytes), hangs);
+                assert_eq!(checker, before);
+            }
+        }
+    }
+}
+
+#[test]
+fn a_batch_may_move_a_last_move_and_not_take_it() {
+    for model in [&G[..], &SIGNED_G] {
+        let mut checker = Checker::new();
+        checker.load(&live(model, &LOOPS)).unwrap();
+        let before = checker.clone();
+        let hangs = Err(Refusal {
+            number: 16,
+            place: 0,
+        });
+        let taken = [(9, 0, 0, 0)];
+        let taken_elsewhere = [(9, 0, 0, 0), (8, 1, 0, 1)];
+        for changed in [&taken[..], &taken_elsewhere] {
+            assert_eq!(checker.batch(&changes(65_539, changed)), hangs);
+            assert_eq!(checker, before);
+        }
+        let moved = changes(65_539, &[(9, 0, 0, 0), (8, 0, 0, 1)]);
+        assert_eq!(checker.batch(&moved), report(0, 0, 0));
+        assert_eq!(checker.session[5..], [2, 65_796, 1]);
+        assert!(checker.is_live());
+        let after = [(0, 0, 1), (1, 0, 0)];
+        assert_eq!(checker.write().unwrap(), live(model, &after));
+    }
+}
+
+#[test]
+fn the_live_record_is_due_directly_after_the_sizes_only() {
+    let not_due = |place| Refusal { number: 2, place };
+    let good = live(&G, &LOOPS);
+    for at in [0, 8, 11, 15, 27, 28] {
+        let mut bytes = good.clone();
+        bytes.insert(at, 10);
+        assert_eq!(Checker::new().load(&bytes), Err(not_due(at as u32)));
+    }
+    let mut checker = Checker::new();
+    checker.load(&good).unwrap();
+    let mut batch = changes(65_539, &[]);
+    batch.insert(5, 10);
+    assert_eq!(checker.batch(&batch), Err(not_due(5)));
+}
+
+#[test]
+fn a_lent_flag_is_0_or_1_and_true_of_the_moves() {
+    let mut checker = loaded();
+    let not_a_model = Refusal {
+        number: 12,
+        place: 0,
+    };
+    for flag in [1, 2, 256, 65_536, u32::MAX] {
+        checker.session[7] = flag;
+        assert_eq!(checker.write(), Err(not_a_model));
+        assert_eq!(checker.batch(&changes(0, &[])), Err(not_a_model));
+        assert_eq!(checker.ask(State(0), Variable(0)), Ok(false));
+    }
+    let mut checker = Checker::new();
+    checker.load(&live(&G, &LOOPS)).unwrap();
+    checker.session[7] = 2;
+    checker.labels.truncate(1);
+    assert_eq!(checker.write(), Err(not_a_model));
+    checker.session[7] = 1;
+    let short = Refusal {
+        number: 13,
+        place: 0,
+    };
+    assert_eq!(checker.write(), Err(short));
 }

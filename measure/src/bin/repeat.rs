@@ -1,9 +1,9 @@
 //! Makes one call of one version so many times: for a profiler, which takes the difference of two runs, so that whatever is
 //! done once falls out.
 //!
-//! `repeat ours|ordinary strict|mixed|maximal|signs load|delete|insert|many|write TIMES`
+//! `repeat ours|ordinary strict|mixed|maximal|signs|live load|delete|insert|many|write TIMES`
 
-use measure::cases::{grid, maximal, signs, Case, ThereAndBack, MIXED_RULE, STRICT_RULE};
+use measure::cases::{grid, live, maximal, signs, Case, ThereAndBack, MIXED_RULE, STRICT_RULE};
 use measure::rooms::Rooms;
 use measure::sides::Side;
 
@@ -14,7 +14,8 @@ fn case_named(name: &str) -> Case {
         "mixed" => grid(16, &MIXED_RULE),
         "maximal" => maximal(),
         "signs" => signs(&maximal()),
-        _ => panic!("strict, mixed, maximal or signs"),
+        "live" => live(&grid(16, &STRICT_RULE)),
+        _ => panic!("strict, mixed, maximal, signs or live"),
     }
 }
 

@@ -58,7 +58,7 @@ fn change(insert: bool, named: Triple, sizes: Sizes, at: usize) -> Result<Change
     Ok(Change { insert, packed })
 }
 
-/// Asks 11, then 9, then 7 and 8, then 10.
+/// Asks 11, then 9, then 7 and 8, then 10, then 16.
 pub fn judge(stamp: u32, changes: &[Change], rooms: &Rooms) -> Result<(), Refusal> {
     let table = rooms.table();
     demand(stamp == rooms.stamp(), 11, 0)?;
@@ -72,7 +72,21 @@ pub fn judge(stamp: u32, changes: &[Change], rooms: &Rooms) -> Result<(), Refusa
     }
     let inserts = changes.iter().filter(|change| change.insert).count();
     let after = table.len() + inserts - (changes.len() - inserts);
-    demand(after <= MOST_MOVES.min(rooms.moves.len()), 10, 0)
+    demand(after <= MOST_MOVES.min(rooms.moves.len()), 10, 0)?;
+    demand(!rooms.is_live() || keep_all(changes, table), 16, 0)
+}
+
+/// Whether each state that loses a move has one left or gains one. In the table every state has a move.
+fn keep_all(changes: &[Change], table: &[u32]) -> bool {
+    let mut deletes = changes.iter().filter(|change| !change.insert);
+    deletes.all(|change| {
+        let state = moves::source(change.packed);
+        let before = table.partition_point(|m| moves::source(*m) < state);
+        let held = table[before..].partition_point(|m| moves::source(*m) == state);
+        let own = changes.iter().filter(|c| moves::source(c.packed) == state);
+        let grown: i32 = own.map(|c| if c.insert { 1 } else { -1 }).sum();
+        held as i32 + grown > 0
+    })
 }
 
 /// The first change that names a move which an earlier one names.

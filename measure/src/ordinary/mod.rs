@@ -1,6 +1,6 @@
-//! Document 01, with document 02's signs on equations, in ordinary Rust: safe, quick, and with no more care than a test asks
-//! for. It keeps nothing between calls but the rooms, as the proved library does, so every call checks what it is lent and
-//! builds its own indexes. Each call stays a call, as the library's are, however small.
+//! Document 01, with document 02's signs on equations and its live models, in ordinary Rust: safe, quick, and with no more care
+//! than a test asks for. It keeps nothing between calls but the rooms, as the proved library does, so every call checks what it
+//! is lent and builds its own indexes. Each call stays a call, as the library's are, however small.
 #![forbid(unsafe_code)]
 
 mod apply;

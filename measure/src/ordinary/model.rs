@@ -11,6 +11,7 @@ use crate::rooms::Rooms;
 /// A good model.
 pub struct Model {
     pub sizes: Sizes,
+    pub live: bool,
     pub labels: Vec<u32>,
     pub equations: Vec<u32>,
     pub moves: Vec<u32>,
@@ -36,15 +37,17 @@ impl Reader<'_> {
 pub fn read(bytes: &[u8], rooms: &Rooms) -> Result<Model, Refusal> {
     let mut reader = Reader { bytes, at: 0 };
     let sizes = read_sizes(&mut reader, rooms)?;
+    let live = read_live(&mut reader)?;
     let labels = read_labels(&mut reader, sizes)?;
     let equations = match sizes.blocks {
         0 => read_signed(&mut reader, sizes)?,
         _ => read_blocks(&mut reader, sizes)?,
     };
-    let moves = read_moves(&mut reader, sizes, rooms.moves.len())?;
+    let moves = read_moves(&mut reader, sizes, live, rooms.moves.len())?;
     demand(reader.at == bytes.len(), 2, reader.at)?;
     Ok(Model {
         sizes,
+        live,
         labels,
         equations,
         moves,
@@ -60,6 +63,15 @@ fn read_sizes(reader: &mut Reader, rooms: &Rooms) -> Result<Sizes, Refusal> {
     demand(sizes.fit(rooms), 13, 0)?;
     reader.at = next;
     Ok(sizes)
+}
+
+/// Whether the record that makes a model live comes next.
+fn read_live(reader: &mut Reader) -> Result<bool, Refusal> {
+    let (Record::Live, next) = reader.peek()? else {
+        return Ok(false);
+    };
+    reader.at = next;
+    Ok(true)
 }
 
 /// The labels, by ascending state.
@@ -174,8 +186,13 @@ fn read_sign(reader: &mut Reader, sizes: Sizes) -> Result<Equation, Refusal> {
     })
 }
 
-/// The moves, ascending, and the end record.
-fn read_moves(reader: &mut Reader, sizes: Sizes, room: usize) -> Result<Vec<u32>, Refusal> {
+/// The moves, ascending, and the end record; in a live model each state has one.
+fn read_moves(
+    reader: &mut Reader,
+    sizes: Sizes,
+    live: bool,
+    room: usize,
+) -> Result<Vec<u32>, Refusal> {
     let most = MOST_MOVES.min(room);
     let mut found = Vec::with_capacity(most);
     loop {
@@ -183,6 +200,8 @@ fn read_moves(reader: &mut Reader, sizes: Sizes, room: usize) -> Result<Vec<u32>
         match record {
             Record::Move(m) => found.push(judge_move(m, sizes, &found, most, reader.at)?),
             Record::End => {
+                let hangs = live && !moves::leave_all(&found, sizes.states);
+                demand(!hangs, 16, reader.at)?;
                 reader.at = next;
                 return Ok(found);
             }
@@ -218,6 +237,7 @@ pub fn store(model: &Model, rooms: &mut Rooms) {
         sizes.blocks,
         model.moves.len() as u32,
         moves::stamp(&model.moves),
+        model.live.into(),
     ];
     rooms.labels[..model.labels.len()].copy_from_slice(&model.labels);
     rooms.equations[..model.equations.len()].copy_from_slice(&model.equations);

@@ -20,6 +20,15 @@ pub fn target(packed: u32) -> u32 {
     packed & 1023
 }
 
+/// Whether each state is the source of one of these ascending moves, whose sources lie below the number of states.
+pub fn leave_all(moves: &[u32], states: u32) -> bool {
+    let mut first_without = 0;
+    for packed in moves {
+        first_without += u32::from(source(*packed) == first_without);
+    }
+    first_without == states
+}
+
 /// What a move adds to the stamp.
 pub fn weight(packed: u32) -> u32 {
     let weighed = source(packed).wrapping_mul(65_537);

@@ -30,6 +30,7 @@ pub enum Record {
     Stamp(u32),
     Insert(Triple),
     Delete(Triple),
+    Live,
 }
 
 /// Source, action and target.
@@ -119,6 +120,7 @@ pub fn read(bytes: &[u8], at: usize) -> Option<(Record, usize)> {
         7 => (Record::Stamp(u32::from_le_bytes(*body.first_chunk()?)), 4),
         8 => (Record::Insert(triple(body)?), 5),
         9 => (Record::Delete(triple(body)?), 5),
+        10 => (Record::Live, 0),
         11 => (signed(body)?, 4),
         _ => return None,
     };

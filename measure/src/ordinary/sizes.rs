@@ -23,7 +23,7 @@ pub struct Sizes {
 
 impl Sizes {
     /// The sizes among a session's numbers.
-    pub fn of(session: &[u32; 7]) -> Sizes {
+    pub fn of(session: &[u32; 8]) -> Sizes {
         let [states, actions, propositions, variables, blocks, ..] = *session;
         Sizes {
             states,

@@ -14,7 +14,8 @@ pub fn length(sizes: Sizes, rooms: &Rooms) -> usize {
         0 => 5 * variables,
         _ => 3 * blocks + 4 * variables,
     };
-    7 + 7 * labelled + equations + 6 * rooms.table().len() + 1
+    let live = usize::from(rooms.is_live());
+    7 + live + 7 * labelled + equations + 6 * rooms.table().len() + 1
 }
 
 /// A room that is written from its front on.
@@ -44,6 +45,9 @@ pub fn spell(sizes: Sizes, rooms: &Rooms, out: &mut [u8]) {
     ]
     .map(|n| n as u8);
     out.put([1, low, high, actions, propositions, variables, blocks]);
+    if rooms.is_live() {
+        out.put([10]);
+    }
     spell_labels(&rooms.labels[..sizes.states as usize], &mut out);
     let equations = &rooms.equations[..sizes.variables as usize];
     match sizes.blocks {

@@ -14,6 +14,7 @@ use crate::table::{stamp, Move, State};
 
 use super::damage::damage;
 use super::faults::{cut_or_unknown, Draft, BATCH_NUMBERS};
+use super::live::{spare, turnover};
 use super::models::any_move;
 use super::{Family, Intent};
 
@@ -97,25 +98,39 @@ impl Author {
         if self.over {
             return;
         }
+        if self.is_live() && self.random.chance(20) {
+            return self.write_turnover();
+        }
         if !self.random.chance(self.trouble) {
             return self.write_good();
         }
         match self.random.below(10) {
             0..=5 => {
-                let number = self.random.pick(&BATCH_NUMBERS);
-                let brimming = self.session.move_count + 3 > MOST_MOVES;
-                let number = if brimming && self.random.chance(40) {
-                    10
-                } else {
-                    number
-                };
+                let number = self.fault();
                 self.write_faulty(&[number]);
             }
             6..=7 => {
-                let numbers = [0, 1].map(|_| self.random.pick(&BATCH_NUMBERS));
+                let numbers = [0, 1].map(|_| self.fault());
                 self.write_faulty(&numbers);
             }
             _ => self.write_damaged(),
+        }
+    }
+
+    /// Whether the session is live.
+    fn is_live(&self) -> bool {
+        self.session.live == 1
+    }
+
+    /// The number of a fault: 10 more often where the table is nearly full, 16 where it is live.
+    fn fault(&mut self) -> u8 {
+        let brimming = self.session.move_count + 3 > MOST_MOVES;
+        if brimming && self.random.chance(40) {
+            10
+        } else if self.is_live() && self.random.chance(20) {
+            16
+        } else {
+            self.random.pick(&BATCH_NUMBERS)
         }
     }
 
@@ -146,11 +161,22 @@ impl Author {
         self.add(&spell_all(&records), Some(Intent::Updated));
     }
 
+    /// Adds a batch that turns over the moves of one state of a live table, or a good one where
+    /// none is found.
+    fn write_turnover(&mut self) {
+        let table = self.session.table().to_vec();
+        match turnover(&mut self.random, &self.session.sizes, &table) {
+            Some((records, intent)) => self.add(&spell_all(&records), Some(intent)),
+            None => self.write_good(),
+        }
+    }
+
     /// Adds a batch with the faults of these numbers. The outcome is known where there is one
     /// fault and it could be put in.
     fn write_faulty(&mut self, numbers: &[u8]) {
         let mut draft = Draft {
             sizes: self.session.sizes,
+            live: self.is_live(),
             table: self.session.table().to_vec(),
             records: self.good(),
         };
@@ -214,7 +240,7 @@ impl Author {
         }
     }
 
-    /// The records of a good batch against the present table.
+    /// The records of a good batch against the present table, in which a live one hangs no state.
     fn good(&mut self) -> Vec<Record> {
         let wanted = self.wanted_changes();
         let table = self.session.table().to_vec();
@@ -228,16 +254,21 @@ impl Author {
             if self.random.chance(deleting) && !table.is_empty() {
                 let m = self.random.pick(&table);
                 if named.insert(m) {
-                    deletes.push(Record::Delete(m));
+                    deletes.push(m);
                 }
             } else if let Some(m) = self.absent(&table) {
                 if named.insert(m) {
-                    inserts.push(Record::Insert(m));
+                    inserts.push(m);
                 }
             }
         }
         inserts.truncate(MOST_MOVES + deletes.len() - table.len());
-        let mut changes = [deletes, inserts].concat();
+        if self.is_live() {
+            spare(&self.session.sizes, &table, &mut deletes, &mut inserts);
+        }
+        let deletes = deletes.into_iter().map(Record::Delete);
+        let inserts = inserts.into_iter().map(Record::Insert);
+        let mut changes: Vec<Record> = deletes.chain(inserts).collect();
         self.random.shuffle(&mut changes);
         let mut records = vec![Record::Stamp(stamp(&table))];
         records.extend(changes);

@@ -80,8 +80,9 @@ fn drop_record(random: &mut Random, bytes: &mut Vec<u8>, from: usize) {
     bytes.drain(start..end);
 }
 
-/// Gives a block or an equation with a sign the other kind, or the sizes the other style.
-fn turn_record(random: &mut Random, bytes: &mut [u8], from: usize) {
+/// Gives a block or an equation with a sign the other kind, or the sizes the other style, or puts
+/// kind 10 behind them or takes it away.
+fn turn_record(random: &mut Random, bytes: &mut Vec<u8>, from: usize) {
     let mut records = split(bytes, from);
     records.retain(|(start, _)| matches!(bytes[*start], 1 | 3 | 11));
     if records.is_empty() {
@@ -89,9 +90,19 @@ fn turn_record(random: &mut Random, bytes: &mut [u8], from: usize) {
     }
     let (start, end) = random.pick(&records);
     match bytes[start] {
+        1 if random.chance(50) => turn_live(bytes, end),
         1 if bytes[end - 1] == 0 => bytes[end - 1] = random.between(1, 8) as u8,
         1 => bytes[end - 1] = 0,
         _ => bytes[start + 1] ^= 1,
+    }
+}
+
+/// Takes kind 10 at a place away, or puts it there.
+fn turn_live(bytes: &mut Vec<u8>, at: usize) {
+    if bytes.get(at) == Some(&10) {
+        bytes.remove(at);
+    } else {
+        bytes.insert(at, 10);
     }
 }
 
@@ -106,7 +117,7 @@ pub fn noise(random: &mut Random) -> Vec<u8> {
         }
         _ => {
             let length = random.between(1, 30);
-            let kinds = [1, 2, 3, 4, 5, 6, 7, 8, 9, 11];
+            let kinds = [1, 2, 3, 4, 5, 6, 7, 8, 9, 10, 11];
             let records: Vec<_> = (0..length).map(|_| any_record(random, &kinds)).collect();
             spell_all(&records)
         }

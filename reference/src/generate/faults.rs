@@ -7,18 +7,20 @@ use crate::random::Random;
 use crate::records::{spell_all, Block, Equation, Record, Sizes, Style};
 use crate::table::{Move, State};
 
-use super::models::any_move;
+use super::live::{hang_model, put_stray};
+use super::models::{any_move, put_moves, sizes_of, take_moves};
 use super::signed::mix_signs;
 
-/// The numbers for which a fault can be put into a batch without ending the run.
+/// The numbers for which a fault can be put into a batch without ending the run, but for 16, which
+/// needs a live model.
 pub const BATCH_NUMBERS: [u8; 8] = [2, 3, 4, 7, 8, 9, 10, 11];
 
 /// Puts one fault into a good model and gives its bytes with the number it must be refused with.
 pub fn fault_in_model(random: &mut Random, model: Vec<Record>) -> (Vec<u8>, u8) {
     loop {
         let number = match sizes_of(&model).style() {
-            Style::Blocks => random.pick(&[1, 2, 2, 3, 3, 4, 4, 4, 5, 5, 6, 6, 10]),
-            Style::Signs => random.pick(&[1, 2, 2, 3, 3, 4, 4, 4, 5, 5, 5, 5, 6, 10]),
+            Style::Blocks => random.pick(&[1, 2, 2, 3, 3, 4, 4, 4, 5, 5, 6, 6, 10, 16, 16]),
+            Style::Signs => random.pick(&[1, 2, 2, 3, 3, 4, 4, 4, 5, 5, 5, 5, 6, 10, 16, 16]),
         };
         let mut records = model.clone();
         if number == 1 {
@@ -30,10 +32,33 @@ pub fn fault_in_model(random: &mut Random, model: Vec<Record>) -> (Vec<u8>, u8) 
             4 => bad_number(random, &mut records),
             5 => bad_names(random, &mut records),
             6 => not_ascending(random, &mut records),
+            16 => {
+                hang_model(random, &mut records);
+                true
+            }
             _ => too_many_moves(random, &mut records),
         };
         if done {
             return (spell_all(&records), number);
+        }
+    }
+}
+
+/// Puts a stray kind 10 into a good model or makes a state hang, now and then with another fault
+/// before the end, and gives its bytes with the number it must be refused with.
+pub fn fault_about_live(random: &mut Random, mut model: Vec<Record>) -> (Vec<u8>, u8) {
+    match random.below(10) {
+        0..=3 => {
+            put_stray(random, &mut model);
+            (spell_all(&model), 2)
+        }
+        4..=7 => {
+            hang_model(random, &mut model);
+            (spell_all(&model), 16)
+        }
+        _ => {
+            hang_model(random, &mut model);
+            fault_in_model(random, model)
         }
     }
 }
@@ -45,7 +70,7 @@ pub fn cut_or_unknown(random: &mut Random, records: &[Record]) -> Vec<u8> {
         bytes.truncate(random.below(bytes.len()));
     } else {
         let place = spell_all(&records[..random.below(records.len())]).len();
-        bytes[place] = random.pick(&[0, 10, 12, 0x80, 0xff]);
+        bytes[place] = random.pick(&[0, 12, 13, 0x80, 0xff]);
     }
     bytes
 }
@@ -55,14 +80,6 @@ fn places(records: &[Record], wanted: impl Fn(&Record) -> bool) -> Vec<usize> {
     (0..records.len())
         .filter(|at| wanted(&records[*at]))
         .collect()
-}
-
-/// The sizes at the front of a model.
-fn sizes_of(records: &[Record]) -> Sizes {
-    match records[0] {
-        Record::Sizes(sizes) => sizes,
-        _ => Sizes::default(),
-    }
 }
 
 /// A record of a random kind out of those given, with random bytes in its body.
@@ -101,6 +118,7 @@ pub fn any_record(random: &mut Random, kinds: &[u8]) -> Record {
         7 => Record::Stamp(bits as u32),
         8 => Record::Insert(what),
         9 => Record::Delete(what),
+        10 => Record::Live,
         _ => Record::Signed {
             sign: bits.count_ones() as u8 & 1,
             equation,
@@ -114,7 +132,7 @@ fn is_equation(record: &Record) -> bool {
 }
 
 /// 2 in a model: a record of a kind that is never due there, of the other style too; the sizes or
-/// an equation missing; a rule too many; or the other style in the sizes.
+/// an equation missing; a rule too many; the other style in the sizes; or a stray kind 10.
 fn not_due(random: &mut Random, records: &mut Vec<Record>) -> bool {
     let mut sizes = sizes_of(records);
     let equations = places(records, is_equation);
@@ -122,7 +140,7 @@ fn not_due(random: &mut Random, records: &mut Vec<Record>) -> bool {
         Style::Blocks => &[11, 11],
         Style::Signs => &[3, 4],
     };
-    match random.below(5) {
+    match random.below(6) {
         0 => {
             let at = random.between(1, records.len() - 1);
             let kinds = [&[1, 7, 8, 9], other_style].concat();
@@ -136,8 +154,9 @@ fn not_due(random: &mut Random, records: &mut Vec<Record>) -> bool {
         }
         3 => {
             let at = equations[equations.len() - 1] + 1;
-            records.insert(at, any_record(random, &[2, 3, 4, 11]));
+            records.insert(at, any_record(random, &[2, 3, 4, 10, 11]));
         }
+        4 => put_stray(random, records),
         _ => {
             let blocks = random.between(1, 8) as u8;
             sizes.blocks = if sizes.blocks == 0 { blocks } else { 0 };
@@ -241,7 +260,7 @@ fn mixed_chain(random: &mut Random, records: &mut Vec<Record>) -> bool {
         return false;
     }
     match random.below(6) {
-        0 => records.insert(end, any_record(random, &[1, 2, 3, 4, 5, 7, 8, 9, 11])),
+        0 => records.insert(end, any_record(random, &[1, 2, 3, 4, 5, 7, 8, 9, 10, 11])),
         1 => records.truncate(end),
         2 => {
             let mut m = any_move(random, &sizes);
@@ -296,13 +315,7 @@ fn not_ascending(random: &mut Random, records: &mut Vec<Record>) -> bool {
 /// 10 in a model: more than 1,024 moves, for a model that already has nearly as many.
 fn too_many_moves(random: &mut Random, records: &mut Vec<Record>) -> bool {
     let sizes = sizes_of(records);
-    let first = places(records, |r| matches!(r, Record::Move(_) | Record::End))[0];
-    let mut moves: BTreeSet<Move> = BTreeSet::new();
-    for record in &records[first..] {
-        if let Record::Move(m) = record {
-            moves.insert(*m);
-        }
-    }
+    let mut moves = take_moves(records);
     if moves.len() < 900 {
         return false;
     }
@@ -310,9 +323,7 @@ fn too_many_moves(random: &mut Random, records: &mut Vec<Record>) -> bool {
     while moves.len() < wanted {
         moves.insert(any_move(random, &sizes));
     }
-    records.truncate(first);
-    records.extend(moves.into_iter().map(Record::Move));
-    records.push(Record::End);
+    put_moves(records, moves);
     true
 }
 
@@ -320,6 +331,7 @@ fn too_many_moves(random: &mut Random, records: &mut Vec<Record>) -> bool {
 /// the last the end.
 pub struct Draft {
     pub sizes: Sizes,
+    pub live: bool,
     pub table: Vec<Move>,
     pub records: Vec<Record>,
 }
@@ -344,6 +356,7 @@ impl Draft {
             8 => self.put_absent(random),
             9 => self.put_repeated(random),
             10 => self.put_no_room(random),
+            16 => self.put_hanging(random),
             _ => self.put_wrong_stamp(random),
         }
     }
@@ -377,7 +390,7 @@ impl Draft {
             self.records.remove(0);
         } else {
             let at = self.inside(random);
-            let kinds = [1, 2, 3, 4, 5, 7, 11];
+            let kinds = [1, 2, 3, 4, 5, 7, 10, 11];
             self.records.insert(at, any_record(random, &kinds));
         }
         true
@@ -463,6 +476,23 @@ impl Draft {
             };
             let at = self.inside(random);
             self.records.insert(at, Record::Insert(m));
+        }
+        self.changes() <= MOST_CHANGES
+    }
+
+    /// 16: deletes of all moves of one state, and no insert of any.
+    fn put_hanging(&mut self, random: &mut Random) -> bool {
+        if !self.live {
+            return false;
+        }
+        let state = random.pick(&self.table).source;
+        let other = |m: Move| m.source != state;
+        self.records.retain(|r| changed(r).is_none_or(other));
+        for m in self.table.clone() {
+            if m.source == state {
+                let at = self.inside(random);
+                self.records.insert(at, Record::Delete(m));
+            }
         }
         self.changes() <= MOST_CHANGES
     }

@@ -8,6 +8,7 @@ use crate::records::{spell_all, Block, Equation, Record, Sizes, Style};
 use crate::session::Session;
 use crate::table::{Move, State};
 
+use super::live::give_each_a_move;
 use super::signed::signed_rules;
 use super::Family;
 
@@ -15,6 +16,7 @@ use super::Family;
 #[derive(Clone, Copy, Debug, PartialEq, Eq)]
 pub struct Shape {
     pub sizes: Sizes,
+    pub live: bool,
     pub moves: usize,
 }
 
@@ -42,7 +44,8 @@ fn draw_sizes(random: &mut Random, states: (usize, usize), most: [usize; 3]) -> 
     }
 }
 
-/// A random shape for a family, with blocks 0 one time in three and then 32 variables more often.
+/// A random shape for a family, with blocks 0 one time in three and then 32 variables more often,
+/// and live three times in ten, then with at least as many moves as states.
 fn shape(random: &mut Random, family: Family) -> Shape {
     let mut sizes = match family {
         Family::Tiny => draw_sizes(random, (1, 3), [2, 2, 4]),
@@ -77,8 +80,10 @@ fn shape(random: &mut Random, family: Family) -> Shape {
         Family::Chain => random.between(states - 1, states + 6),
         _ => states * random.between(0, 400) / 100,
     };
-    let moves = moves.min(universe).min(1_024);
-    Shape { sizes, moves }
+    let live = random.chance(30);
+    let least = if live { states } else { 0 };
+    let moves = moves.max(least).min(universe).min(1_024);
+    Shape { sizes, live, moves }
 }
 
 /// A move drawn from all that the sizes allow.
@@ -91,6 +96,7 @@ pub fn any_move(random: &mut Random, sizes: &Sizes) -> Move {
 }
 
 /// A table that follows a plan as far as the number of moves goes, filled up with scattered moves.
+/// Each state of a live model has one, and there may be more moves then.
 fn table(random: &mut Random, shape: &Shape, plan: Plan) -> BTreeSet<Move> {
     let states = shape.sizes.states;
     let action = random.below(usize::from(shape.sizes.actions)) as u8;
@@ -109,6 +115,9 @@ fn table(random: &mut Random, shape: &Shape, plan: Plan) -> BTreeSet<Move> {
         }
     }
     let mut moves: BTreeSet<Move> = planned.into_iter().take(shape.moves).collect();
+    if shape.live {
+        give_each_a_move(random, &shape.sizes, &mut moves);
+    }
     while moves.len() < shape.moves {
         moves.insert(any_move(random, &shape.sizes));
     }
@@ -250,10 +259,13 @@ fn block_rules(random: &mut Random, sizes: &Sizes) -> Vec<Record> {
     records
 }
 
-/// A random good model of a family, in either style.
+/// A random good model of a family, in either style, live or not.
 pub fn model(random: &mut Random, family: Family) -> Vec<Record> {
     let shape = shape(random, family);
     let mut records = vec![Record::Sizes(shape.sizes)];
+    if shape.live {
+        records.push(Record::Live);
+    }
     records.extend(labels(random, &shape.sizes));
     records.extend(match shape.sizes.style() {
         Style::Blocks => block_rules(random, &shape.sizes),
@@ -263,9 +275,33 @@ pub fn model(random: &mut Random, family: Family) -> Vec<Record> {
         Family::Chain => random.pick(&[Plan::Chain, Plan::BackChain, Plan::Ring, Plan::Tree]),
         _ => random.pick(&[Plan::Scattered, Plan::Scattered, Plan::Ring, Plan::Star]),
     };
-    records.extend(table(random, &shape, plan).into_iter().map(Record::Move));
-    records.push(Record::End);
+    put_moves(&mut records, table(random, &shape, plan));
     records
+}
+
+/// The sizes at the front of a model.
+pub fn sizes_of(records: &[Record]) -> Sizes {
+    match records[0] {
+        Record::Sizes(sizes) => sizes,
+        _ => Sizes::default(),
+    }
+}
+
+/// Takes the moves and the end off the records of a model, and gives the moves.
+pub fn take_moves(records: &mut Vec<Record>) -> BTreeSet<Move> {
+    let mut moves = BTreeSet::new();
+    while let Some(Record::Move(_) | Record::End) = records.last() {
+        if let Some(Record::Move(m)) = records.pop() {
+            moves.insert(m);
+        }
+    }
+    moves
+}
+
+/// Adds the moves and the end to the records of a model.
+pub fn put_moves(records: &mut Vec<Record>, moves: BTreeSet<Move>) {
+    records.extend(moves.into_iter().map(Record::Move));
+    records.push(Record::End);
 }
 
 /// A random good model, drawn again a few times if hardly any of its pairs are true, or nearly

@@ -2,9 +2,10 @@
 
 use std::collections::BTreeSet;
 
+use reference::batch::Batch;
 use reference::model::{Formula, Group, Kind, Model};
 use reference::update::{Act, Change, Outcome};
-use reference::{State, Style, Variable};
+use reference::{Move, State, Style, Variable};
 
 /// A pair of a state and a variable.
 pub type Pair = (State, Variable);
@@ -251,6 +252,49 @@ pub fn update(model: &Model, changes: &[Change], old: &[bool]) -> Outcome {
         settle_visits: visits(model, &settled),
         net: now.len() as i64 - old_trues.len() as i64,
     }
+}
+
+/// Whether some state has no move: the sources of the moves are fewer than the states.
+pub fn hangs(states: u16, moves: &BTreeSet<Move>) -> bool {
+    let sources: BTreeSet<State> = moves.iter().map(|m| m.source).collect();
+    sources.len() < usize::from(states)
+}
+
+/// The old moves less the deletes plus the inserts.
+pub fn changed(old: &BTreeSet<Move>, batch: &Batch) -> BTreeSet<Move> {
+    let of = |act: Act| -> BTreeSet<Move> {
+        let changes = batch.changes.iter();
+        let of_act = changes.filter(|(_, change)| change.act == act);
+        of_act.map(|(_, change)| change.what).collect()
+    };
+    let kept: BTreeSet<Move> = old.difference(&of(Act::Delete)).copied().collect();
+    kept.union(&of(Act::Insert)).copied().collect()
+}
+
+/// What a batch that can be read is refused with, if anything: 11, then 9, then 7 and 8 in batch
+/// order, then 10, then 16.
+pub fn refusal(model: &Model, batch: &Batch, room: usize) -> Option<(u8, usize)> {
+    let old: BTreeSet<Move> = model.moves.iter().copied().collect();
+    if batch.stamp != reference::stamp(&model.moves) {
+        return Some((11, 0));
+    }
+    let changes = &batch.changes;
+    let repeats = |at: &usize| (0..*at).any(|a| changes[a].1.what == changes[*at].1.what);
+    if let Some(at) = (0..changes.len()).find(repeats) {
+        return Some((9, changes[at].0));
+    }
+    for (place, change) in changes {
+        match (change.act, old.contains(&change.what)) {
+            (Act::Insert, true) => return Some((7, *place)),
+            (Act::Delete, false) => return Some((8, *place)),
+            _ => {}
+        }
+    }
+    let new = changed(&old, batch);
+    if new.len() > room.min(1_024) {
+        return Some((10, 0));
+    }
+    (model.live && hangs(model.sizes.states, &new)).then_some((16, 0))
 }
 
 /// The values of a model with signs as nested fixpoints, the variable of the front outermost: each

@@ -7,7 +7,7 @@ pub mod literal;
 use reference::{batch, load, Session, Updated};
 
 /// All kinds of record.
-pub const KINDS: [u8; 10] = [1, 2, 3, 4, 5, 6, 7, 8, 9, 11];
+pub const KINDS: [u8; 11] = [1, 2, 3, 4, 5, 6, 7, 8, 9, 10, 11];
 
 /// The bytes of model G: two states, X = diamond 0 X, greatest, no moves.
 pub const G: [u8; 15] = [1, 2, 0, 1, 0, 1, 1, 3, 1, 1, 4, 6, 0, 0, 6];
@@ -16,6 +16,11 @@ pub const G: [u8; 15] = [1, 2, 0, 1, 0, 1, 1, 3, 1, 1, 4, 6, 0, 0, 6];
 pub fn sizes(states: u16, actions: u8, propositions: u8, variables: u8, blocks: u8) -> Vec<u8> {
     let [low, high] = states.to_le_bytes();
     vec![1, low, high, actions, propositions, variables, blocks]
+}
+
+/// The record that makes a model live.
+pub fn live() -> Vec<u8> {
+    vec![10]
 }
 
 /// A label record.
@@ -82,7 +87,7 @@ pub fn join(records: &[Vec<u8>]) -> Vec<u8> {
 
 /// A whole record of a kind, its body all 0.
 pub fn blank(kind: u8) -> Vec<u8> {
-    let length = [0, 7, 7, 3, 4, 6, 1, 5, 6, 6, 0, 5][usize::from(kind)];
+    let length = [0, 7, 7, 3, 4, 6, 1, 5, 6, 6, 1, 5][usize::from(kind)];
     let mut bytes = vec![0; length];
     bytes[0] = kind;
     bytes

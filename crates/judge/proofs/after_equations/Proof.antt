@@ -1,12 +1,7 @@
 -- `judge::after_equations` meets its contract. Assumes nothing.
 use borrow.Author.Needs.{needs}
-use Rattle.rules.specs.Records.{over}
-use mathlib.Core.Path.{ap}
-use mathlib.Core.Bool.{not}
-use Rattle.rules.specs.Load.{endDemands}
 use Rattle.judge.specs.Plain.{plain}
 use Rattle.judge.specs.Progress.{sofarOf}
-use Rattle.judge.specs.Demands.{meets}
 use Rattle.judge.specs.Due.{move-or-end}
 use Rattle.judge.proofs.after_equations.Statement.{statement}
 use Rattle.judge.proofs.after_equations.Tie as tie
@@ -20,15 +15,16 @@ on-move-requires c κs = search needs
 enum-told : tie.Need-enum-told
 enum-told c = search needs
 
+on-end-requires : tie.Need-on-end-requires
+on-end-requires c κs = search needs
+
 returns : tie.Need-returns
 unfolding plain
 returns c = rw (c .before .before .rec .given .1) (c .on-move .ensures)
 
 returns-2 : tie.Need-returns-2
 unfolding plain
-returns-2 c =
-    let x = sofarOf (c .before .before .args .x) in
-    rw (c .enum-told .given .1) (meets (endDemands x) over (ap not (c .before .before .pre .1), tt))
+returns-2 c = rw (c .before .enum-told .given .1) (c .on-end .ensures)
 
 returns-3 : tie.Need-returns-3
 returns-3 c =
@@ -37,4 +33,4 @@ returns-3 c =
 
 pub after-equations-spec : {M : Type 1} → statement M
 after-equations-spec =
-    tie.close (tie.spec enum-known-rec on-move-requires enum-told returns returns-2 returns-3)
+    tie.close (tie.spec enum-known-rec on-move-requires enum-told on-end-requires returns returns-2 returns-3)

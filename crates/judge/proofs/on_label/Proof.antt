@@ -42,7 +42,7 @@ returns-3 c =
     let s = c .before .before .before .before .before .before .before .before .before .before .before in
     let a = s .args in
     let x = sofarOf (a .x) in
-    let says : ℕ → Turn State = λ n. next (inside (record { sizes = x .sizes; labels = n; blocks = x .blocks; signs = x .signs; moves = x .moves })) in
+    let says : ℕ → Turn State = λ n. next (inside (record { sizes = x .sizes; live = x .live; labels = n; blocks = x .blocks; signs = x .signs; moves = x .moves })) in
     ap says (omega arith) ∙ meets (labelDemands x (a .s .0) (a .v)) (next (inside (afterLabel x (a .s .0)))) (label-due x (s .pre), (rw (c .before .before .before .before .before .label-ok .ensures) at (c .before .before .before .before .if1 .left), (c .before .if2 .left, tt)))
 
 pub on-label-spec : {M : Type 1} → statement M

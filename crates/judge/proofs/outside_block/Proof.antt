@@ -37,7 +37,7 @@ enum-known-rec c = search needs
 returns-3 : tie.Need-returns-3
 returns-3 c =
     let at-start = start-before-struct-known3 (c .before .before) in
-    block-only _ (sofarOf (at-start .args .x)) (at-start .args .rec) (at-start .pre .1 .0) (omega arith) (omega arith) (c .match .keys2)
+    block-only _ (sofarOf (at-start .args .x)) (at-start .args .rec) (at-start .pre .0) (at-start .pre .1 .0) (omega arith) (omega arith) (c .match .keys2)
 
 on-block-requires : tie.Need-on-block-requires
 on-block-requires c κs = search needs

@@ -26,7 +26,7 @@ load-values-requires c κs =
     let y = are-bytes s (λ i. omega (arith, c .before .before .before .before .before .before .before .before .before .before .before .before .before .before .before .before .before .before .before .before .before .before .before .shared-slice-known .given i)) in
     let h = c .before .before .before .before .before .before .before .before .before .before .before .before .before .before .read-model .ensures in
     let g = c .before .before .before .before .before .before .found2 .given in
-    let f = found l s y _ _ h (g .0 .0) (g .0 .1 .0) (g .1) in
+    let f = found l s y _ _ h (g .0 .0) (g .0 .1 .0) (g .0 .1 .1 .0) (g .1) in
     let v = f .values-room in
     let k = f .marks-room in
     (f .drawn, (omega (arith, v, k), omega (arith, v, k)))
@@ -77,7 +77,7 @@ returns-2 c =
     let h = c .before .before .before .before .before .before .before .before .before .before .before .before .before .before .before .before .before .before .before .before .before .read-model .ensures in
     let g = c .before .before .before .before .before .before .before .before .before .before .before .before .before .found2 .given in
     let v = c .before .before .before .before .before .before .load-values .ensures in
-    load-good l s y _ _ h (g .0 .0) (g .0 .1 .0) (g .1) _ _ _ (v .0) (v .1) (c .stamp-of .ensures)
+    load-good l s y _ _ h (g .0 .0) (g .0 .1 .0) (g .0 .1 .1 .0) (g .1) _ _ _ (v .0) (v .1) (c .stamp-of .ensures)
 
 pub load-spec : {M : Type 1} → statement M
 load-spec =

@@ -15,7 +15,7 @@ least-requires c κs = search needs
 
 returns : tie.Need-returns
 unfolding countsBy
-returns c = rw (c .before .before .sizes-ok .ensures, c .least .ensures)
+returns c = rw (c .before .before .before .sizes-ok .ensures, c .least .ensures)
 
 pub counts-ok-spec : {M : Type 1} → statement M
 counts-ok-spec = tie.close (tie.spec sizes-ok-requires cast-result least-requires returns)

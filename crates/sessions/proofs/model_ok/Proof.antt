@@ -2,10 +2,14 @@
 use mathlib.Core.Path.{refl}
 use lib.ListN.{length-take}
 use borrow.Author.Needs.{needs}
-use Rattle.rules.specs.Model.{wellFormed}
 use Rattle.sessions.specs.SignedWords.{not-formed, sizes-told, few}
+use Rattle.sessions.specs.LiveWalk.{formed-by}
 use Rattle.sessions.proofs.model_ok.Statement.{statement}
 use Rattle.sessions.proofs.model_ok.Tie as tie
+
+-- The points of the program: from what is known at a later one to what was known at an earlier one.
+abbrev start-before-sizes-ok : tie.After-sizes-ok → tie.Start
+start-before-sizes-ok c = c .before .before .before .before .before .before .before
 
 cast-states : tie.Need-cast-states
 cast-states c = search needs
@@ -37,12 +41,19 @@ moves-ok-requires c κs = search needs
 least-requires-2 : tie.Need-least-requires-2
 least-requires-2 c κs = search needs
 
+live-ok-requires : tie.Need-live-ok-requires
+live-ok-requires c κs = search needs
+
 returns-2 : tie.Need-returns-2
-unfolding wellFormed
 returns-2 c =
-    let a = c .before .before .before .before .before .before .before .before .before .before .before .before .before .before .args in
-    let z = sizes-told (a .session .sizes) _ (c .before .before .before .before .before .before .before .sizes-ok .ensures) (c .before .before .before .before .before .before .if1 .left) in
-    rw (z, c .before .before .before .before .before .least .ensures, ← length-take (a .session .sizes .states) (a .labels .now), c .before .before .before .before .labels-ok .ensures, c .before .before .style-ok .ensures, c .before .moves-ok .ensures, c .least2 .ensures, ← length-take (a .session .moves) (a .moves .now))
+    let at-least = c .before .before in
+    let at-style = at-least .before .before in
+    let at-labels = at-style .before .before in
+    let at-sizes = at-labels .before .before .before in
+    let a = start-before-sizes-ok at-sizes .args in
+    let z = sizes-told (a .session .sizes) _ (at-sizes .sizes-ok .ensures) (at-labels .before .before .if1 .left) in
+    rw (at-labels .before .least .ensures, ← length-take (a .session .sizes .states) (a .labels .now), at-labels .labels-ok .ensures, at-style .style-ok .ensures, at-least .before .moves-ok .ensures, at-least .least2 .ensures, ← length-take (a .session .moves) (a .moves .now), c .live-ok .ensures)
+    (formed-by (a .session) (a .labels .now) (a .equations .now) (a .moves .now) z)
 
 pub model-ok-spec : {M : Type 1} → statement M
 model-ok-spec =
@@ -58,4 +69,5 @@ model-ok-spec =
     style-ok-requires
     moves-ok-requires
     least-requires-2
+    live-ok-requires
     returns-2)

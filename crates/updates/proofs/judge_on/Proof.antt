@@ -1,6 +1,6 @@
 -- A refusal of the judgement is the answer; a good batch is applied. Assumes nothing.
 use Rattle.updates.specs.Reports.{judged-good, read-good, read-bad}
-use Rattle.updates.specs.Moving.{able}
+use Rattle.updates.specs.Moving.{able, sane-held}
 use Rattle.rules.specs.Batch.{Batch}
 use lib.ListN.{take}
 use Rattle.edits.specs.Changes.{changesOf}
@@ -9,13 +9,15 @@ use borrow.Author.Needs.{needs}
 use Rattle.updates.proofs.judge_on.Statement.{statement}
 use Rattle.updates.proofs.judge_on.Tie as tie
 
-cast-n : tie.Need-cast-n
-cast-n c = search needs
+-- The points of the program: from what is known at a later one to what was known at an earlier one.
+abbrev start-before-judge-batch : tie.After-judge-batch → tie.Start
+start-before-judge-batch c = c .before .before .before .before .before .before .before .before
 
 judge-batch-requires : tie.Need-judge-batch-requires
 judge-batch-requires c κs =
-    let s = c .before .before .before .before .before .before .before .before in
-    (s .pre .1 .0 .0, (s .pre .0 .moves .stamp, s .pre .0 .moves .ascend))
+    let s = c .before .before .before .before .before .before .before in
+    let a = s .args in
+    (s .pre .1 .0 .0, sane-held (a .session) (roomsOf (a .labels .now) (a .equations .now) (a .values .now) (a .marks .now) (a .moves .now)) (s .pre .0))
 
 enum-known-verdict : tie.Need-enum-known-verdict
 enum-known-verdict c = search needs
@@ -25,22 +27,24 @@ enum-told c = search needs
 
 move-on-requires : tie.Need-move-on-requires
 move-on-requires c κs =
-    let s = c .before .before .before .before .before .before .before .before .before .before .before .before .before .before in
+    let after-judge = c .before .before .before .before .before in
+    let s = start-before-judge-batch after-judge in
     let a = s .args in
     let l = roomsOf (a .labels .now) (a .equations .now) (a .values .now) (a .marks .now) (a .moves .now) in
     let b : Batch = record { stamp = a .stamp; changes = changesOf (take (a .count) (a .changes .now)) } in
-    (able (a .session) l b b (s .pre .0) (s .pre .1 .1) (judged-good (a .session) l b _ (c .before .before .before .before .before .judge-batch .ensures) (c .before .before .before .enum-told .given .1)), s .pre .1 .0)
+    (able (a .session) l b b (s .pre .0) (s .pre .1 .1) (judged-good (a .session) l b _ (after-judge .judge-batch .ensures) (c .before .before .before .enum-told .given .1)), s .pre .1 .0)
 
 same-length : tie.Need-same-length
 same-length c = search needs
 
 returns : tie.Need-returns
 returns c =
-    let s = c .before .before .before .before .before .before .before .before .before .before .before .before in
+    let after-judge = c .before .before .before in
+    let s = start-before-judge-batch after-judge in
     let a = s .args in
     let l = roomsOf (a .labels .now) (a .equations .now) (a .values .now) (a .marks .now) (a .moves .now) in
     let b : Batch = record { stamp = a .stamp; changes = changesOf (take (a .count) (a .changes .now)) } in
-    read-bad (a .session) l b _ (c .before .before .before .judge-batch .ensures) _ _ (c .before .verdict .given .1)
+    read-bad (a .session) l b _ (after-judge .judge-batch .ensures) _ _ (c .before .verdict .given .1)
 
 same-length-2 : tie.Need-same-length-2
 same-length-2 c = search needs
@@ -53,17 +57,17 @@ same-length-4 c = search needs
 
 returns-2 : tie.Need-returns-2
 returns-2 c =
-    let s = c .before .before .before .before .before .before .before .before .before .before .before .before .before .before .before .before .before .before .before .before .before in
+    let after-judge = c .before .before .before .before .before .before .before .before .before .before .before .before in
+    let s = start-before-judge-batch after-judge in
     let a = s .args in
     let l = roomsOf (a .labels .now) (a .equations .now) (a .values .now) (a .marks .now) (a .moves .now) in
     let b : Batch = record { stamp = a .stamp; changes = changesOf (take (a .count) (a .changes .now)) } in
-    read-good (a .session) l b _ (c .before .before .before .before .before .before .before .before .before .before .before .before .judge-batch .ensures) _ (c .before .before .before .before .before .before .before .before .before .before .enum-told .given .1) (c .before .before .before .before .before .before .move-on .ensures)
+    read-good (a .session) l b _ (after-judge .judge-batch .ensures) _ (c .before .before .before .before .before .before .before .before .before .before .enum-told .given .1) (c .before .before .before .before .before .before .move-on .ensures)
 
 pub judge-on-spec : {M : Type 1} → statement M
 judge-on-spec =
     tie.close
     (tie.spec
-    cast-n
     judge-batch-requires
     enum-known-verdict
     enum-told

@@ -69,28 +69,28 @@ move-at-requires-3 c κs = omega (arith, ap bodyLen (c .match .keys8))
 
 shared-slice-read-t28 : tie.Need-shared-slice-read-t28
 unfolding bodyLen
-shared-slice-read-t28 c = omega (arith, ap bodyLen (c .before .match .keys9))
+shared-slice-read-t28 c = omega (arith, ap bodyLen (c .before .match .keys10))
 
 add-t29 : tie.Need-add-t29
 add-t29 c = search needs
 
 shared-slice-read-t31 : tie.Need-shared-slice-read-t31
 unfolding bodyLen
-shared-slice-read-t31 c = omega (arith, ap bodyLen (c .before .before .match .keys9))
+shared-slice-read-t31 c = omega (arith, ap bodyLen (c .before .before .match .keys10))
 
 add-t32 : tie.Need-add-t32
 add-t32 c = search needs
 
 shared-slice-read-t34 : tie.Need-shared-slice-read-t34
 unfolding bodyLen
-shared-slice-read-t34 c = omega (arith, ap bodyLen (c .before .before .before .match .keys9))
+shared-slice-read-t34 c = omega (arith, ap bodyLen (c .before .before .before .match .keys10))
 
 add-t35 : tie.Need-add-t35
 add-t35 c = search needs
 
 shared-slice-read-t37 : tie.Need-shared-slice-read-t37
 unfolding bodyLen
-shared-slice-read-t37 c = omega (arith, ap bodyLen (c .before .before .before .before .match .keys9))
+shared-slice-read-t37 c = omega (arith, ap bodyLen (c .before .before .before .before .match .keys10))
 
 returns : tie.Need-returns
 unfolding recordOf
@@ -126,11 +126,15 @@ returns-8 c = rw (c .before .match .keys8) (cc)
 
 returns-9 : tie.Need-returns-9
 unfolding recordOf
-returns-9 c = rw (c .before .before .before .before .match .keys9) (cc)
+returns-9 c = rw (c .match .keys9) (cc)
 
 returns-10 : tie.Need-returns-10
 unfolding recordOf
-returns-10 c = simp (ne-eqb _ _ (c .match .rest .1), ne-eqb _ _ (c .match .rest .0 .1), ne-eqb _ _ (c .match .rest .0 .0 .1), ne-eqb _ _ (c .match .rest .0 .0 .0 .1), ne-eqb _ _ (c .match .rest .0 .0 .0 .0 .1), ne-eqb _ _ (c .match .rest .0 .0 .0 .0 .0 .1), ne-eqb _ _ (c .match .rest .0 .0 .0 .0 .0 .0 .1), ne-eqb _ _ (c .match .rest .0 .0 .0 .0 .0 .0 .0 .1), ne-eqb _ _ (c .match .rest .0 .0 .0 .0 .0 .0 .0 .0 .1))
+returns-10 c = rw (c .before .before .before .before .match .keys10) (cc)
+
+returns-11 : tie.Need-returns-11
+unfolding recordOf
+returns-11 c = simp (ne-eqb _ _ (c .match .rest .1), ne-eqb _ _ (c .match .rest .0 .1), ne-eqb _ _ (c .match .rest .0 .0 .1), ne-eqb _ _ (c .match .rest .0 .0 .0 .1), ne-eqb _ _ (c .match .rest .0 .0 .0 .0 .1), ne-eqb _ _ (c .match .rest .0 .0 .0 .0 .0 .1), ne-eqb _ _ (c .match .rest .0 .0 .0 .0 .0 .0 .1), ne-eqb _ _ (c .match .rest .0 .0 .0 .0 .0 .0 .0 .1), ne-eqb _ _ (c .match .rest .0 .0 .0 .0 .0 .0 .0 .0 .1), ne-eqb _ _ (c .match .rest .0 .0 .0 .0 .0 .0 .0 .0 .0 .1))
 
 pub body-at-spec : {M : Type 1} → statement M
 body-at-spec =
@@ -168,4 +172,5 @@ body-at-spec =
     returns-7
     returns-8
     returns-9
-    returns-10)
+    returns-10
+    returns-11)
