@@ -2,22 +2,21 @@
 -- back, from the last equation to the sizes; bytes of that spelling are refused at one place only. Assumes nothing.
 use mathlib.Core.Path.{_≡_, refl, sym, ap, _∙_, subst}
 use mathlib.Core.Logic.{_⊎_, _↔_, inl, inr}
-use mathlib.Core.Bool.{true, _&&_}
+use mathlib.Core.Bool.{true}
 use mathlib.Core.List.{List, [], _∷_, _++_, append-assoc, append-nil}
 use Prim.Native.Nat.{ℕ, zero, suc, _+_, _-_, _≤_, _<_}
 use native.Mathlib.Nat.{not-suc-le-zero}
 use native.Mathlib.Omega.{arith}
-use lib.ListN.{length, drop, replicate, length-append, length-replicate, length-drop}
-use lib.Dec.{leb}
+use lib.ListN.{length, replicate, length-append, length-replicate}
 use Rattle.lists.specs.Lists.{all}
 use Rattle.lists.specs.Tests.{tests, tell, and-in, and-is, eqb-is, ltb-is, leb-is}
 use Rattle.rules.specs.Model.{Equation, labelOk, signOk, equationIn, namesIn}
-use Rattle.rules.specs.Records.{Rec, field, widths, known, bodyOf, reads, bytes, bytesOf, Parts, ends, broken, part, partsFrom, parts, Turn, no, back, next, over, demand, refused, onTurn, run}
+use Rattle.rules.specs.Records.{Rec, field, widths, bytes, bytesOf, Parts, part, partsFrom, parts, Turn, no, back, next, over, demand, refused, onTurn, run}
 use Rattle.rules.specs.Rooms.{Lengths}
 use Rattle.rules.specs.Load.{Sofar, State, before, inside, started, labelDemands, liveDemands, afterLive, sizesDemands, signedDemands, afterLabel, afterSigned, askChains, sizesOf, signedOf, signOf, step, put, last, settleStyle, readModel}
 use Rattle.rules.specs.Spelling.{sizesRec, liveRec, liveRecs, labelRecs, signedRec, signedRecs}
 use Rattle.rules.specs.declared.Sizes.{Sizes}
-use Rattle.laws.specs.RecordLaws.{AreBytes, Writable, Met, judged, size, part-written, bytes-drop, fits-reads, writes-reads}
+use Rattle.laws.specs.RecordLaws.{AreBytes, Writable, Met, judged, size, part-written, Head, headed}
 use Rattle.laws.specs.ChainLaws.{Guilty}
 use Rattle.laws.specs.Walks.{nil-of, small}
 use Rattle.laws.specs.OneKind.{kindAt}
@@ -37,35 +36,6 @@ pub record MixedAt (l : Lengths) (s : List ℕ) (q : ℕ) : Type 0 where
   pub lowest : ℕ
   pub guilty : Guilty (length equations) (namesIn equations) (kindAt equations) lowest
   pub place : q ≡ length (bytesOf (upTo sizes live labels equations lowest))
-
--- A whole record that stands at the head of bytes, and the bytes after it.
-record Head (s : List ℕ) : Type 0 where
-  rec : Rec
-  after : List ℕ
-  fits : Writable rec
-  spelled : s ≡ bytes rec ++ after
-  bytes-after : AreBytes after
-  shorter : length after < length s
-
--- Bytes have such a head, or are at an end, or are broken.
-headed : (p : ℕ) (s : List ℕ) → AreBytes s → Head s ⊎ ((partsFrom 0 p s ≡ ends p) ⊎ (partsFrom 0 p s ≡ broken p))
-unfolding partsFrom
-headed p [] h = inr (inl refl)
-headed p (k ∷ s) h =
-    elim (tell true (known k && leb (bodyOf (widths k)) (length s))) [
-      | inr x ↦ inr (inr (rw x refl))
-      | inl x ↦
-          let w = and-is (known k) (leb (bodyOf (widths k)) (length s)) .0 x in
-          let n = leb-is (bodyOf (widths k)) (length s) .0 (w .1) in
-          inl (record {
-            rec = record { kind = k; body = reads (widths k) s };
-            after = drop (bodyOf (widths k)) s;
-            fits = (w .0, fits-reads (widths k) s (h .1));
-            spelled = ap (λ (t : List ℕ). k ∷ t) (sym (writes-reads (widths k) s (h .1) n));
-            bytes-after = bytes-drop (bodyOf (widths k)) s (h .1);
-            shorter = rw length-drop (omega arith);
-          })
-    ]
 
 -- What the bytes s hold that are still to be read in the state x: the record of a live model, where `flag` is 1, then labels,
 -- then equations with signs, with which some closed chain holds both signs.

@@ -35,3 +35,4 @@ pub mod FivePlace
 pub mod ComponentCount
 pub mod FewBlocks
 pub mod LiveApart
+pub mod SixteenPlace

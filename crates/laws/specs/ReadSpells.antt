@@ -502,6 +502,12 @@ module _ (l : Lengths) where
         | inr d ↦ let z : _≡_ {A = ℕ} 0 1 = cc in absurd (omega arith)
       ]
 
+  -- Records that are passed spell a model that is inside the limits and fits the rooms.
+  pub passed-spells : {rs : List Rec} {m : Model} → Walks (step l) put last before rs m → AllWritable rs
+      → (rs ≡ records (settleStyle m)) × WellFormed (settleStyle m) × (roomsOk l (m .sizes) ≡ true) × (length (m .moves) ≤ l .moves)
+  unfolding Good
+  passed-spells w f = first w f
+
   -- What loads is inside the limits, fits the rooms, and its spelling is the bytes.
   pub read-spelling : (s : List ℕ) (m : Model) → AreBytes s → readModel l s ≡ accepted m
       → WellFormed m × (encode m ≡ s) × (roomsOk l (m .sizes) ≡ true) × (length (m .moves) ≤ l .moves)

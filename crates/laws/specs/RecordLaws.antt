@@ -1,5 +1,5 @@
 -- Bytes and records: what is written is accepted back, and what is accepted, written again, is what was there. Assumes nothing.
-use mathlib.Core.Path.{_≡_, refl, ap, ap₂, _∙_}
+use mathlib.Core.Path.{_≡_, refl, sym, ap, ap₂, _∙_}
 use mathlib.Core.Logic.{_⊎_, inl, inr}
 use mathlib.Core.Bool.{Bool, true, false, cond, _&&_}
 use mathlib.Core.List.{List, [], _∷_, _++_, append-assoc}
@@ -10,7 +10,7 @@ use lib.ListN.{length, getD, drop, length-append, length-drop}
 use lib.Seq.{drop-at, drop-drop}
 use lib.Dec.{leb}
 use Rattle.lists.specs.Tests.{tell, and-in, leb-is, and-is}
-use Rattle.rules.specs.Records.{widths, known, bodyOf, digits, number, writes, reads, Rec, bytes, bytesOf, broken, part, partsFrom, Turn, no, back, next, demand, Outcome, refused, accepted, onto, atEnd, onTurn, run, over}
+use Rattle.rules.specs.Records.{widths, known, bodyOf, digits, number, writes, reads, Rec, bytes, bytesOf, ends, broken, part, partsFrom, Turn, no, back, next, demand, Outcome, refused, accepted, onto, atEnd, onTurn, run, over}
 
 -- A body's numbers fit their widths; and bytes are below 256.
 abbrev pub Fits : List ℕ → List ℕ → Type 0
@@ -215,3 +215,32 @@ shape [] [] g h e = refl
 shape [] (f ∷ fs) g h e = absurd h
 shape (w ∷ ws) [] g h e = absurd h
 shape (w ∷ ws) (f ∷ fs) g h e = ap₂ (λ (x : ℕ) (t : List ℕ). x ∷ t) (e 0) (shape ws fs (λ i. g (suc i)) (h .1) (λ i. e (suc i)))
+
+-- A whole record that stands at the head of bytes, and the bytes after it.
+pub record Head (s : List ℕ) : Type 0 where
+  pub rec : Rec
+  pub after : List ℕ
+  pub fits : Writable rec
+  pub spelled : s ≡ bytes rec ++ after
+  pub bytes-after : AreBytes after
+  pub shorter : length after < length s
+
+-- Bytes have such a head, or are at an end, or are broken.
+pub headed : (p : ℕ) (s : List ℕ) → AreBytes s → Head s ⊎ ((partsFrom 0 p s ≡ ends p) ⊎ (partsFrom 0 p s ≡ broken p))
+unfolding partsFrom
+headed p [] h = inr (inl refl)
+headed p (k ∷ s) h =
+    elim (tell true (known k && leb (bodyOf (widths k)) (length s))) [
+      | inr x ↦ inr (inr (rw x refl))
+      | inl x ↦
+          let w = and-is (known k) (leb (bodyOf (widths k)) (length s)) .0 x in
+          let n = leb-is (bodyOf (widths k)) (length s) .0 (w .1) in
+          inl (record {
+            rec = record { kind = k; body = reads (widths k) s };
+            after = drop (bodyOf (widths k)) s;
+            fits = (w .0, fits-reads (widths k) s (h .1));
+            spelled = ap (λ (t : List ℕ). k ∷ t) (sym (writes-reads (widths k) s (h .1) n));
+            bytes-after = bytes-drop (bodyOf (widths k)) s (h .1);
+            shorter = rw length-drop (omega arith);
+          })
+    ]

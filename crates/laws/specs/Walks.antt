@@ -278,13 +278,20 @@ module _ (l : Lengths) where
             rw t (rw e at w)
       ]
 
-  -- The records of a model inside the limits are passed, and say it.
-  pub walks-records : (m : Model) → wellFormed m ≡ true → roomsOk l (m .sizes) ≡ true → length (m .moves) ≤ l .moves → W before (records m) (unplaced m)
-  unfolding wellFormed step put last rest records labelled
-  walks-records m h r n =
+  -- What comes after the sizes and the record of a live model is passed, and says the model.
+  pub walks-labels : (m : Model) → wellFormed m ≡ true → length (m .moves) ≤ l .moves
+      → W (inside (opened (m .sizes) (m .live))) (labelRecs 0 (m .labels) ++ (styleRecs (m .sizes) (m .equations) ++ moveRecs (m .moves))) (unplaced m)
+  unfolding wellFormed rest labelled
+  walks-labels m h n =
       let k = simp and-is at h in
       let e = eqb-is (length (m .labels)) (m .sizes .states) .0 (k .0 .0 .0 .0 .1) in
-      let w = labels-in (m .labels) 0 (opened (m .sizes) (m .live)) (unplaced m .equations) (m .moves)
-      (styleRecs (m .sizes) (m .equations) ++ moveRecs (m .moves)) (omega arith) (k .0 .0 .0 .1) refl refl (style-in m h n) in
+      labels-in (m .labels) 0 (opened (m .sizes) (m .live)) (unplaced m .equations) (m .moves)
+      (styleRecs (m .sizes) (m .equations) ++ moveRecs (m .moves)) (omega arith) (k .0 .0 .0 .1) refl refl (style-in m h n)
+
+  -- The records of a model inside the limits are passed, and say it.
+  pub walks-records : (m : Model) → wellFormed m ≡ true → roomsOk l (m .sizes) ≡ true → length (m .moves) ≤ l .moves → W before (records m) (unplaced m)
+  unfolding wellFormed step put records
+  walks-records m h r n =
+      let k = simp and-is at h in
       more {st = before} {st′ = inside (started (m .sizes))} (sizesRec (m .sizes)) (met (sizesDemands l (sizesRec (m .sizes))) _ (refl, (k .0 .0 .0 .0 .0, (r, tt))))
-      (flag-in m (labelRecs 0 (m .labels) ++ (styleRecs (m .sizes) (m .equations) ++ moveRecs (m .moves))) (unplaced m) (leb-is (m .live) 1 .0 (k .1 .1 .0)) w) refl
+      (flag-in m (labelRecs 0 (m .labels) ++ (styleRecs (m .sizes) (m .equations) ++ moveRecs (m .moves))) (unplaced m) (leb-is (m .live) 1 .0 (k .1 .1 .0)) (walks-labels m h n)) refl
