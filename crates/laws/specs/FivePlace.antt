@@ -1,7 +1,7 @@
 -- Refusal 5 of a model with signs, exactly: when it is given, and at which byte. What has been read when it is given is spelled
 -- back, from the last equation to the sizes; bytes of that spelling are refused at one place only. Assumes nothing.
 use mathlib.Core.Path.{_≡_, refl, sym, ap, _∙_, subst}
-use mathlib.Core.Logic.{_⊎_, _↔_, inl, inr}
+use mathlib.Core.Logic.{_↔_, inl, inr}
 use mathlib.Core.Bool.{true}
 use mathlib.Core.List.{List, [], _∷_, _++_, append-assoc, append-nil}
 use Prim.Native.Nat.{ℕ, zero, suc, _+_, _-_, _≤_, _<_}
@@ -9,7 +9,7 @@ use native.Mathlib.Nat.{not-suc-le-zero}
 use native.Mathlib.Omega.{arith}
 use lib.ListN.{length, replicate, length-append, length-replicate}
 use Rattle.lists.specs.Lists.{all}
-use Rattle.lists.specs.Tests.{tests, tell, and-in, and-is, eqb-is, ltb-is, leb-is}
+use Rattle.lists.specs.Tests.{tests, and-in, and-is, eqb-is, ltb-is, leb-is}
 use Rattle.rules.specs.Model.{Equation, labelOk, signOk, equationIn, namesIn}
 use Rattle.rules.specs.Records.{Rec, field, widths, bytes, bytesOf, Parts, part, partsFrom, parts, Turn, no, back, next, over, demand, refused, onTurn, run}
 use Rattle.rules.specs.Rooms.{Lengths}

@@ -4,12 +4,11 @@ use mathlib.Core.Path.{_≡_, refl, sym, ap, _∙_}
 use mathlib.Core.Logic.{inl, inr, _≢_}
 use mathlib.Core.Bool.{Bool, true, false, cond, false≢true}
 use mathlib.Core.List.{List, [], _∷_}
-use Prim.Native.Nat.{ℕ, zero, suc, _/_, _≤_, _<_}
+use Prim.Native.Nat.{ℕ, suc, _≤_, _<_}
 use native.Mathlib.Omega.{arith}
 use lib.Dec.{eqb, ltb}
-use Rattle.lists.specs.Lists.{any, eachBelow}
 use Rattle.lists.specs.Ranges.{same-truth, each-in, each-out}
-use Rattle.lists.specs.Tests.{tests, tell, eqb-is, eqb-no, ltb-is, ltb-no, and-is, leb-is, or-in, or-other}
+use Rattle.lists.specs.Tests.{tests, tell, eqb-is, eqb-no, ltb-is, ltb-no, and-is, leb-is, or-in, or-other, or-no}
 use Rattle.rules.specs.Moves.{source}
 use Rattle.rules.specs.Model.{moveOk, movesOk, hasMove, noneHangs, liveOk}
 use Rattle.rules.specs.Load.{Sofar, started, movingWith}
@@ -81,6 +80,50 @@ all-counted z (q ∷ ms) least n h l g =
                 absurd (false≢true (sym (none-before z ms (suc q) n (f .1) (omega arith)) ∙ others n d (g n (omega arith) (omega arith))))
           ])
     ]
+
+-- The count only grows, and where the moves have passed a state it stops there.
+grows : (ms : List ℕ) (n : ℕ) → n ≤ movingOver n ms
+grows [] n = omega arith
+grows (q ∷ ms) n =
+    elim (tell true (eqb (source q) n)) [
+      | inl t ↦ let h = grows ms (suc n) in rw t (omega arith)
+      | inr t ↦ rw t (grows ms n)
+    ]
+
+stays : (z : Sizes) (ms : List ℕ) (least n : ℕ) → movesOk z least ms ≡ true → n < source least → movingOver n ms ≡ n
+stays z [] least n h l = refl
+stays z (q ∷ ms) least n h l =
+    let f = simp and-is at h in
+    let g = leb-is least q .0 (f .0 .0) in
+    let m : source least ≤ source q = omega arith in
+    let s : source q ≤ source (suc q) = omega arith in
+    let d : source q ≢ n = λ i. omega arith in
+    rw (eqb-no (source q) n .1 d) (stays z ms (suc q) n (f .1) (omega arith))
+
+-- The state at which it stops has no move.
+stops : (z : Sizes) (ms : List ℕ) (least n : ℕ) → movesOk z least ms ≡ true → hasMove ms (movingOver n ms) ≡ false
+stops z [] least n h = refl
+stops z (q ∷ ms) least n h =
+    let f = simp and-is at h in
+    elim (tell true (eqb (source q) n)) [
+      | inl t ↦
+          let a = eqb-is (source q) n .0 t in
+          let g = grows ms (suc n) in
+          rw t (or-no (eqb (source q) (movingOver (suc n) ms)) (hasMove ms (movingOver (suc n) ms)) .1 (eqb-no (source q) _ .1 (λ i. omega arith), stops z ms (suc q) (suc n) (f .1)))
+      | inr t ↦
+          let d = eqb-no (source q) n .0 t in
+          let g = grows ms n in
+          let off : source q ≢ movingOver n ms = elim (tell true (ltb (source q) n)) [
+            | inl u ↦ λ i. (let a = ltb-is (source q) n .0 u in omega arith)
+            | inr u ↦ λ i. (let a = ltb-no (source q) n .0 u in let b : source q ≤ source (suc q) = omega arith in let c = stays z ms (suc q) n (f .1) (omega arith) in omega arith)
+          ] in
+          rw t (or-no (eqb (source q) (movingOver n ms)) (hasMove ms (movingOver n ms)) .1 (eqb-no (source q) _ .1 off, stops z ms (suc q) n (f .1)))
+    ]
+
+-- Counted over moves in order, it is the first state that has no move: those below it have one each.
+pub first-hanging : (z : Sizes) (ms : List ℕ) → movesOk z 0 ms ≡ true
+    → (hasMove ms (movingOver 0 ms) ≡ false) × ((s : ℕ) → s < movingOver 0 ms → hasMove ms s ≡ true)
+first-hanging z ms h = (stops z ms 0 0 h, λ s l. counted ms 0 (movingOver 0 ms) s refl (omega arith) l)
 
 -- All states are counted exactly where each has a move.
 pub moving-is : (z : Sizes) (ms : List ℕ) → movesOk z 0 ms ≡ true → eqb (movingOver 0 ms) (z .states) ≡ noneHangs (z .states) ms

@@ -1,7 +1,7 @@
 -- Whether a model is live plays no part in its values, in what a batch turns and in the visits. Assumes nothing.
 use mathlib.Core.Path.{_≡_, refl, ap, ap₂, fun-ext}
 use mathlib.Core.Bool.{Bool, true, false, not, cond, _&&_, _||_}
-use mathlib.Core.List.{List, [], _∷_}
+use mathlib.Core.List.{List, []}
 use Prim.Native.Nat.{ℕ, zero, suc}
 use lib.Dec.{eqb, ltb}
 use Rattle.lists.specs.Lists.{is, any, count, sum}
@@ -9,10 +9,10 @@ use Rattle.lists.specs.Smallest.{Rule, table, at, smallest}
 use Rattle.rules.specs.Batch.{Change, inserts, deletes}
 use Rattle.rules.specs.Model.{Model, WellFormed, wellFormed, liveOk, blocksOf}
 use Rattle.rules.specs.Rooms.{pairsOf}
-use Rattle.rules.specs.Update.{gains, loses, went, shifts, shiftedSet, turnedTo, Turned, turnBlock, turnTo, turnAll, visitsOn}
-use Rattle.rules.specs.Values.{Values, Term, constant, proposition, join, step, stateOf, termAt, blockOf, greatest, leaningsBy, leanings, givesBy, gives, put, settles, settledSet, fresh, solveTo, solve}
+use Rattle.rules.specs.Update.{gains, loses, went, shifts, turnedTo, Turned, turnBlock, turnTo, turnAll, visitsOn}
+use Rattle.rules.specs.Values.{Values, Term, constant, proposition, join, step, stateOf, termAt, blockOf, greatest, leaningsBy, leanings, givesBy, gives, put, settles, fresh, solveTo, solve}
 use Rattle.rules.specs.declared.State.{State}
-use Rattle.lists.specs.Tests.{and-is, and-in}
+use Rattle.lists.specs.Tests.{and-is}
 
 -- The model, not said to be live.
 abbrev pub still : Model → Model

@@ -1,20 +1,20 @@
 -- Refusal 16 of a load, exactly: when it is given, and at which byte. A live model is read as one that is not said to be live,
 -- record by record, but at the end. Assumes nothing.
 use mathlib.Core.Path.{_≡_, refl, sym, ap, ap₂, _∙_, subst}
-use mathlib.Core.Logic.{_⊎_, _↔_, inl, inr}
+use mathlib.Core.Logic.{_↔_, inl, inr}
 use mathlib.Core.Bool.{Bool, true, false, not, cond, _&&_, true≢false}
 use mathlib.Core.List.{List, [], _∷_, _++_, append-assoc}
-use Prim.Native.Nat.{ℕ, zero, suc, _+_, _-_, _*_, _≤_, _<_}
+use Prim.Native.Nat.{ℕ, zero, suc, _+_, _-_, _≤_}
 use native.Mathlib.Omega.{arith}
 use lib.ListN.{length}
 use lib.Dec.{eqb}
-use Rattle.lists.specs.Lists.{someBelow, lowest}
+use Rattle.lists.specs.Lists.{someBelow}
 use Rattle.lists.specs.Tests.{tests, tell, not-out, and-is, and-no, eqb-is, eqb-no, ltb-is}
-use Rattle.rules.specs.Moves.{pack, source}
+use Rattle.rules.specs.Moves.{pack}
 use Rattle.rules.specs.Model.{Equation, Model, signed, wellFormed, WellFormed, guilty, noneHangs}
-use Rattle.rules.specs.Records.{Rec, field, widths, bytes, bytesOf, Parts, ends, broken, part, partsFrom, parts, Turn, no, back, next, over, demand, Outcome, refused, onto, atEnd, onTurn, run}
+use Rattle.rules.specs.Records.{Rec, field, widths, bytes, bytesOf, Parts, ends, broken, part, partsFrom, parts, Turn, no, back, next, over, demand, refused, onto, atEnd, onTurn, run}
 use Rattle.rules.specs.Rooms.{Lengths, roomsOk}
-use Rattle.rules.specs.Load.{Sofar, State, before, inside, started, movesDue, allMoving, sizesOf, signOf, sizesDemands, liveDemands, labelDemands, blockDemands, equationDemands, signedDemands, moveDemands, endDemands, afterLive, afterLabel, afterBlock, afterEquation, afterSigned, afterMove, askChains, blockFits, step, put, last, settleStyle, readModel}
+use Rattle.rules.specs.Load.{Sofar, State, before, inside, started, movesDue, sizesOf, signOf, sizesDemands, liveDemands, labelDemands, blockDemands, equationDemands, signedDemands, moveDemands, endDemands, afterLive, afterLabel, afterBlock, afterEquation, afterSigned, afterMove, askChains, blockFits, step, put, last, settleStyle, readModel}
 use Rattle.rules.specs.Spelling.{sizesRec, liveRec, liveRecs, labelRecs, equationRecs, signedRecs, styleRecs, moveRecs, records, encode}
 use Rattle.rules.specs.declared.Sizes.{Sizes}
 use Rattle.laws.specs.RecordLaws.{Walks, done, more, AreBytes, Writable, AllWritable, Met, met, judged, size, part-written, never, Head, headed}

@@ -1,6 +1,7 @@
 -- The bench cases A to F, with the box and the diamond of no move, as one table under one claim: from the bytes of a model
 -- and of its batches to the answers and the rooms. Two more rows have an equation that names one variable twice, and one
--- that leans on an earlier block. Each model is also written, into room enough and into one place too few. Assumes nothing.
+-- that leans on an earlier block. Each model is also written, into room enough and into one place too few. Two further tables have
+-- models with signs and live models. Assumes nothing.
 use mathlib.Core.Path.{_≡_, refl}
 use mathlib.Core.List.{List, [], _∷_, _++_}
 use Prim.Native.Nat.{ℕ, _-_}

@@ -4,11 +4,10 @@ use mathlib.Core.Logic.{inl, inr}
 use mathlib.Core.Bool.{true}
 use mathlib.Core.List.{List, [], _∷_}
 use Prim.Native.Nat.{ℕ, _+_, _*_, _-_, _≤_}
-use native.Mathlib.Nat.{zero-add}
 use native.Mathlib.Omega.{arith}
 use lib.ListN.{length}
 use lib.Dec.{eqb, ltb}
-use Rattle.lists.specs.Lists.{bit, count}
+use Rattle.lists.specs.Lists.{bit}
 use Rattle.lists.specs.Counts.{count-le}
 use Rattle.lists.specs.Tests.{tell, eqb-is, eqb-no, ltb-is, ltb-no}
 use Rattle.rules.specs.Moves.{source}

@@ -1,7 +1,6 @@
 -- What the state has and gains, against what it loses. Assumes nothing.
 use mathlib.Core.Path.{ap₂}
 use Prim.Native.Nat.{ℕ, _+_}
-use native.Mathlib.Omega.{arith}
 use lib.Dec.{leb}
 use borrow.Author.Needs.{needs}
 use Rattle.edits.proofs.empties.Statement.{statement}
