@@ -16,12 +16,12 @@ use Rattle.rules.specs.Rooms.{Lengths}
 use Rattle.rules.specs.Load.{Sofar, State, before, inside, started, labelDemands, liveDemands, afterLive, sizesDemands, signedDemands, afterLabel, afterSigned, askChains, sizesOf, signedOf, signOf, step, put, last, settleStyle, readModel}
 use Rattle.rules.specs.Spelling.{sizesRec, liveRec, liveRecs, labelRecs, signedRec, signedRecs}
 use Rattle.rules.specs.declared.Sizes.{Sizes}
-use Rattle.laws.specs.RecordLaws.{AreBytes, Writable, Met, judged, size, part-written, Head, headed}
+use Rattle.laws.specs.RecordLaws.{AreBytes, Writable, Met, judged, size, part-written, Head, headed, told-number, un-told, demanded, by-records}
 use Rattle.laws.specs.ChainLaws.{Guilty}
 use Rattle.laws.specs.Walks.{nil-of, small}
 use Rattle.laws.specs.OneKind.{kindAt}
 use Rattle.laws.specs.ReadSpells.{rec-is, skip-zeros, zeros-ok, zero-ok, Stepped, label, block, equation, move, lives, sign, stepped}
-use Rattle.laws.specs.SignsRefused.{Text, upToLabels, upTo, mixed-refused, Signing, Does, goes, stops, refuses, closes, does, told-number, un-told, end-not-five, signing-started, fiveless-demand}
+use Rattle.laws.specs.SignsRefused.{Text, upToLabels, upTo, mixed-refused, Signing, Does, goes, stops, refuses, closes, does, end-not-five, signing-started}
 
 -- The bytes s begin with the sizes, the labels and the equations with signs of a model that is live or not, whatever comes
 -- after; the equations have a closed chain with both signs; and q is the place of the first byte of the lowest equation on one.
@@ -216,32 +216,11 @@ module _ (l : Lengths) (q : ℕ) where
       } in
       (omega arith, subst (λ (r : Rec). Ahead x (bytes r ++ s)) (sym (rec-is r 11 (c .kind) w)) (sign-ahead x (field r 0) (field r 1) (field r 2) (field r 3) s h (met .1 .0) a))
 
-  -- Reading these bytes is refused with 5 only where they hold what is ahead.
-  abbrev Held : List ℕ → Type 0
-  Held s = (p : ℕ) (x : Sofar) → Signing x → Within x → run (step l) put last (inside x) (partsFrom 0 p s) ≡ refused 5 q → Finds s x
-
-  -- It is so of bytes where it is so of those after the record at their head.
-  by-head : (s : List ℕ) → AreBytes s → ((k : Head s) → Held (k .after)) → Held s
-  unfolding run
-  by-head s b ih p x g h e =
-      elim (headed p s b) [
-        | inl k ↦
-            let r = k .rec in
-            let t = partsFrom 0 (p + size r) (k .after) in
-            let u : run (step l) put last (inside x) (part p r t) ≡ refused 5 q =
-            subst (λ (t : Parts). run (step l) put last (inside x) t ≡ refused 5 q) (ap (partsFrom 0 p) (k .spelled) ∙ part-written r p (k .after) (k .fits)) e in
-            subst (λ (t : List ℕ). Finds t x) (sym (k .spelled))
-            (turn x r p (k .after) t g h (k .fits) (λ y c i f. ih k (p + size r) y c i f) (step l (inside x) r) refl (does l x r g) (stepped l x r) u)
-        | inr k ↦ elim k [
-          | inl i ↦ absurd (let c = told-number 1 p 5 q (rw i at e) .0 in omega arith)
-          | inr i ↦ absurd (let c = told-number 1 p 5 q (rw i at e) .0 in omega arith)
-        ]
-      ]
-
-  -- So it is so of all bytes, by their length.
-  ahead : (n : ℕ) (s : List ℕ) → length s ≤ n → AreBytes s → Held s
-  ahead zero s m b = by-head s b (λ k. let c = k .shorter in absurd (omega arith))
-  ahead (suc n) s m b = by-head s b (λ k. ahead n (k .after) (let c = k .shorter in omega arith) (k .bytes-after))
+  -- Reading bytes is refused with 5 only where they hold what is ahead.
+  ahead : (s : List ℕ) → AreBytes s → (p : ℕ) (x : Sofar) → Signing x → Within x → run (step l) put last (inside x) (partsFrom 0 p s) ≡ refused 5 q → Finds s x
+  ahead s b p x g h e = by-records (step l) put last 5 q (λ i. omega arith) (λ st p s. (x : Sofar) → st ≡ inside x → Signing x → Within x → Finds s x)
+      (λ st p r s w b ih e x i g h. turn x r p s (partsFrom 0 (p + size r) s) g h w (λ y c v f. ih (inside y) f y refl c v) (step l (inside x) r) refl (does l x r g) (stepped l x r) (rw i at e))
+      s b (inside x) p e x refl g h
 
   -- The sizes in front of what is ahead; the place is the one that such bytes are refused at.
   at-place : (s : List ℕ) (k : Head s) → field (k .rec) 4 ≡ 0 → readModel l s ≡ refused 5 q → Met (sizesDemands l (k .rec))
@@ -291,11 +270,11 @@ module _ (l : Lengths) (q : ℕ) where
       let o : onTurn (step l) put last (λ st. run (step l) put last st t) before 0 r t (step l before r) ≡ refused 5 q =
       subst (λ (t : Parts). run (step l) put last before t ≡ refused 5 q) (ap (partsFrom 0 0) (k .spelled) ∙ part-written r 0 (k .after) (k .fits))
       (un-told settleStyle (run (step l) put last before (parts s)) 5 q e) in
-      elim (fiveless-demand (sizesDemands l r) (next (inside (started z))) refl) [
+      elim (demanded 5 (sizesDemands l r) (next (inside (started z))) refl) [
         | inr d ↦ absurd (d .1 (told-number (d .0) 0 5 q (rw (d .2) at o) .0))
         | inl d ↦ elim (judged (sizesDemands l r) (next (inside (started z)))) [
           | inr m ↦ let c : _≡_ {A = ℕ} 0 1 = cc in absurd (omega arith)
-          | inl m ↦ at-place s k b e (m .0) (ahead (length (k .after)) (k .after) (omega arith) (k .bytes-after) (0 + size r) (started z) (signing-started z b) (let c = small z (m .0 .1 .0) in omega arith)
+          | inl m ↦ at-place s k b e (m .0) (ahead (k .after) (k .bytes-after) (0 + size r) (started z) (signing-started z b) (let c = small z (m .0 .1 .0) in omega arith)
               (un-told (put before r) (run (step l) put last (inside (started z)) t) 5 q (rw d at o)) .1)
         ]
       ]

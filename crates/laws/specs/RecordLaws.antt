@@ -1,16 +1,16 @@
 -- Bytes and records: what is written is accepted back, and what is accepted, written again, is what was there. Assumes nothing.
-use mathlib.Core.Path.{_≡_, refl, sym, ap, ap₂, _∙_}
+use mathlib.Core.Path.{_≡_, refl, sym, ap, ap₂, _∙_, subst}
 use mathlib.Core.Logic.{_⊎_, inl, inr}
-use mathlib.Core.Bool.{Bool, true, false, cond, _&&_}
+use mathlib.Core.Bool.{Bool, true, false, not, cond, _&&_}
 use mathlib.Core.List.{List, [], _∷_, _++_, append-assoc}
 use Prim.Native.Nat.{ℕ, zero, suc, _+_, _*_, _/_, _%_, _^_, _≤_, _<_}
 use native.Mathlib.Nat.{pow-succ', pow-zero, add-zero, not-suc-le-zero, le-of-suc-le-suc, suc-add, add-suc}
 use native.Mathlib.Omega.{arith}
 use lib.ListN.{length, getD, drop, length-append, length-drop}
 use lib.Seq.{drop-at, drop-drop}
-use lib.Dec.{leb}
-use Rattle.lists.specs.Tests.{tell, and-in, leb-is, and-is}
-use Rattle.rules.specs.Records.{widths, known, bodyOf, digits, number, writes, reads, Rec, bytes, bytesOf, ends, broken, part, partsFrom, Turn, no, back, next, demand, Outcome, refused, accepted, onto, atEnd, onTurn, run, over}
+use lib.Dec.{eqb, leb}
+use Rattle.lists.specs.Tests.{tell, not-out, and-in, leb-is, and-is, eqb-no}
+use Rattle.rules.specs.Records.{widths, known, bodyOf, digits, number, writes, reads, Rec, bytes, bytesOf, Parts, ends, broken, part, partsFrom, Turn, no, back, next, demand, Outcome, refused, accepted, onto, atEnd, onTurn, run, over}
 
 -- A body's numbers fit their widths; and bytes are below 256.
 abbrev pub Fits : List ℕ → List ℕ → Type 0
@@ -244,3 +244,65 @@ headed p (k ∷ s) h =
             shorter = rw length-drop (omega arith);
           })
     ]
+
+-- No demand of the list has the number k; and what comes of such a list.
+abbrev pub others : ℕ → List (ℕ × Bool) → Bool
+others k [] = true
+others k (d ∷ ds) = not (eqb (d .0) k) && others k ds
+
+pub demanded : {S : Type 0} (k : ℕ) (ds : List (ℕ × Bool)) (t : Turn S) → others k ds ≡ true → (demand ds t ≡ t) ⊎ ((n : ℕ) × (n ≡ k → ⊥) × (demand ds t ≡ no n))
+demanded k [] t h = inl refl
+demanded k (d ∷ ds) t h =
+    let f = and-is (not (eqb (d .0) k)) (others k ds) .0 h in
+    elim (tell true (d .1)) [
+      | inr e ↦ inr (d .0, eqb-no (d .0) k .0 (not-out _ (f .0)), rw e refl)
+      | inl e ↦ rw e (demanded k ds t (f .1))
+    ]
+
+-- The number and the place of a refusal.
+pub told-number : {B : Type 0} (n p m q : ℕ) → _≡_ {A = Outcome B} (refused n p) (refused m q) → (n ≡ m) × (p ≡ q)
+told-number {B} n p m q e = (ap number e, ap at e)
+  where
+    number : Outcome B → ℕ
+    number (refused n p) = n
+    number (accepted b) = 0
+
+    at : Outcome B → ℕ
+    at (refused n p) = p
+    at (accepted b) = 0
+
+pub un-told : {B : Type 0} (f : B → B) (o : Outcome B) (n p : ℕ) → onto f o ≡ refused n p → o ≡ refused n p
+un-told f (refused m q) n p e = e
+un-told f (accepted b) n p e = absurd (never (sym e))
+
+-- A refusal n at the place q, n other than 1, is told of bytes by their records: what holds of bytes with a record at their head,
+-- where it holds of the bytes after it, holds of all bytes that are so refused.
+module _ {S B : Type 0} (step : S → Rec → Turn S) (put : S → Rec → B → B) (last : S → B) (n q : ℕ) (other : n ≡ 1 → ⊥) (Q : S → ℕ → List ℕ → Type 0)
+    (turn : (st : S) (p : ℕ) (r : Rec) (s : List ℕ) → Writable r → AreBytes s
+    → ((st′ : S) → run step put last st′ (partsFrom 0 (p + size r) s) ≡ refused n q → Q st′ (p + size r) s)
+    → onTurn step put last (λ st′. run step put last st′ (partsFrom 0 (p + size r) s)) st p r (partsFrom 0 (p + size r) s) (step st r) ≡ refused n q
+    → Q st p (bytes r ++ s)) where
+  abbrev Told : List ℕ → Type 0
+  Told s = (st : S) (p : ℕ) → run step put last st (partsFrom 0 p s) ≡ refused n q → Q st p s
+
+  by-head : (s : List ℕ) → AreBytes s → ((k : Head s) → Told (k .after)) → Told s
+  unfolding run
+  by-head s b ih st p e =
+      elim (headed p s b) [
+        | inl k ↦
+            let r = k .rec in
+            let u : run step put last st (part p r (partsFrom 0 (p + size r) (k .after))) ≡ refused n q =
+            subst (λ (t : Parts). run step put last st t ≡ refused n q) (ap (partsFrom 0 p) (k .spelled) ∙ part-written r p (k .after) (k .fits)) e in
+            subst (Q st p) (sym (k .spelled)) (turn st p r (k .after) (k .fits) (k .bytes-after) (λ st′ f. ih k st′ (p + size r) f) u)
+        | inr k ↦ elim k [
+          | inl i ↦ absurd (other (sym (told-number 1 p n q (rw i at e) .0)))
+          | inr i ↦ absurd (other (sym (told-number 1 p n q (rw i at e) .0)))
+        ]
+      ]
+
+  by-length : (m : ℕ) (s : List ℕ) → length s ≤ m → AreBytes s → Told s
+  by-length zero s h b = by-head s b (λ k. let c = k .shorter in absurd (omega arith))
+  by-length (suc m) s h b = by-head s b (λ k. by-length m (k .after) (let c = k .shorter in omega arith) (k .bytes-after))
+
+  pub by-records : (s : List ℕ) → AreBytes s → Told s
+  by-records s b = by-length (length s) s (omega arith) b

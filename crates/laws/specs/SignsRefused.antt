@@ -14,12 +14,12 @@ use Rattle.lists.specs.Tests.{tests, tell, not-out, and-in, and-is, ltb-is, leb
 use Rattle.lists.specs.Ranges.{some-in, lowest-some}
 use Rattle.rules.specs.Limits.{sizesOk}
 use Rattle.rules.specs.Model.{Equation, labelOk, signOk, equationIn, namesIn, guilty, numbered}
-use Rattle.rules.specs.Records.{Rec, widths, bytes, bytesOf, Parts, ends, broken, part, partsFrom, Turn, no, back, next, over, demand, Outcome, refused, accepted, onto, atEnd, run, parts, field}
+use Rattle.rules.specs.Records.{Rec, widths, bytes, bytesOf, Parts, ends, broken, part, partsFrom, Turn, no, back, next, over, demand, refused, onto, atEnd, run, parts, field}
 use Rattle.rules.specs.Rooms.{Lengths, roomsOk}
 use Rattle.rules.specs.Load.{Sofar, State, before, inside, started, labelDemands, blockDemands, equationDemands, moveDemands, endDemands, liveDemands, sizesDemands, afterLabel, afterEquation, signOf, signedDemands, afterSigned, askChains, step, put, last, settleStyle, readModel}
 use Rattle.rules.specs.Spelling.{sizesRec, liveRec, liveRecs, labelRecs, signedRec, signedRecs}
 use Rattle.rules.specs.declared.Sizes.{Sizes}
-use Rattle.laws.specs.RecordLaws.{AllWritable, Writable, Met, met, size, part-written, never}
+use Rattle.laws.specs.RecordLaws.{others, told-number, AllWritable, Writable, Met, met, size, part-written, never}
 use Rattle.laws.specs.ChainLaws.{Mixed, mixed-in, Guilty, guilty-lowest}
 use Rattle.laws.specs.Placed.{withBlock, numbered-length, guilty-same}
 use Rattle.laws.specs.Hanging.{opened}
@@ -259,15 +259,10 @@ pub data Does (l : Lengths) (x : Sofar) (r : Rec) : Turn State → Type 0 where
   refuses : {n : ℕ} → (n ≡ 5 → ⊥) → Does l x r (no n)
   closes : {d : ℕ} (w : ℕ) → Closes x r w → d ≡ 5 * (x .sizes .variables - suc w) → Does l x r (back 5 d)
 
--- No demand of the list has number 5.
-abbrev pub fiveless : List (ℕ × Bool) → Bool
-fiveless [] = true
-fiveless (d ∷ ds) = not (eqb (d .0) 5) && fiveless ds
-
-by : (l : Lengths) (x : Sofar) (r : Rec) (ds : List (ℕ × Bool)) (t : Turn State) → fiveless ds ≡ true → (Met ds → Does l x r t) → Does l x r (demand ds t)
+by : (l : Lengths) (x : Sofar) (r : Rec) (ds : List (ℕ × Bool)) (t : Turn State) → others 5 ds ≡ true → (Met ds → Does l x r t) → Does l x r (demand ds t)
 by l x r [] t h f = f tt
 by l x r (d ∷ ds) t h f =
-    let k = and-is (not (eqb (d .0) 5)) (fiveless ds) .0 h in
+    let k = and-is (not (eqb (d .0) 5)) (others 5 ds) .0 h in
     elim (tell true (d .1)) [
       | inl e ↦ rw e (by l x r ds t (k .1) (λ m. f (e, m)))
       | inr e ↦ rw e (refuses (eqb-no (d .0) 5 .0 (not-out _ (k .0))))
@@ -321,22 +316,6 @@ does l x r s =
     equation (inl e) = let q = ltb-is 0 (x .blocks .due) .0 e in let d = s .due in absurd (omega arith)
     equation (inr e) = rw e (refuses {n = 2} (λ q. absurd (omega arith)))
 
--- The number and the place of a refusal.
-pub told-number : {B : Type 0} (n p m q : ℕ) → _≡_ {A = Outcome B} (refused n p) (refused m q) → (n ≡ m) × (p ≡ q)
-told-number {B} n p m q e = (ap number e, ap at e)
-  where
-    number : Outcome B → ℕ
-    number (refused n p) = n
-    number (accepted b) = 0
-
-    at : Outcome B → ℕ
-    at (refused n p) = p
-    at (accepted b) = 0
-
-pub un-told : {B : Type 0} (f : B → B) (o : Outcome B) (n p : ℕ) → onto f o ≡ refused n p → o ≡ refused n p
-un-told f (refused m q) n p e = e
-un-told f (accepted b) n p e = absurd (never (sym e))
-
 pub end-not-five : (l : Lengths) (st : State) (t : Parts) (q : ℕ) → atEnd (step l) put last st t ≡ refused 5 q → ⊥
 end-not-five l st (ends p) q e = never (sym e)
 end-not-five l st (broken p) q e = let k = told-number 2 p 5 q e .0 in omega arith
@@ -344,12 +323,3 @@ end-not-five l st (part p r t) q e = let k = told-number 2 p 5 q e .0 in omega a
 
 pub signing-started : (z : Sizes) → z .blocks ≡ 0 → Signing (started z)
 signing-started z b = record { signs = b; due = refl; count = refl; good = λ j h. absurd (not-suc-le-zero h) }
-
-pub fiveless-demand : (ds : List (ℕ × Bool)) (t : Turn State) → fiveless ds ≡ true → (demand ds t ≡ t) ⊎ ((n : ℕ) × (n ≡ 5 → ⊥) × (demand ds t ≡ no n))
-fiveless-demand [] t h = inl refl
-fiveless-demand (d ∷ ds) t h =
-    let k = and-is (not (eqb (d .0) 5)) (fiveless ds) .0 h in
-    elim (tell true (d .1)) [
-      | inr e ↦ inr (d .0, eqb-no (d .0) 5 .0 (not-out _ (k .0)), rw e refl)
-      | inl e ↦ rw e (fiveless-demand ds t (k .1))
-    ]

@@ -17,14 +17,13 @@ use Rattle.rules.specs.Rooms.{Lengths, roomsOk}
 use Rattle.rules.specs.Load.{Sofar, State, before, inside, started, movesDue, sizesOf, signOf, sizesDemands, liveDemands, labelDemands, blockDemands, equationDemands, signedDemands, moveDemands, endDemands, afterLive, afterLabel, afterBlock, afterEquation, afterSigned, afterMove, askChains, blockFits, step, put, last, settleStyle, readModel}
 use Rattle.rules.specs.Spelling.{sizesRec, liveRec, liveRecs, labelRecs, equationRecs, signedRecs, styleRecs, moveRecs, records, encode}
 use Rattle.rules.specs.declared.Sizes.{Sizes}
-use Rattle.laws.specs.RecordLaws.{Walks, done, more, AreBytes, Writable, AllWritable, Met, met, judged, size, part-written, never, Head, headed}
+use Rattle.laws.specs.RecordLaws.{Walks, done, more, AreBytes, Writable, AllWritable, Met, met, judged, size, part-written, never, Head, headed, told-number, un-told, others, demanded, by-records}
 use Rattle.laws.specs.SpellingLength.{sizeAll, all-length}
 use Rattle.laws.specs.Hanging.{movingOver, moving-is, opened}
 use Rattle.laws.specs.LiveApart.{still}
 use Rattle.laws.specs.Walks.{small, walks-labels}
 use Rattle.laws.specs.ReadAccepts.{records-w}
 use Rattle.laws.specs.ReadSpells.{rec-is, passed-spells, Stepped, label, block, equation, move, end, lives, sign, refusal, earlier, stepped}
-use Rattle.laws.specs.SignsRefused.{told-number, un-told}
 
 -- The bytes s begin with the spelling of a live model, whatever comes after it. It is inside the limits, but that some state has
 -- no move, and fits the rooms; and q is the place of its end record, the last byte of that spelling.
@@ -55,16 +54,11 @@ data Beside (x : Sofar) (r : Rec) : Turn State → Turn State → Type 0 where
   closes : eqb (x .moves .moving) (x .sizes .states) ≡ true → Beside x r over over
   flagged : {t : Turn State} → r .kind ≡ 10 → Beside x r (no 2) t
 
--- No demand of the list has number 16.
-abbrev others : List (ℕ × Bool) → Bool
-others [] = true
-others (d ∷ ds) = not (eqb (d .0) 16) && others ds
-
 module _ (x : Sofar) (r : Rec) where
-  by-demands : (ds : List (ℕ × Bool)) {t u : Turn State} → others ds ≡ true → Beside x r t u → Beside x r (demand ds t) (demand ds u)
+  by-demands : (ds : List (ℕ × Bool)) {t u : Turn State} → others 16 ds ≡ true → Beside x r t u → Beside x r (demand ds t) (demand ds u)
   by-demands [] h b = b
   by-demands (d ∷ ds) h b =
-      let k = and-is (not (eqb (d .0) 16)) (others ds) .0 h in
+      let k = and-is (not (eqb (d .0) 16)) (others 16 ds) .0 h in
       elim (tell true (d .1)) [
         | inl e ↦ rw e (by-demands ds (k .1) b)
         | inr e ↦ rw e (refuses (eqb-no (d .0) 16 .0 (not-out _ (k .0))))
@@ -174,30 +168,12 @@ module _ (l : Lengths) (q : ℕ) where
   turn x r p s t w ih u v k (closes f) e = absurd (end-not l (inside x) t q e)
   turn x r p s t w ih u v k (flagged a) e = absurd (let n = told-number 2 p 16 q e .0 in omega arith)
 
-  -- Reading these bytes in the state of a live model is refused with 16 only where they hold that.
-  abbrev Live : List ℕ → Type 0
-  Live s = (p : ℕ) (x : Sofar) → x .live ≡ 1 → run (step l) put last (inside x) (partsFrom 0 p s) ≡ refused 16 q → Passed l x p s q
-
-  by-head : (s : List ℕ) → AreBytes s → ((k : Head s) → Live (k .after)) → Live s
-  unfolding run
-  by-head s b ih p x h e =
-      elim (headed p s b) [
-        | inl k ↦
-            let r = k .rec in
-            let t = partsFrom 0 (p + size r) (k .after) in
-            let u : run (step l) put last (inside x) (part p r t) ≡ refused 16 q =
-            subst (λ (t : Parts). run (step l) put last (inside x) t ≡ refused 16 q) (ap (partsFrom 0 p) (k .spelled) ∙ part-written r p (k .after) (k .fits)) e in
-            subst (λ (t : List ℕ). Passed l x p t q) (sym (k .spelled))
-            (turn x r p (k .after) t (k .fits) (λ y a f. ih k (p + size r) y a f) (step l (inside x) r) (step l (inside (calm x)) r) refl (beside l x r h) u)
-        | inr k ↦ elim k [
-          | inl i ↦ absurd (let c = told-number 1 p 16 q (rw i at e) .0 in omega arith)
-          | inr i ↦ absurd (let c = told-number 1 p 16 q (rw i at e) .0 in omega arith)
-        ]
-      ]
-
-  live-bytes : (n : ℕ) (s : List ℕ) → length s ≤ n → AreBytes s → Live s
-  live-bytes zero s m b = by-head s b (λ k. let c = k .shorter in absurd (omega arith))
-  live-bytes (suc n) s m b = by-head s b (λ k. live-bytes n (k .after) (let c = k .shorter in omega arith) (k .bytes-after))
+  -- Reading bytes in the state of a live model is refused with 16 only where they hold that.
+  live-bytes : (s : List ℕ) → AreBytes s → (p : ℕ) (x : Sofar) → x .live ≡ 1 → run (step l) put last (inside x) (partsFrom 0 p s) ≡ refused 16 q → Passed l x p s q
+  live-bytes s b p x h e = by-records (step l) put last 16 q (λ i. omega arith) (λ st p s. (x : Sofar) → st ≡ inside x → x .live ≡ 1 → Passed l x p s q)
+      (λ st p r s w b ih e x i h. turn x r p s (partsFrom 0 (p + size r) s) w (λ y a f. ih (inside y) f y refl a)
+      (step l (inside x) r) (step l (inside (calm x)) r) refl (beside l x r h) (rw i at e))
+      s b (inside x) p e x refl h
 
   -- Where the model is not said to be live, no record is refused with 16.
   Unhanging : Turn State → Type 0
@@ -206,11 +182,11 @@ module _ (l : Lengths) (q : ℕ) where
   Unhanging (next st) = Unit {0}
   Unhanging over = Unit {0}
 
-  by-others : (ds : List (ℕ × Bool)) (t : Turn State) → others ds ≡ true → Unhanging t → Unhanging (demand ds t)
+  by-others : (ds : List (ℕ × Bool)) (t : Turn State) → others 16 ds ≡ true → Unhanging t → Unhanging (demand ds t)
   unfolding Unhanging
   by-others [] t h b = b
   by-others (d ∷ ds) t h b =
-      let k = and-is (not (eqb (d .0) 16)) (others ds) .0 h in
+      let k = and-is (not (eqb (d .0) 16)) (others 16 ds) .0 h in
       elim (tell true (d .1)) [
         | inl e ↦ rw e (by-others ds t (k .1) b)
         | inr e ↦ rw e (eqb-no (d .0) 16 .0 (not-out _ (k .0)))
@@ -297,30 +273,12 @@ module _ (l : Lengths) (q : ℕ) where
   first-turn x r p s t h g w live ih u f (refusal {n = n}) e = absurd (f (told-number n p 16 q e .0))
   first-turn x r p s t h g w live ih u f (earlier {n = n} {d = d}) e = absurd (f (told-number n (p - d) 16 q e .0))
 
-  abbrev Calm : List ℕ → Type 0
-  Calm s = (p : ℕ) (x : Sofar) → x .live ≡ 0 → Begun x → run (step l) put last (inside x) (partsFrom 0 p s) ≡ refused 16 q → Said l x p s q
-
-  calm-head : (s : List ℕ) → AreBytes s → ((k : Head s) → Calm (k .after)) → Calm s
-  unfolding run
-  calm-head s b ih p x h g e =
-      elim (headed p s b) [
-        | inl k ↦
-            let r = k .rec in
-            let t = partsFrom 0 (p + size r) (k .after) in
-            let u : run (step l) put last (inside x) (part p r t) ≡ refused 16 q =
-            subst (λ (t : Parts). run (step l) put last (inside x) t ≡ refused 16 q) (ap (partsFrom 0 p) (k .spelled) ∙ part-written r p (k .after) (k .fits)) e in
-            subst (λ (t : List ℕ). Said l x p t q) (sym (k .spelled))
-            (first-turn x r p (k .after) t h g (k .fits) (λ y a f. live-bytes l q (length (k .after)) (k .after) (omega arith) (k .bytes-after) (p + size r) y a f)
-            (λ y a i f. ih k (p + size r) y a i f) (step l (inside x) r) (quiet l q x r h) (stepped l x r) u)
-        | inr k ↦ elim k [
-          | inl i ↦ absurd (let c = told-number 1 p 16 q (rw i at e) .0 in omega arith)
-          | inr i ↦ absurd (let c = told-number 1 p 16 q (rw i at e) .0 in omega arith)
-        ]
-      ]
-
-  calm-bytes : (n : ℕ) (s : List ℕ) → length s ≤ n → AreBytes s → Calm s
-  calm-bytes zero s m b = calm-head s b (λ k. let c = k .shorter in absurd (omega arith))
-  calm-bytes (suc n) s m b = calm-head s b (λ k. calm-bytes n (k .after) (let c = k .shorter in omega arith) (k .bytes-after))
+  -- Reading bytes where the model is not said to be live is refused with 16 only where they say it first.
+  calm-bytes : (s : List ℕ) → AreBytes s → (p : ℕ) (x : Sofar) → x .live ≡ 0 → Begun x → run (step l) put last (inside x) (partsFrom 0 p s) ≡ refused 16 q → Said l x p s q
+  calm-bytes s b p x h g e = by-records (step l) put last 16 q (λ i. omega arith) (λ st p s. (x : Sofar) → st ≡ inside x → x .live ≡ 0 → Begun x → Said l x p s q)
+      (λ st p r s w b ih e x i h g. first-turn x r p s (partsFrom 0 (p + size r) s) h g w (λ y a f. live-bytes l q s b (p + size r) y a f)
+      (λ y a j f. ih (inside y) f y refl a j) (step l (inside x) r) (quiet l q x r h) (stepped l x r) (rw i at e))
+      s b (inside x) p e x refl h g
 
 -- The records of a model after its sizes and the record of a live model.
 abbrev body : Model → List Rec
@@ -376,7 +334,7 @@ told-hangs l s q k d c =
 
 -- Bytes that are refused with 16 at q are such bytes.
 sixteen-out : (l : Lengths) (s : List ℕ) (q : ℕ) → AreBytes s → readModel l s ≡ refused 16 q → HangsAt l s q
-unfolding readModel run step Unhanging
+unfolding readModel run step
 sixteen-out l s q b e =
     let u = un-told settleStyle (run (step l) put last before (parts s)) 16 q e in
     elim (headed 0 s b) [
@@ -386,13 +344,16 @@ sixteen-out l s q b e =
           let t = partsFrom 0 (0 + size r) (k .after) in
           let o : onTurn (step l) put last (λ st. run (step l) put last st t) before 0 r t (step l before r) ≡ refused 16 q =
           subst (λ (t : Parts). run (step l) put last before t ≡ refused 16 q) (ap (partsFrom 0 0) (k .spelled) ∙ part-written r 0 (k .after) (k .fits)) u in
-          elim (judged (sizesDemands l r) (next (inside (started z)))) [
-            | inr d ↦ absurd ((rw (d .1) at (by-others l q (sizesDemands l r) (next (inside (started z))) refl tt)) (told-number (d .0) 0 16 q (rw (d .1) at o) .0))
-            | inl d ↦
-                let g = small z (d .0 .1 .0) in
-                told-hangs l s q k (d .0) (calm-bytes l q (length (k .after)) (k .after) (omega arith) (k .bytes-after) (0 + size r) (started z) refl
-                (record { states = omega arith; variables = omega arith; none = λ v. (refl, refl) })
-                (un-told (put before r) (run (step l) put last (inside (started z)) t) 16 q (rw (d .1) at o)))
+          elim (demanded 16 (sizesDemands l r) (next (inside (started z))) refl) [
+            | inr d ↦ absurd (d .1 (told-number (d .0) 0 16 q (rw (d .2) at o) .0))
+            | inl d ↦ elim (judged (sizesDemands l r) (next (inside (started z)))) [
+              | inr m ↦ let c : _≡_ {A = ℕ} 0 1 = cc in absurd (omega arith)
+              | inl m ↦
+                  let g = small z (m .0 .1 .0) in
+                  told-hangs l s q k (m .0) (calm-bytes l q (k .after) (k .bytes-after) (0 + size r) (started z) refl
+                  (record { states = omega arith; variables = omega arith; none = λ v. (refl, refl) })
+                  (un-told (put before r) (run (step l) put last (inside (started z)) t) 16 q (rw d at o)))
+            ]
           ]
       | inr k ↦ elim k [
         | inl i ↦ absurd (let c = told-number 1 0 16 q (rw i at u) .0 in omega arith)
