@@ -28,6 +28,7 @@ pub mod BatchTurns
 pub mod Refusals
 pub mod OneOutcome
 pub mod ModelLeaners
+pub mod LookTest
 pub mod MachineRules
 pub mod Rewritten
 pub mod SignsRefused
@@ -36,3 +37,4 @@ pub mod ComponentCount
 pub mod FewBlocks
 pub mod LiveApart
 pub mod SixteenPlace
+pub mod ModelRows

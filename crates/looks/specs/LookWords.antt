@@ -25,7 +25,8 @@ use Rattle.rules.specs.declared.State.{State}
 use Rattle.rules.specs.declared.Action.{Action}
 use Rattle.laws.specs.ModelSystem.{frame, leanings-at, pairs-full, pair-below, model-fits}
 use Rattle.pairs.specs.Drawn.{tableOf, Drawn}
-use Rattle.pairs.specs.Looks.{changesOf, lookTest}
+use Rattle.pairs.specs.Looks.{changesOf}
+use Rattle.laws.specs.LookTest.{lookTest}
 use Rattle.pairs.specs.Words.{ReadsAs, wordOf, kindIn, blockIn, pastIn}
 use Rattle.table.specs.OwnMoves.{partOf}
 use Rattle.pairs.specs.Part.{ownMoves}

@@ -1,14 +1,14 @@
 -- The course of an update: where the machine is after some units, and what it has counted by then. Definitions only.
 use mathlib.Core.Path.{_≡_}
 use mathlib.Core.Bool.{Bool, true, false, _||_}
-use mathlib.Core.List.{List, [], _++_}
-use Prim.Native.Nat.{ℕ, suc, _+_}
+use mathlib.Core.List.{List, [], _∷_, _++_}
+use Prim.Native.Nat.{ℕ, suc, _+_, _≤_}
 use lib.ListN.{length}
-use Rattle.lists.specs.Sets.{weight}
+use Rattle.lists.specs.Sets.{none, weight}
 use Rattle.systems.specs.System.{moveTo}
 use Rattle.systems.specs.Marks.{shiftOf, settleOf}
 use Rattle.systems.specs.UpTo.{upTo}
-use Rattle.systems.specs.Machine.{State, looksAt, todoFrom, after}
+use Rattle.systems.specs.Machine.{turns, State, looksAt, todoFrom, after, sights}
 use Rattle.systems.specs.Phases.{Update, marksTo, Doing}
 
 module _ (u : Update) where
@@ -40,7 +40,7 @@ module _ (u : Update) (on : ℕ → List ℕ) where
   pub record Counted (n : ℕ) (s : State) (shifts settles : ℕ → Bool) : Type 0 where
     pub shift-visits : s .shiftVisits ≡ weight (F .pairs) (λ q. length (on q)) shifts
     pub settle-visits : s .settleVisits ≡ weight (F .pairs) (λ q. length (on q)) settles
-    pub spent : n + length (s .todo) ≡ length (todoFrom F 0 (F .blocks)) + weight (F .pairs) (λ p. 1) shifts + weight (F .pairs) (λ p. 1) settles
+    pub spent : n + sights (s .todo) ≡ sights (todoFrom F 0 (F .blocks)) + weight (F .pairs) (λ p. 1) shifts + weight (F .pairs) (λ p. 1) settles
 
   -- Between two blocks: those before i have been moved, and k are left.
   pub record Rest (n i k : ℕ) (s : State) : Type 0 where
@@ -48,6 +48,7 @@ module _ (u : Update) (on : ℕ → List ℕ) where
     pub vals : (p : ℕ) → s .val p ≡ moveTo F L M old i p
     pub marks : (p : ℕ) → s .held .marks p ≡ marksTo u i p
     pub empty : s .held .queue ≡ []
+    pub gone : s .gone ≡ 0
     pub todo : s .todo ≡ todoFrom F i k
     pub counted : Counted n s (shiftTo u i) (settleTo u i)
 
@@ -55,10 +56,13 @@ module _ (u : Update) (on : ℕ → List ℕ) where
   pub record Going (n : ℕ) (ph : Bool) (i k : ℕ) (x t : ℕ → Bool) (rest : List ℕ) (s : State) : Type 0 where
     pub place : suc (i + k) ≡ F .blocks
     pub doing : Doing u ph i x t rest (s .val) (s .held)
-    pub todo : s .todo ≡ looksAt ph rest ++ after F ph i k
+    pub gone : s .gone ≤ weight (F .pairs) (λ p. 1) t
+    pub todo : s .todo ≡ looksAt ph rest ++ (turns ph i ∷ after F ph i k)
     pub counted : Counted n s (haveShifted u ph i t) (haveSettled u ph i t)
 
-  -- Where the machine is after n units: in the midst of a phase, or done.
+  -- Where the machine is after n units: before a look, and nothing has turned in the phase; before a turn, and all of the
+  -- phase has been looked at; or done.
   pub data At (n : ℕ) (s : State) : Type 0 where
-    going : (ph : Bool) (i k : ℕ) (x t : ℕ → Bool) (rest : List ℕ) → Going n ph i k x t rest s → At n s
+    to-look : (ph : Bool) (i k : ℕ) (x : ℕ → Bool) (p : ℕ) (rest : List ℕ) → Going n ph i k x none (p ∷ rest) s → At n s
+    to-turn : (ph : Bool) (i k : ℕ) (x t : ℕ → Bool) (q : ℕ) (queue : List ℕ) → Going n ph i k x t [] s → s .held .queue ≡ q ∷ queue → At n s
     done : Rest n (F .blocks) 0 s → At n s

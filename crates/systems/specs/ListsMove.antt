@@ -1,214 +1,34 @@
--- A run on lists is a run of the machine: the lists stay well formed, each unit on them is a unit of the machine, and
--- after the last one the values, the marks and the visits are the rule's.
+-- A run on lists is a run of the machine: it takes exactly the units that the machine does, stops where its block is past the
+-- last, and then has the values, the marks and the visits of the rule. A run may be cut anywhere.
 -- Assumes nothing.
 use mathlib.Core.Path.{_≡_, refl, sym, ap, _∙_, subst, fun-ext}
 use mathlib.Core.Logic.{inl, inr}
-use mathlib.Core.Bool.{Bool, true, false, not, _&&_, cond, true≢false, false≢true}
-use mathlib.Core.List.{List, [], _∷_, List·Memᴰ·head}
-use Prim.Native.Nat.{ℕ, zero, suc, _-_, _≤_, _<_}
+use mathlib.Core.Bool.{Bool, true, false, true≢false, false≢true}
+use mathlib.Core.List.{List, []}
+use Prim.Native.Nat.{ℕ, zero, suc, _+_, _-_, _≤_, _<_, min}
 use native.Mathlib.Omega.{arith}
 use lib.Dec.{eqb, ltb}
-use lib.ListN.{length, getD, set, length-set, length-replicate}
+use lib.ListN.{length, getD, length-replicate}
 use Rattle.lists.specs.Lists.{bit}
-use Rattle.lists.specs.Tests.{_∈_, tell, ltb-out, ltb-no}
-use Rattle.lists.specs.Entries.{set-le, zeros-at}
+use Rattle.lists.specs.Tests.{tell, ltb-out, ltb-no, cond-no}
+use Rattle.lists.specs.Entries.{zeros-at}
 use Rattle.systems.specs.System.{Frame, Leans, Values, Fits, Full, move}
 use Rattle.systems.specs.Marks.{shiftOf, settleOf, mark, visits}
-use Rattle.systems.specs.Machine.{free, nextMark, asks, looks, Look, State, Finds, next, unit, run, todoFrom, start}
-use Rattle.systems.specs.Leaners.{found-out}
+use Rattle.systems.specs.Machine.{past, Step, State, Finds, skip, tidy, todoFrom, start}
 use Rattle.systems.specs.Phases.{Update}
-use Rattle.systems.specs.Course.{At}
-use Rattle.systems.specs.RunKeeps.{queue-block, queue-room, unit-at, rest-unit}
-use Rattle.systems.specs.MachineMoves.{unitCount, Moves, begin, machine-moves}
-use Rattle.systems.specs.ListMachine.{valOf, turned, stackOf, Pile, pileOf, waitL, pushL, spreadL, Job, todoAt, jobOf, turnL, lookL, seek, phases, seekL, unitBy, unitL, runL, startL}
-use Rattle.systems.specs.Seeks.{seek-start, Sought, sought}
-use Rattle.systems.specs.ListUnits.{push-long, spread-long, turn-job, look-job}
+use Rattle.systems.specs.RunKeeps.{unit-at, at-done}
+use Rattle.systems.specs.MachineMoves.{unitCount, begin, at-before, at-end, at-most, rest-moves}
+use Rattle.systems.specs.ListMachine.{valOf, marksIn, pileOf, Job, todoAt, jobOf, Test, Agrees, seekL, stepL, unitL, runL, firstL, startL}
+use Rattle.systems.specs.Seeks.{seek-start, seek-here, seek-turns}
+use Rattle.systems.specs.ListCourse.{Sits, Stands, Underway, stand-way, none-left}
+use Rattle.systems.specs.SeekStands.{seek-empty}
+use Rattle.systems.specs.ListKeeps.{way-old, unit-stands}
 
--- The lists of an update are well formed: their lengths are right, values are at most 1 and marks at most 3, and the
--- place of the next look is in range.
-pub record Formed (F : Frame) (c : Job) : Type 0 where
-  pub range : c .block ≤ F .blocks
-  pub ended : c .block ≡ F .blocks → c .settling ≡ false
-  pub low : c .place ≤ F .pairs
-  pub vals : length (c .vals) ≡ F .pairs
-  pub bits : (p : ℕ) → getD (c .vals) p 0 ≤ 1
-  pub marks : length (c .pile .marks) ≡ F .pairs
-  pub small : (p : ℕ) → getD (c .pile .marks) p 0 ≤ 3
-  pub stack : F .pairs ≤ length (c .pile .stack)
-
--- The lists c are well formed, and stand for the state s of the machine.
-pub record Stands (F : Frame) (c : Job) (s : State) : Type 0 where
-  pub state : jobOf F c ≡ s
-  pub formed : Formed F c
-
--- What a unit needs of a state, so that all its places are in the lists: those that wait after it fit the stack, and
--- those that wait before it are pairs of some block.
-pub record Fine (F : Frame) (L M : Leans) (on : ℕ → List ℕ) (s : State) : Type 0 where
-  pub room : length (unit F L M on s .held .queue) ≤ F .pairs
-  pub inside : (q : ℕ) → q ∈ s .held .queue → F .block q < F .blocks
-
--- Marks stay at most 3.
-next-small : (ph : Bool) (m : ℕ) → nextMark ph m ≤ 3
-next-small false m = omega arith
-next-small true m = go (eqb m 0)
-  where
-    go : (b : Bool) → cond b 3 2 ≤ 3
-    go true = omega arith
-    go false = omega arith
-
-module _ (ph : Bool) (ask : ℕ → Bool) where
-  push-small : (r : ℕ) (h : Pile) → ((p : ℕ) → getD (h .marks) p 0 ≤ 3) → (p : ℕ) → getD (pushL (free ph) (nextMark ph) ask r h .marks) p 0 ≤ 3
-  push-small r h f =
-      elim (tell true (free ph (getD (h .marks) r 0) && ask r)) [
-        | inl e ↦ subst (λ (b : Bool). (p : ℕ) → getD (cond b (waitL (nextMark ph) r h) h .marks) p 0 ≤ 3) (sym e)
-            (set-le 3 (h .marks) r (nextMark ph (getD (h .marks) r 0)) (next-small ph (getD (h .marks) r 0)) f)
-        | inr e ↦ subst (λ (b : Bool). (p : ℕ) → getD (cond b (waitL (nextMark ph) r h) h .marks) p 0 ≤ 3) (sym e) f
-      ]
-
-  spread-small : (l : List ℕ) (h : Pile) → ((p : ℕ) → getD (h .marks) p 0 ≤ 3) → (p : ℕ) → getD (spreadL (free ph) (nextMark ph) ask l h .marks) p 0 ≤ 3
-  spread-small [] h f = f
-  spread-small (r ∷ l) h f = spread-small l (pushL (free ph) (nextMark ph) ask r h) (push-small r h f)
-
--- Values stay at most 1.
-turned-small : (x : ℕ) → turned x ≤ 1
-turned-small x = go (eqb x 1)
-  where
-    go : (b : Bool) → cond b 0 1 ≤ 1
-    go true = omega arith
-    go false = omega arith
-
--- Seeking.
-module _ {F : Frame} {c : Job} (f : Formed F c) where
-  pub seek-sought : Sought F (c .block) (F .blocks - c .block) (c .settling) (c .place)
-      (seek F (phases (F .blocks - c .block) (c .settling)) (c .block) (c .settling) (c .place))
-  seek-sought =
-      let a = f .range in
-      sought F (phases (F .blocks - c .block) (c .settling)) (c .block) (F .blocks - c .block) (c .settling) (c .place) (omega arith)
-      (λ z. f .ended (omega arith)) (f .low) refl
-
-  -- Seeking is no unit.
-  seek-stands : Stands F (seekL F c) (jobOf F c)
-  unfolding jobOf seekL
-  seek-stands =
-      let s = seek-sought in
-      record {
-        state = ap {B = State} (λ (l : List Look). record { todo = l; val = valOf (c .vals); held = pileOf (c .pile); shiftVisits = c .shiftVisits; settleVisits = c .settleVisits })
-            (sym (s .same));
-        formed = record { range = s .range; ended = s .ended; low = s .low; vals = f .vals; bits = f .bits; marks = f .marks; small = f .small; stack = f .stack };
-      }
-
-module _ (F : Frame) (L M : Leans) (on : ℕ → List ℕ) where
-  look-formed : (d : Job) → Formed F d → d .place < F .pairs → Formed F (lookL F L M d)
-  unfolding lookL
-  look-formed d g p =
-      let ph = d .settling in
-      let ask = looks F L M ph (valOf (d .vals)) (λ p. getD (d .pile .marks) p 0) in
-      let long = push-long (free ph) (nextMark ph) ask (d .place) (d .pile) in
-      record {
-        range = g .range;
-        ended = g .ended;
-        low = p;
-        vals = g .vals;
-        bits = g .bits;
-        marks = long .0 ∙ g .marks;
-        small = push-small ph ask (d .place) (d .pile) (g .small);
-        stack = let y = long .1 in let z = g .stack in omega arith;
-      }
-
-  -- After the last block a unit does nothing.
-  end-unit : (d : Job) → d .pile .top ≡ 0 → F .blocks ≤ d .block → unit F L M on (jobOf F d) ≡ jobOf F d
-  unfolding jobOf todoAt
-  end-unit d e l =
-      ap (λ (y : ℕ). next F L M on (stackOf (d .pile .stack) y) (jobOf F d .todo) (jobOf F d)) e
-      ∙ ap (λ (y : ℕ). next F L M on [] (todoAt F (d .block) y (d .settling) (d .place)) (jobOf F d)) (let z : F .blocks - d .block ≡ 0 = omega arith in z)
-
-module _ {F : Frame} {L M : Leans} {on : ℕ → List ℕ} (fits : Fits F M) (finds : Finds F M on) where
-  turn-stands : {c : Job} (top : ℕ) → Formed F c → Fine F L M on (jobOf F c) → c .pile .top ≡ suc top → Stands F (turnL F M on top c) (unit F L M on (jobOf F c))
-  unfolding turnL jobOf
-  turn-stands {c} top f a e =
-      let q = getD (c .pile .stack) top 0 in
-      let m : q ∈ stackOf (c .pile .stack) (c .pile .top) = subst (λ (y : ℕ). q ∈ stackOf (c .pile .stack) y) (sym e) (List·Memᴰ·head refl) in
-      let b = a .inside q m in
-      let l = fits .inside q b in
-      let room = a .room in
-      let vs = set (c .vals) q (turned (getD (c .vals) q 0)) in
-      let ph = not (eqb (getD (c .pile .marks) q 0) 1) in
-      let h : Pile = record { marks = c .pile .marks; stack = c .pile .stack; top = top } in
-      let long = spread-long (free ph) (nextMark ph) (asks F M ph (valOf vs)) (on q) h in
-      record {
-        state = turn-job F L M on c top e (omega (arith, f .vals))
-            (λ r k. let o = found-out finds q r b k in let z = fits .inside r (omega (arith, o .0)) in omega (arith, f .marks))
-            (omega (arith, f .stack));
-        formed = record {
-          range = f .range;
-          ended = f .ended;
-          low = f .low;
-          vals = length-set (c .vals) q (turned (getD (c .vals) q 0)) ∙ f .vals;
-          bits = set-le 1 (c .vals) q (turned (getD (c .vals) q 0)) (turned-small (getD (c .vals) q 0)) (f .bits);
-          marks = long .0 ∙ f .marks;
-          small = spread-small ph (asks F M ph (valOf vs)) (on q) h (f .small);
-          stack = let y = long .1 in let z = f .stack in omega arith;
-        };
-      }
-
-  look-stands : {c : Job} → Formed F c → Fine F L M on (jobOf F c) → c .pile .top ≡ 0 → Stands F (unitBy F L M on zero c) (unit F L M on (jobOf F c))
-  unfolding seekL
-  look-stands {c} f a e = go (ltb (d .block) (F .blocks)) refl
-    where
-      d : Job
-      d = seekL F c
-
-      g : Formed F d
-      g = seek-stands f .formed
-
-      same : unit F L M on (jobOf F d) ≡ unit F L M on (jobOf F c)
-      same = ap (unit F L M on) (seek-stands f .state)
-
-      room : length (unit F L M on (jobOf F d) .held .queue) ≤ length (d .pile .stack)
-      room = let x = ap (λ (s : State). length (s .held .queue)) same in let y = a .room in let z = g .stack in omega arith
-
-      go : (b : Bool) → ltb (d .block) (F .blocks) ≡ b → Stands F (cond (ltb (d .block) (F .blocks)) (lookL F L M d) d) (unit F L M on (jobOf F c))
-      go true h =
-          let l = ltb-out (d .block) (F .blocks) h in
-          let w = seek-sought f .here l in
-          let p : d .place < length (d .pile .marks) = let z = g .marks in let y = w .0 in omega arith in
-          subst (λ (b : Bool). Stands F (cond b (lookL F L M d) d) (unit F L M on (jobOf F c))) (sym h) (record {
-            state = look-job F L M on d (F .blocks - suc (d .block)) (let z : F .blocks - d .block ≡ suc (F .blocks - suc (d .block)) = omega arith in z) e (w .0) (w .1) p room ∙ same;
-            formed = look-formed F L M on d g (w .0);
-          })
-      go false h =
-          let l = ltb-no (d .block) (F .blocks) .0 h in
-          subst (λ (b : Bool). Stands F (cond b (lookL F L M d) d) (unit F L M on (jobOf F c))) (sym h) (record { state = sym (end-unit F L M on d e l) ∙ same; formed = g })
-
-  -- A unit on well formed lists is a unit of the machine.
-  pub unit-stands : {c : Job} → Formed F c → Fine F L M on (jobOf F c) → Stands F (unitL F L M on c) (unit F L M on (jobOf F c))
-  unit-stands {c} f a = go (c .pile .top) refl
-    where
-      go : (t : ℕ) → c .pile .top ≡ t → Stands F (unitBy F L M on (c .pile .top) c) (unit F L M on (jobOf F c))
-      go zero e = subst (λ (y : ℕ). Stands F (unitBy F L M on y c) (unit F L M on (jobOf F c))) (sym e) (look-stands f a e)
-      go (suc top) e = subst (λ (y : ℕ). Stands F (unitBy F L M on y c) (unit F L M on (jobOf F c))) (sym e) (turn-stands top f a e)
-
-module _ {u : Update} {on : ℕ → List ℕ} (finds : Finds (u .F) (u .M) on) where
-  open Update u using (F, L, M, fits′)
-
-  next-at : {n : ℕ} {s : State} → At u on n s → (k : ℕ) × At u on k (unit F L M on s)
-  next-at {n} a =
-      elim (unit-at finds a) [
-        | inl b ↦ (suc n, b)
-        | inr r ↦ (n, subst (At u on n) (sym (rest-unit finds r)) a)
-      ]
-
-  at-fine : {n : ℕ} {s : State} → At u on n s → Fine F L M on s
-  at-fine a = record { room = queue-room (next-at a .1); inside = queue-block a }
-
-  -- A run on well formed lists is a run of the machine.
-  pub run-stands : (m : ℕ) {n : ℕ} {c : Job} {s : State} → Stands F c s → At u on n s → Stands F (runL F L M on m c) (run F L M on m s)
-  run-stands zero r a = r
-  run-stands (suc m) {n} {c} {s} r a =
-      let a′ = subst (At u on n) (sym (r .state)) a in
-      let e = ap (unit F L M on) (r .state) in
-      let t = unit-stands fits′ finds (r .formed) (at-fine a′) in
-      run-stands m (record { state = t .state ∙ e; formed = t .formed }) (next-at a .1)
+-- A run may be cut: k units and then j are k + j units.
+pub run-add : (F : Frame) (M : Leans) (test : Test) (on : ℕ → List ℕ) (k j : ℕ) (c : Job) → runL F M test on (k + j) c ≡ runL F M test on j (runL F M test on k c)
+run-add F M test on zero j c = ap (λ (n : ℕ). runL F M test on n c) (let e : 0 + j ≡ j = omega arith in e)
+run-add F M test on (suc k) j c =
+    ap (λ (n : ℕ). runL F M test on n c) (let e : suc k + j ≡ suc (k + j) = omega arith in e) ∙ run-add F M test on k j (unitL F M test on c)
 
 -- What is promised of the lists: they have all that the rule says.
 pub record MovesL (F : Frame) (L M : Leans) (old : Values) (c : Job) : Type 0 where
@@ -226,18 +46,20 @@ of-bit (suc zero) true h e = refl
 of-bit (suc zero) false h e = absurd (true≢false e)
 of-bit (suc (suc x)) b h e = absurd (omega arith)
 
-module _ (F : Frame) (L M : Leans) (on : ℕ → List ℕ) (fits : Fits F L) (fits′ : Fits F M) (finds : Finds F M on) (full : Full F)
-    (vs stack : List ℕ) (long : length vs ≡ F .pairs) (bits : (p : ℕ) → getD vs p 0 ≤ 1) (room : F .pairs ≤ length stack) where
-  -- The lists at the start stand for the start of the machine.
-  start-stands : Stands F (startL F vs stack) (start F (valOf vs))
-  unfolding jobOf start
-  start-stands = record {
-    state =
-        ap {B = State} (λ (l : List Look). record { todo = l; val = valOf vs; held = pileOf (startL F vs stack .pile); shiftVisits = 0; settleVisits = 0 })
-        (ap (λ (k : ℕ). todoAt F 0 k false 0) (let z : F .blocks - 0 ≡ F .blocks = omega arith in z) ∙ sym (seek-start F (F .blocks)))
-        ∙ ap {B = State} (λ (f : ℕ → ℕ). record { todo = todoFrom F 0 (F .blocks); val = valOf vs; held = record { marks = f; queue = [] }; shiftVisits = 0; settleVisits = 0 })
-        (fun-ext (zeros-at (F .pairs)));
-    formed = record {
+-- The lists at the start, as long as there are pairs, are at the start of the course.
+pub way-start : (u : Update) (on : ℕ → List ℕ) (vs queue : List ℕ) → length vs ≡ u .F .pairs → ((p : ℕ) → getD vs p 0 ≤ 1) → u .F .pairs ≤ length queue
+    → ((p : ℕ) → valOf vs p ≡ u .old p) → Underway u on 0 (startL (u .F) vs queue)
+unfolding jobOf start
+way-start u on vs queue long bits room is = stand-way (record { state = s .state ∙ same; formed = s .formed; sits = s .sits }) (begin u on)
+  where
+    F : Frame
+    F = u .F
+
+    d : Job
+    d = firstL F vs queue
+
+    s : Stands F (startL F vs queue) (tidy (jobOf F d))
+    s = seek-empty {d = d} (record {
       range = omega arith;
       ended = λ e. refl;
       low = omega arith;
@@ -245,31 +67,153 @@ module _ (F : Frame) (L M : Leans) (on : ℕ → List ℕ) (fits : Fits F L) (fi
       bits = bits;
       marks = length-replicate (F .pairs) 0;
       small = λ p. let z = zeros-at (F .pairs) p in omega arith;
-      stack = room;
-    };
-  }
+      queue = room;
+      order = omega arith;
+    }) (omega arith)
 
-  -- The update.
-  u : Update
-  u = record { F = F; L = L; M = M; old = valOf vs; fits = fits; fits′ = fits′ }
+    same : tidy (jobOf F d) ≡ start F (u .old)
+    same =
+        ap {B = State} (λ (l : List Step). record {
+          todo = skip l;
+          val = valOf vs;
+          held = pileOf (d .pile);
+          gone = 0;
+          shiftVisits = 0;
+          settleVisits = 0;
+        }) (ap (λ (k : ℕ). todoAt F 0 k false 0) (let z : F .blocks - 0 ≡ F .blocks = omega arith in z) ∙ sym (seek-start F 0 (F .blocks)))
+        ∙ ap {B = State} (λ (f : ℕ → ℕ). record {
+          todo = skip (todoFrom F 0 (F .blocks));
+          val = valOf vs;
+          held = record { marks = f; queue = [] };
+          gone = 0;
+          shiftVisits = 0;
+          settleVisits = 0;
+        }) (fun-ext (zeros-at (F .pairs)))
+        ∙ ap {B = State} (λ (v : Values). record {
+          todo = skip (todoFrom F 0 (F .blocks));
+          val = v;
+          held = record { marks = λ p. 0; queue = [] };
+          gone = 0;
+          shiftVisits = 0;
+          settleVisits = 0;
+        }) (fun-ext is)
 
-  -- A run on lists, from the start, is a run of the machine.
-  pub lists-run : (n : ℕ) → Stands F (runL F L M on n (startL F vs stack)) (run F L M on n (start F (valOf vs)))
-  unfolding u
-  lists-run n = run-stands {u = u} finds n start-stands (begin u on)
+-- While the block is not past the last, something is left to do.
+pub some-left : {F : Frame} {c : Job} → Sits F c → c .block < F .blocks → jobOf F c .todo ≡ [] → ⊥
+unfolding jobOf
+some-left {F} {c} z b e =
+    let k : F .blocks - c .block ≡ suc (F .blocks - suc (c .block)) = omega arith in
+    let t = ap (λ (n : ℕ). todoAt F (c .block) n (c .settling) (c .place)) k in
+    elim (tell true (ltb (c .place) (F .pairs))) [
+      | inl h ↦
+          let l = ltb-out (c .place) (F .pairs) h in
+          let a = ap length (sym (t ∙ seek-here F (c .block) (F .blocks - suc (c .block)) (c .settling) (c .place) l (z .here b l)) ∙ e) in
+          omega arith
+      | inr h ↦
+          let a = ap length (sym (t ∙ seek-turns F (c .block) (F .blocks - suc (c .block)) (c .settling) (c .place) (ltb-no (c .place) (F .pairs) .0 h)) ∙ e) in
+          omega arith
+    ]
 
-  -- From the last unit on the lists have all that the rule says.
-  pub lists-move : (n : ℕ) → unitCount F L M (valOf vs) ≤ n → MovesL F L M (valOf vs) (runL F L M on n (startL F vs stack))
+-- Past the last block a unit does nothing.
+pub unit-idle : (F : Frame) (M : Leans) (test : Test) (on : ℕ → List ℕ) (c : Job) → F .blocks ≤ c .block → unitL F M test on c ≡ c
+unit-idle F M test on c b = cond-no (seekL F (stepL F M test on c)) c (ltb-no (c .block) (F .blocks) .1 b)
+
+module _ {u : Update} {on : ℕ → List ℕ} (finds : Finds (u .F) (u .M) on) where
+  open Update u using (F, L, M, old)
+
+  -- While the block is not past the last, the last unit is still to come.
+  pub way-before : {n : ℕ} {c : Job} → Underway u on n c → c .block < F .blocks → n < unitCount F L M old
+  way-before w b = at-before finds (w .at) (some-left (w .sits) b)
+
+  -- No more units than that are spent.
+  pub way-most : {n : ℕ} {c : Job} → Underway u on n c → n ≤ unitCount F L M old
+  way-most w = let h = at-most u on (w .at) in omega arith
+
+  -- Where the block is past the last, the last unit has been.
+  pub way-end : {n : ℕ} {c : Job} → Underway u on n c → F .blocks ≤ c .block → n ≡ unitCount F L M old
+  way-end {c = c} w b = at-end finds (w .at) (none-left F c b)
+
+  -- After the last unit the block is past the last.
+  pub way-last : {c : Job} → Underway u on (unitCount F L M old) c → F .blocks ≤ c .block
+  way-last {c} w =
+      elim (tell true (ltb (c .block) (F .blocks))) [
+        | inl e ↦ let h = way-before w (ltb-out (c .block) (F .blocks) e) in absurd (omega arith)
+        | inr e ↦ ltb-no (c .block) (F .blocks) .0 e
+      ]
+
+  -- Where the block is past the last, the lists have all that the rule says.
+  pub way-moves : Full F → {n : ℕ} {c : Job} → Underway u on n c → F .blocks ≤ c .block → MovesL F L M old c
   unfolding jobOf
-  lists-move n l =
-      let c = runL F L M on n (startL F vs stack) in
-      let r = lists-run n in
-      let m : Moves F L M (valOf vs) (jobOf F c) = subst (Moves F L M (valOf vs)) (sym (r .state)) (machine-moves F L M (valOf vs) on fits fits′ finds full n l) in
+  way-moves full {c = c} w b =
+      let m = rest-moves finds full (at-done (w .at) (none-left F c b)) in
       record {
-        long = r .formed .vals;
-        long-marks = r .formed .marks;
-        values = λ p h. of-bit (getD (c .vals) p 0) (move F L M (valOf vs) p) (r .formed .bits p) (m .values p);
+        long = w .formed .vals;
+        long-marks = w .formed .marks;
+        values = λ p h. of-bit (getD (c .vals) p 0) (move F L M old p) (w .formed .bits p) (m .values p);
         marks = λ p h. m .marks p (full p h);
         shift-visits = m .shift-visits;
         settle-visits = m .settle-visits;
       }
+
+  module _ (test : Test) (agrees : Agrees F L M old test) where
+    -- A unit goes on with the course.
+    pub way-unit : {n : ℕ} {c : Job} → Underway u on n c → c .block < F .blocks → Underway u on (suc n) (unitL F M test on c)
+    way-unit {n} {c} w b =
+        elim (unit-at finds (w .at)) [
+          | inl a ↦ stand-way (unit-stands finds test agrees w) a
+          | inr r ↦ absurd (some-left (w .sits) b (r .todo))
+        ]
+
+    -- m units go on with the course, until the last.
+    pub way-run : (m : ℕ) {n : ℕ} {c : Job} → Underway u on n c → Underway u on (min (n + m) (unitCount F L M old)) (runL F M test on m c)
+    way-run zero {n} {c} w = subst (λ (k : ℕ). Underway u on k c) (let h = way-most w in omega arith) w
+    way-run (suc m) {n} {c} w =
+        elim (tell true (ltb (c .block) (F .blocks))) [
+          | inl e ↦ subst (λ (k : ℕ). Underway u on k (runL F M test on m (unitL F M test on c))) (omega arith)
+              (way-run m (way-unit w (ltb-out (c .block) (F .blocks) e)))
+          | inr e ↦
+              let b = ltb-no (c .block) (F .blocks) .0 e in
+              subst (λ (k : ℕ). Underway u on k (runL F M test on m (unitL F M test on c))) (let h = way-end w b in omega arith)
+              (way-run m (subst (Underway u on n) (sym (unit-idle F M test on c b)) w))
+        ]
+
+module _ (F : Frame) (L M : Leans) (on : ℕ → List ℕ) (fits : Fits F L) (fits′ : Fits F M) (finds : Finds F M on) (full : Full F)
+    (vs queue : List ℕ) (long : length vs ≡ F .pairs) (bits : (p : ℕ) → getD vs p 0 ≤ 1) (room : F .pairs ≤ length queue)
+    (test : Test) (agrees : Agrees F L M (valOf vs) test) where
+  -- The update from the values in the list.
+  unfoldable pub updateOf : Update
+  updateOf = record { F = F; L = L; M = M; old = valOf vs; fits = fits; fits′ = fits′ }
+
+  -- A run on lists, from the start, is on the course.
+  pub lists-run : (n : ℕ) → Underway updateOf on (min n (unitCount F L M (valOf vs))) (runL F M test on n (startL F vs queue))
+  unfolding updateOf
+  lists-run n =
+      subst (λ (k : ℕ). Underway updateOf on k (runL F M test on n (startL F vs queue))) (omega arith)
+      (way-run {u = updateOf} finds test agrees n (way-start updateOf on vs queue long bits room (λ p. refl)))
+
+  -- Before the last unit the block is not past the last.
+  pub lists-before : (n : ℕ) → n < unitCount F L M (valOf vs) → runL F M test on n (startL F vs queue) .block < F .blocks
+  unfolding updateOf
+  lists-before n l =
+      elim (tell true (ltb (runL F M test on n (startL F vs queue) .block) (F .blocks))) [
+        | inl e ↦ ltb-out (runL F M test on n (startL F vs queue) .block) (F .blocks) e
+        | inr e ↦
+            let h = way-end {u = updateOf} finds (lists-run n) (ltb-no (runL F M test on n (startL F vs queue) .block) (F .blocks) .0 e) in
+            absurd (omega arith)
+      ]
+
+  -- From the last unit on it is.
+  pub lists-done : (n : ℕ) → unitCount F L M (valOf vs) ≤ n → F .blocks ≤ runL F M test on n (startL F vs queue) .block
+  unfolding updateOf
+  lists-done n l =
+      way-last {u = updateOf} finds (subst (λ (k : ℕ). Underway updateOf on k (runL F M test on n (startL F vs queue))) (omega arith) (lists-run n))
+
+  -- From the last unit on the lists have all that the rule says.
+  pub lists-move : (n : ℕ) → unitCount F L M (valOf vs) ≤ n → MovesL F L M (valOf vs) (runL F M test on n (startL F vs queue))
+  unfolding updateOf
+  lists-move n l = way-moves {u = updateOf} finds full (lists-run n) (lists-done n l)
+
+  -- After any number of units the old values can be told from the values and the marks.
+  pub lists-old : (n p : ℕ) → let c = runL F M test on n (startL F vs queue) in past F (valOf (c .vals)) (marksIn (c .pile .marks)) p ≡ valOf vs p
+  unfolding updateOf
+  lists-old n p = way-old {u = updateOf} (lists-run n) p

@@ -12,9 +12,9 @@ use Rattle.systems.specs.System.{Frame, Leans, Values, Fits, Full, Solut
 use Rattle.systems.specs.Put.{put-keep}
 use Rattle.systems.specs.SolveSolution.{solve-solution, unique}
 use Rattle.systems.specs.MoveSolution.{moveTo-later, moved-solution}
-use Rattle.systems.specs.Machine.{own, Finds, start}
+use Rattle.systems.specs.Machine.{own, Finds}
 use Rattle.systems.specs.MachineMoves.{unitCount}
-use Rattle.systems.specs.ListMachine.{valOf, runL, startL}
+use Rattle.systems.specs.ListMachine.{valOf, Test, Agrees, runL, startL}
 use Rattle.systems.specs.ListsMove.{lists-move}
 
 module _ (F : Frame) (M : Leans) (fits : Fits F M) where
@@ -30,11 +30,11 @@ module _ (F : Frame) (M : Leans) (fits : Fits F M) where
   load-solve = unique F M fits (move F M M (own F)) (solve F M) load-solution (solve-solution F M fits) (F .blocks) (le-refl (F .blocks))
 
   -- The machine on lists, from the blocks' own values, ends in the solution.
-  pub lists-solve : (on : ℕ → List ℕ) → Finds F M on → Full F → (vs stack : List ℕ) → length vs ≡ F .pairs
-      → ((p : ℕ) → getD vs p 0 ≤ 1) → F .pairs ≤ length stack → ((p : ℕ) → valOf vs p ≡ own F p) → (n : ℕ) → unitCount F M M (own F) ≤ n
-      → (p : ℕ) → p < F .pairs → getD (runL F M M on n (startL F vs stack) .vals) p 0 ≡ bit (solve F M p)
-  lists-solve on finds full vs stack long bits room is n h p l =
+  pub lists-solve : (on : ℕ → List ℕ) → Finds F M on → Full F → (vs queue : List ℕ) → length vs ≡ F .pairs
+      → ((p : ℕ) → getD vs p 0 ≤ 1) → F .pairs ≤ length queue → (test : Test) → Agrees F M M (valOf vs) test → ((p : ℕ) → valOf vs p ≡ own F p)
+      → (n : ℕ) → unitCount F M M (own F) ≤ n → (p : ℕ) → p < F .pairs → getD (runL F M test on n (startL F vs queue) .vals) p 0 ≡ bit (solve F M p)
+  lists-solve on finds full vs queue long bits room test agrees is n h p l =
       let e : _≡_ {A = Values} (valOf vs) (own F) = fun-ext is in
       let k : unitCount F M M (valOf vs) ≤ n = subst (λ (v : Values). unitCount F M M v ≤ n) (sym e) h in
-      lists-move F M M on fits fits finds full vs stack long bits room n k .values p l
+      lists-move F M M on fits fits finds full vs queue long bits room test agrees n k .values p l
       ∙ ap (λ (v : Values). bit (move F M M v p)) e ∙ ap bit (load-solve p (full p l))

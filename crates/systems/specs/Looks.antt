@@ -3,18 +3,29 @@
 use mathlib.Core.Path.{_≡_, refl, sym, ap, _∙_}
 use mathlib.Core.Logic.{inl, inr}
 use mathlib.Core.Bool.{Bool, true, false, _&&_, cond}
-use mathlib.Core.List.{List, _∷_, _++_, List·Memᴰ·head, List·Memᴰ·tail, List·Memᴰ·not-nil, List·Memᴰ·cases-cons}
+use mathlib.Core.List.{List, [], _∷_, _++_, List·Memᴰ·head, List·Memᴰ·tail, List·Memᴰ·not-nil, List·Memᴰ·cases-cons}
 use Prim.Native.Nat.{ℕ, zero, suc, _+_, _≤_, _<_}
 use native.Mathlib.Nat.{add-zero, add-suc, suc-add, zero-add}
 use native.Mathlib.Decide.{ℕ-discrete}
 use native.Mathlib.Omega.{arith}
 use lib.Dec.{eqb}
-use lib.ListN.{length, length-append, length-map}
+use lib.ListN.{length}
 use Rattle.lists.specs.Lists.{bit, sum}
 use Rattle.lists.specs.Tests.{_∈_, clash, and-true, eqb-out, eqb-in}
 use Rattle.lists.specs.Sums.{sum-ext, sum-ones, sum-add, sum-swap, sum-one}
 use Rattle.systems.specs.System.{Frame, Full}
-use Rattle.systems.specs.Machine.{Look, pairsFrom, pairsOf, looksAt, todoFrom}
+use Rattle.systems.specs.Machine.{Step, sight, turns, pairsFrom, pairsOf, looksAt, todoFrom, sights}
+
+-- The looks of two lists put together are those of both.
+sights-append : (a b : List Step) → sights (a ++ b) ≡ sights a + sights b
+sights-append [] b = omega arith
+sights-append (sight ph p ∷ a) b = let h = sights-append a b in omega arith
+sights-append (turns ph i ∷ a) b = sights-append a b
+
+-- There is a look for each pair.
+sights-at : (ph : Bool) (l : List ℕ) → sights (looksAt ph l) ≡ length l
+sights-at ph [] = refl
+sights-at ph (p ∷ l) = ap suc (sights-at ph l)
 
 module _ (F : Frame) (i : ℕ) where
   from-here : (n a p : ℕ) → p ∈ pairsFrom F i a n → F .block p ≡ i
@@ -76,20 +87,20 @@ module _ (F : Frame) where
   twice : ℕ → ℕ
   twice j = length (pairsOf F j) + length (pairsOf F j)
 
-  todo-length : (n i : ℕ) → length (todoFrom F i n) + sum i twice ≡ sum (i + n) twice
+  todo-length : (n i : ℕ) → sights (todoFrom F i n) + sum i twice ≡ sum (i + n) twice
   unfolding twice
   todo-length zero i = let e = ap (λ (k : ℕ). sum k twice) (add-zero i) in omega arith
   todo-length (suc n) i =
       let k = todo-length n (suc i) in
       let e = ap (λ (k : ℕ). sum k twice) (add-suc i n ∙ sym (suc-add i n)) in
-      let a = length-append (looksAt false (pairsOf F i)) (looksAt true (pairsOf F i) ++ todoFrom F (suc i) n) in
-      let b = length-append (looksAt true (pairsOf F i)) (todoFrom F (suc i) n) in
-      let c = length-map {B = Look} (pairsOf F i) (λ p. record { settling = false; pair = p }) in
-      let d = length-map {B = Look} (pairsOf F i) (λ p. record { settling = true; pair = p }) in
+      let a = sights-append (looksAt false (pairsOf F i)) (turns false i ∷ (looksAt true (pairsOf F i) ++ (turns true i ∷ todoFrom F (suc i) n))) in
+      let b = sights-append (looksAt true (pairsOf F i)) (turns true i ∷ todoFrom F (suc i) n) in
+      let c = sights-at false (pairsOf F i) in
+      let d = sights-at true (pairsOf F i) in
       omega arith
 
   -- There are two looks for each pair.
-  pub looks-total : Full F → length (todoFrom F 0 (F .blocks)) ≡ F .pairs + F .pairs
+  pub looks-total : Full F → sights (todoFrom F 0 (F .blocks)) ≡ F .pairs + F .pairs
   unfolding twice
   looks-total full =
       let in-block : ℕ → ℕ → ℕ = λ j p. bit (eqb (F .block p) j) in

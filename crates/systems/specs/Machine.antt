@@ -1,5 +1,6 @@
 -- The step machine that moves the values. Block after block it shifts and then settles; in each of these two phases it
--- looks at every pair of the block, and turns the pairs that wait. A unit is one look or one turn. Definitions only.
+-- first looks at every pair of the block, and then turns the pairs that wait, first come first served. A unit is one look
+-- or one turn. Definitions only.
 use mathlib.Core.Path.{_≡_}
 use mathlib.Core.Bool.{Bool, true, false, not, cond, _&&_}
 use mathlib.Core.List.{List, [], _∷_, _++_, map}
@@ -52,16 +53,19 @@ unfolding asks shifts
 looks F L M false v m p = shifts F L M (F .block p) (past F v m) v none p
 looks F L M true v m p = asks F M true v p
 
--- A look at a pair, while shifting or while settling.
-pub record Look : Type 0 where
-  pub settling : Bool
-  pub pair : ℕ
+-- What is left to do: a look at a pair, while shifting (false) or settling (true); or the turns of such a phase of a block,
+-- once all its pairs have been looked at.
+pub data Step : Type 0 where
+  sight : Bool → ℕ → Step
+  turns : Bool → ℕ → Step
 
--- The state of an update: the looks that are left, the values, the marks and the pairs that wait, and the visits so far.
+-- The state of an update: what is left to do, the values, the marks and the pairs that wait, how many have turned in this
+-- phase, and the visits so far.
 pub record State : Type 0 where
-  pub todo : List Look
+  pub todo : List Step
   pub val : Values
   pub held : Waiting
+  pub gone : ℕ
   pub shiftVisits : ℕ
   pub settleVisits : ℕ
 
@@ -78,32 +82,53 @@ turn F M on ph q queue s =
       todo = s .todo;
       val = v;
       held = spread (free ph) (nextMark ph) (asks F M ph v) (on q) (record { marks = s .held .marks; queue = queue });
+      gone = suc (s .gone);
       shiftVisits = s .shiftVisits + cond ph 0 (length (on q));
       settleVisits = s .settleVisits + cond ph (length (on q)) 0;
     }
 
--- A pair is looked at, and waits if it must turn.
-unfoldable pub look : Frame → Leans → Leans → Look → List Look → State → State
+-- The pair p is looked at, and waits if it must turn.
+unfoldable pub look : Frame → Leans → Leans → Bool → ℕ → List Step → State → State
 unfolding looks
-look F L M a todo s =
-    let ph = a .settling in
-    record {
-      todo = todo;
-      val = s .val;
-      held = push (free ph) (nextMark ph) (looks F L M ph (s .val) (s .held .marks)) (a .pair) (s .held);
-      shiftVisits = s .shiftVisits;
-      settleVisits = s .settleVisits;
-    }
+look F L M ph p todo s = record {
+  todo = todo;
+  val = s .val;
+  held = push (free ph) (nextMark ph) (looks F L M ph (s .val) (s .held .marks)) p (s .held);
+  gone = s .gone;
+  shiftVisits = s .shiftVisits;
+  settleVisits = s .settleVisits;
+}
 
--- What one unit does, by the pairs that wait and the looks that are left. A pair that waits to shift is told by its mark.
-abbrev pub next : Frame → Leans → Leans → (ℕ → List ℕ) → List ℕ → List Look → State → State
-next F L M on (q ∷ queue) todo s = turn F M on (not (eqb (s .held .marks q) 1)) q queue s
-next F L M on [] (a ∷ todo) s = look F L M a todo s
-next F L M on [] [] s = s
+-- A look or a turn, by what is left to do and the pairs that wait: all looks of a phase come before its turns, and of the
+-- pairs that wait the first one turns.
+abbrev pub next : Frame → Leans → Leans → (ℕ → List ℕ) → List Step → List ℕ → State → State
+next F L M on (sight ph p ∷ todo) queue s = look F L M ph p todo s
+next F L M on (turns ph i ∷ todo) (q ∷ queue) s = turn F M on ph q queue s
+next F L M on (turns ph i ∷ todo) [] s = s
+next F L M on [] queue s = s
 
--- One unit.
+-- Where nothing waits, turns are over at once: what is left from the next look on.
+abbrev pub skip : List Step → List Step
+skip (turns ph i ∷ todo) = skip todo
+skip (sight ph p ∷ todo) = sight ph p ∷ todo
+skip [] = []
+
+-- The state in which that much is left to do, and none has turned in this phase.
+abbrev pub left : List Step → State → State
+left todo s = record { todo = todo; val = s .val; held = s .held; gone = 0; shiftVisits = s .shiftVisits; settleVisits = s .settleVisits }
+
+-- Where nothing waits, the state goes on to the next look, by the pairs that wait.
+abbrev pub tidyBy : List ℕ → State → State
+tidyBy [] s = left (skip (s .todo)) s
+tidyBy (q ∷ queue) s = s
+
+-- The end of a phase is seen as soon as its last pair has turned.
+abbrev pub tidy : State → State
+tidy s = tidyBy (s .held .queue) s
+
+-- One unit: a look or a turn, and the ends of phases that follow.
 abbrev pub unit : Frame → Leans → Leans → (ℕ → List ℕ) → State → State
-unit F L M on s = next F L M on (s .held .queue) (s .todo) s
+unit F L M on s = tidy (next F L M on (s .todo) (s .held .queue) s)
 
 -- n units.
 abbrev pub run : Frame → Leans → Leans → (ℕ → List ℕ) → ℕ → State → State
@@ -120,27 +145,34 @@ unfoldable pub pairsOf : Frame → ℕ → List ℕ
 pairsOf F i = pairsFrom F i 0 (F .pairs)
 
 -- A look at each of the pairs.
-abbrev pub looksAt : Bool → List ℕ → List Look
-looksAt ph l = map (λ p. record { settling = ph; pair = p }) l
+abbrev pub looksAt : Bool → List ℕ → List Step
+looksAt ph l = map (sight ph) l
 
--- The looks of the blocks i, i + 1, .., n of them.
-abbrev pub todoFrom : Frame → ℕ → ℕ → List Look
+-- What there is to do in the blocks i, i + 1, .., n of them: in each of two phases a look at each pair, and then the turns.
+abbrev pub todoFrom : Frame → ℕ → ℕ → List Step
 todoFrom F i zero = []
-todoFrom F i (suc n) = looksAt false (pairsOf F i) ++ (looksAt true (pairsOf F i) ++ todoFrom F (suc i) n)
+todoFrom F i (suc n) = looksAt false (pairsOf F i) ++ (turns false i ∷ (looksAt true (pairsOf F i) ++ (turns true i ∷ todoFrom F (suc i) n)))
 
--- The looks that come after those of a phase of block i, where k blocks follow it.
-unfoldable pub after : Frame → Bool → ℕ → ℕ → List Look
+-- What comes after the turns of a phase of block i, where k blocks follow it.
+unfoldable pub after : Frame → Bool → ℕ → ℕ → List Step
 unfolding pairsOf
-after F false i k = looksAt true (pairsOf F i) ++ todoFrom F (suc i) k
+after F false i k = looksAt true (pairsOf F i) ++ (turns true i ∷ todoFrom F (suc i) k)
 after F true i k = todoFrom F (suc i) k
+
+-- How many looks are left.
+abbrev pub sights : List Step → ℕ
+sights [] = 0
+sights (sight ph p ∷ todo) = suc (sights todo)
+sights (turns ph i ∷ todo) = sights todo
 
 -- The state before the first unit.
 unfoldable pub start : Frame → Values → State
 unfolding pairsOf
 start F old = record {
-  todo = todoFrom F 0 (F .blocks);
+  todo = skip (todoFrom F 0 (F .blocks));
   val = old;
   held = record { marks = λ p. 0; queue = [] };
+  gone = 0;
   shiftVisits = 0;
   settleVisits = 0;
 }

@@ -1,11 +1,11 @@
 -- The machine and the rule. After exactly as many units as there are looks and turns, which is two for each pair, one for
--- each that shifts and one for each that settles, nothing is left, and the values, the marks and the visits are the
--- rule's. At any point before, the old values can be told from the values and the marks.
+-- each that shifts and one for each that settles, nothing is left to do, and the values, the marks and the visits are the
+-- rule's; before, something is. At any point the old values can be told from the values and the marks.
 -- Assumes nothing.
 use mathlib.Core.Path.{_≡_, refl, sym, ap, _∙_, subst}
 use mathlib.Core.Logic.{inl, inr}
 use mathlib.Core.Bool.{Bool, true, false}
-use mathlib.Core.List.{List, [], _∷_}
+use mathlib.Core.List.{List, []}
 use Prim.Native.Nat.{ℕ, zero, suc, _+_, _≤_, _<_, min}
 use native.Mathlib.Omega.{arith}
 use lib.ListN.{length}
@@ -17,19 +17,19 @@ use Rattle.systems.specs.System.{Frame, Leans, Values, Fits, Full, settl
 use Rattle.systems.specs.Marks.{shiftOf, settleOf, mark, visits}
 use Rattle.systems.specs.UpTo.{upTo, up-in, up-off, up-mono, shift-at, settle-at}
 use Rattle.systems.specs.Worklist.{Waiting}
-use Rattle.systems.specs.Machine.{past, State, Finds, unit, run, pairsOf, todoFrom, start}
+use Rattle.systems.specs.Machine.{past, State, Finds, unit, run, pairsOf, todoFrom, sights, start}
 use Rattle.systems.specs.Visits.{visits-weight}
 use Rattle.systems.specs.Looks.{looks-total}
 use Rattle.systems.specs.Phases.{Update, base, rule, turning, Doing}
 use Rattle.systems.specs.PhaseKeeps.{marks-before, marks-later, marked-turns, marked-here}
-use Rattle.systems.specs.Course.{shiftTo, settleTo, haveShifted, haveSettled, Rest, At, going, done}
-use Rattle.systems.specs.RunKeeps.{ready, ready-at, past-at, unit-at, rest-unit}
+use Rattle.systems.specs.Course.{shiftTo, settleTo, haveShifted, haveSettled, Rest, Going, At, to-look, to-turn, done}
+use Rattle.systems.specs.RunKeeps.{ready, past-at, unit-at, rest-unit, at-done}
 
 -- How many units an update takes: one for each look, one for each pair that shifts, and one for each that settles.
 unfoldable pub unitCount : Frame → Leans → Leans → Values → ℕ
 unfolding pairsOf shiftOf settleOf
 unitCount F L M old =
-    length (todoFrom F 0 (F .blocks)) + size (F .pairs) (upTo F (shiftOf F L M old) (F .blocks)) + size (F .pairs) (upTo F (settleOf F L M old) (F .blocks))
+    sights (todoFrom F 0 (F .blocks)) + size (F .pairs) (upTo F (shiftOf F L M old) (F .blocks)) + size (F .pairs) (upTo F (settleOf F L M old) (F .blocks))
 
 -- A state has all that the rule says, and nothing is left to do.
 pub record Moves (F : Frame) (L M : Leans) (old : Values) (s : State) : Type 0 where
@@ -43,13 +43,16 @@ pub record Moves (F : Frame) (L M : Leans) (old : Values) (s : State) : Type 0 w
 module _ (u : Update) (on : ℕ → List ℕ) where
   open Update u using (F, L, M, old)
 
-  first : Rest u on 0 0 (F .blocks) (start F old)
-  unfolding start moveTo
+  -- Before the first block.
+  first : Rest u on 0 0 (F .blocks)
+      (record { todo = todoFrom F 0 (F .blocks); val = old; held = record { marks = λ p. 0; queue = [] }; gone = 0; shiftVisits = 0; settleVisits = 0 })
+  unfolding moveTo
   first = record {
     place = omega arith;
     vals = λ p. refl;
     marks = λ p. sym (marks-later u 0 p (omega arith));
     empty = refl;
+    gone = refl;
     todo = refl;
     counted = record {
       shift-visits = sym (weight-none (F .pairs) (λ q. length (on q)) (shiftTo u 0) (λ p. up-off F (shiftOf F L M old) 0 p (omega arith)));
@@ -61,13 +64,10 @@ module _ (u : Update) (on : ℕ → List ℕ) where
     };
   }
 
-  -- The machine starts in the midst of the first phase that has a pair to look at.
+  -- The machine starts before the first look, or is done.
   pub begin : At u on 0 (start F old)
-  begin =
-      elim (ready (F .blocks) first) [
-        | inl r ↦ going (r .ph) (r .i) (r .k) (r .x) (r .t) (r .p ∷ r .rest) (r .here)
-        | inr r ↦ done r
-      ]
+  unfolding start
+  begin = ready (F .blocks) first
 
   module _ {i : ℕ} {x t : ℕ → Bool} {rest : List ℕ} {v : Values} {w : Waiting} where
     -- What has shifted so far is a part of all that shifts.
@@ -101,37 +101,44 @@ module _ (u : Update) (on : ℕ → List ℕ) where
   unfolding unitCount
   rest-units r =
       let a = r .counted .spent in
-      let b = ap length (r .todo) in
+      let b = ap sights (r .todo) in
       let c = weight-size (F .pairs) (shiftTo u (F .blocks)) in
       let d = weight-size (F .pairs) (settleTo u (F .blocks)) in
       omega arith
 
   -- No more are spent than that.
-  at-most : {n : ℕ} {s : State} → At u on n s → n + length (s .todo) ≤ unitCount F L M old
+  going-most : {n : ℕ} {ph : Bool} {i k : ℕ} {x t : ℕ → Bool} {rest : List ℕ} {s : State} → Going u on n ph i k x t rest s → n + sights (s .todo) ≤ unitCount F L M old
   unfolding unitCount
-  at-most {s = s} (going ph i k x t rest g) =
+  going-most {ph = ph} {i} {t = t} g =
       let a = g .counted .spent in
       let b = weight-le (F .pairs) (λ p. 1) (haveShifted u ph i t) (shiftTo u (F .blocks)) (in-shifts ph (g .doing)) in
       let c = weight-le (F .pairs) (λ p. 1) (haveSettled u ph i t) (settleTo u (F .blocks)) (in-settles ph (g .doing)) in
       let d = weight-size (F .pairs) (shiftTo u (F .blocks)) in
       let e = weight-size (F .pairs) (settleTo u (F .blocks)) in
       omega arith
-  at-most (done r) = let a = r .counted .spent in let b = rest-units r in let c = ap length (r .todo) in omega arith
 
-  -- Before all are spent, something is left.
-  at-before : {n : ℕ} {s : State} → At u on n s → n < unitCount F L M old → s .held .queue ≡ [] → s .todo ≡ [] → ⊥
-  at-before (done r) l e f = let h = rest-units r in omega arith
-  at-before (going ph i k x t rest g) l e f =
-      elim (ready-at ph rest g e) [
-        | inl r ↦ let a = ap length (r .here .todo) in let b = ap length f in omega arith
-        | inr r ↦ let h = rest-units r in omega arith
-      ]
+  pub at-most : {n : ℕ} {s : State} → At u on n s → n + sights (s .todo) ≤ unitCount F L M old
+  at-most (to-look ph i k x p rest g) = going-most g
+  at-most (to-turn ph i k x t q queue g e) = going-most g
+  at-most (done r) = let b = rest-units r in let c = ap sights (r .todo) in omega arith
 
 module _ {u : Update} {on : ℕ → List ℕ} (finds : Finds (u .F) (u .M) on) where
   open Update u using (F, L, M, old)
 
+  -- While something is left to do, not all have been spent.
+  pub at-before : {n : ℕ} {s : State} → At u on n s → (s .todo ≡ [] → ⊥) → n < unitCount F L M old
+  at-before {n} {s} a f =
+      elim (unit-at finds a) [
+        | inl b ↦ let h = at-most u on b in omega arith
+        | inr r ↦ absurd (f (r .todo))
+      ]
+
+  -- Once nothing is left to do, all have been.
+  pub at-end : {n : ℕ} {s : State} → At u on n s → s .todo ≡ [] → n ≡ unitCount F L M old
+  at-end a f = rest-units u on (at-done a f)
+
   -- Once all are spent, nothing is left.
-  at-last : {s : State} → At u on (unitCount F L M old) s → Rest u on (unitCount F L M old) (F .blocks) 0 s
+  pub at-last : {s : State} → At u on (unitCount F L M old) s → Rest u on (unitCount F L M old) (F .blocks) 0 s
   at-last a =
       elim (unit-at finds a) [
         | inl b ↦ let h = at-most u on b in absurd (omega arith)
@@ -139,13 +146,13 @@ module _ {u : Update} {on : ℕ → List ℕ} (finds : Finds (u .F) (u .M) on) w
       ]
 
   -- m units more.
-  steps : (m : ℕ) {n : ℕ} {s : State} → At u on n s → At u on (min (n + m) (unitCount F L M old)) (run F L M on m s)
+  pub steps : (m : ℕ) {n : ℕ} {s : State} → At u on n s → At u on (min (n + m) (unitCount F L M old)) (run F L M on m s)
   steps zero {n} {s} a = subst (λ (k : ℕ). At u on k s) (let h = at-most u on a in omega arith) a
   steps (suc m) {n} {s} a =
       let t = run F L M on m (unit F L M on s) in
       elim (unit-at finds a) [
         | inl b ↦ subst (λ (k : ℕ). At u on k t) (omega arith) (steps m b)
-        | inr r ↦ subst (λ (k : ℕ). At u on k t) (let h = rest-units u on r in omega arith) (steps m (subst (At u on n) (sym (rest-unit finds r)) a))
+        | inr r ↦ subst (λ (k : ℕ). At u on k t) (let h = rest-units u on r in omega arith) (steps m (subst (At u on n) (sym (rest-unit r)) a))
       ]
 
   -- Where the machine is after n units.
@@ -153,7 +160,7 @@ module _ {u : Update} {on : ℕ → List ℕ} (finds : Finds (u .F) (u .M) on) w
   run-at n = subst (λ (k : ℕ). At u on k (run F L M on n (start F old))) (omega arith) (steps n (begin u on))
 
   -- When nothing is left, the state has all that the rule says.
-  rest-moves : Full F → {n : ℕ} {s : State} → Rest u on n (F .blocks) 0 s → Moves F L M old s
+  pub rest-moves : Full F → {n : ℕ} {s : State} → Rest u on n (F .blocks) 0 s → Moves F L M old s
   unfolding move
   rest-moves full r = record {
     values = r .vals;
@@ -180,10 +187,10 @@ module _ (F : Frame) (L M : Leans) (old : Values) (on : ℕ → List ℕ) (fits 
   unfolding u
   old-value n p = past-at (run-at {u = u} finds n) p
 
-  -- Before the last unit something is left.
-  pub machine-before : (n : ℕ) → n < unitCount F L M old → let s = run F L M on n (start F old) in s .held .queue ≡ [] → s .todo ≡ [] → ⊥
+  -- Before the last unit something is left to do.
+  pub machine-before : (n : ℕ) → run F L M on n (start F old) .todo ≡ [] → unitCount F L M old ≤ n
   unfolding u
-  machine-before n l = at-before u on (run-at {u = u} finds n) (omega arith)
+  machine-before n f = let h = at-end {u = u} finds (run-at {u = u} finds n) f in omega arith
 
   module _ (full : Full F) where
     -- The units are two for each pair, one for each that shifts and one for each that settles.

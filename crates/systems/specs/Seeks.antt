@@ -1,16 +1,18 @@
--- Seeking the place of the next look is no unit: the looks from the place that is found are those from the place before.
+-- Seeking the place of the next look is no unit: what is left to do from the place that is found is what was left from the
+-- place before, without the turns that are over.
 -- Assumes nothing.
 use mathlib.Core.Path.{_≡_, refl, sym, ap, _∙_, subst}
 use mathlib.Core.Logic.{inl, inr}
 use mathlib.Core.Bool.{Bool, true, false, not, cond}
 use mathlib.Core.List.{List, [], _∷_, _++_}
 use Prim.Native.Nat.{ℕ, zero, suc, _+_, _-_, _≤_, _<_}
+use native.Mathlib.Nat.{le-refl}
 use native.Mathlib.Omega.{arith}
 use lib.Dec.{eqb, ltb}
 use Rattle.lists.specs.Tests.{tell, clash, eqb-out, eqb-in, ltb-out, ltb-no, eqb-no}
 use Rattle.systems.specs.System.{Frame}
-use Rattle.systems.specs.Machine.{Look, pairsFrom, pairsOf, looksAt, todoFrom, after}
-use Rattle.systems.specs.ListMachine.{todoAt, Place, nextPair, nextBlock, seek, phases}
+use Rattle.systems.specs.Machine.{Step, sight, turns, skip, pairsFrom, pairsOf, looksAt, todoFrom, after}
+use Rattle.systems.specs.ListMachine.{todoAt, Place, nextPair, pairFrom, nextBlock, seek, phases}
 
 module _ (F : Frame) where
   from-suc : (i p : ℕ) → p < F .pairs → let l = pairsFrom F i (suc p) (F .pairs - suc p) in
@@ -24,54 +26,54 @@ module _ (F : Frame) where
   all-left = omega arith
 
   -- At a pair of the block, it is looked at next.
-  pub seek-here : (i k : ℕ) (ph : Bool) (p : ℕ) → p < F .pairs → F .block p ≡ i
-      → todoAt F i (suc k) ph p ≡ record { settling = ph; pair = p } ∷ todoAt F i (suc k) ph (suc p)
+  pub seek-here : (i k : ℕ) (ph : Bool) (p : ℕ) → p < F .pairs → F .block p ≡ i → todoAt F i (suc k) ph p ≡ sight ph p ∷ todoAt F i (suc k) ph (suc p)
   unfolding todoAt
   seek-here i k ph p l e =
       let rest = pairsFrom F i (suc p) (F .pairs - suc p) in
-      ap (λ (y : List ℕ). looksAt ph y ++ after F ph i k) (from-suc i p l ∙ ap (λ (b : Bool). cond b (p ∷ rest) rest) (eqb-in (F .block p) i e))
+      ap (λ (y : List ℕ). looksAt ph y ++ (turns ph i ∷ after F ph i k)) (from-suc i p l ∙ ap (λ (b : Bool). cond b (p ∷ rest) rest) (eqb-in (F .block p) i e))
 
   -- A pair of another block is passed by.
   seek-skip : (i k : ℕ) (ph : Bool) (p : ℕ) → p < F .pairs → (F .block p ≡ i → ⊥) → todoAt F i (suc k) ph p ≡ todoAt F i (suc k) ph (suc p)
   unfolding todoAt
   seek-skip i k ph p l e =
       let rest = pairsFrom F i (suc p) (F .pairs - suc p) in
-      ap (λ (y : List ℕ). looksAt ph y ++ after F ph i k) (from-suc i p l ∙ ap (λ (b : Bool). cond b (p ∷ rest) rest) (eqb-no (F .block p) i .1 e))
+      ap (λ (y : List ℕ). looksAt ph y ++ (turns ph i ∷ after F ph i k)) (from-suc i p l ∙ ap (λ (b : Bool). cond b (p ∷ rest) rest) (eqb-no (F .block p) i .1 e))
 
-  -- After the last pair, a block that has shifted settles.
-  seek-settle : (i k p : ℕ) → F .pairs ≤ p → todoAt F i (suc k) false p ≡ todoAt F i (suc k) true 0
+  -- After the last pair, the turns of the phase are due.
+  pub seek-turns : (i k : ℕ) (ph : Bool) (p : ℕ) → F .pairs ≤ p → todoAt F i (suc k) ph p ≡ turns ph i ∷ after F ph i k
+  unfolding todoAt
+  seek-turns i k ph p l = ap (λ (y : List ℕ). looksAt ph y ++ (turns ph i ∷ after F ph i k)) (from-end i p l)
+
+  -- A block that has shifted settles.
+  after-shift : (i k : ℕ) → after F false i k ≡ todoAt F i (suc k) true 0
   unfolding todoAt after pairsOf
-  seek-settle i k p l =
-      ap (λ (y : List ℕ). looksAt false y ++ after F false i k) (from-end i p l)
-      ∙ ap (λ (n : ℕ). looksAt true (pairsFrom F i 0 n) ++ todoFrom F (suc i) k) all-left
+  after-shift i k = ap (λ (n : ℕ). looksAt true (pairsFrom F i 0 n) ++ (turns true i ∷ todoFrom F (suc i) k)) all-left
 
-  -- After the last pair, a block that has settled is followed by the next block.
-  seek-next : (i k p : ℕ) → F .pairs ≤ p → todoAt F i (suc k) true p ≡ todoAt F (suc i) k false 0
+  -- From the first pair on, all of the blocks is left.
+  pub seek-start : (i k : ℕ) → todoFrom F i k ≡ todoAt F i k false 0
   unfolding todoAt after pairsOf
-  seek-next i zero p l = ap (λ (y : List ℕ). looksAt true y ++ after F true i 0) (from-end i p l)
-  seek-next i (suc k) p l =
-      ap (λ (y : List ℕ). looksAt true y ++ after F true i (suc k)) (from-end i p l)
-      ∙ ap (λ (n : ℕ). looksAt false (pairsFrom F (suc i) 0 n) ++ after F false (suc i) k) all-left
+  seek-start i zero = refl
+  seek-start i (suc k) = ap (λ (n : ℕ). looksAt false (pairsFrom F i 0 n) ++ (turns false i ∷ after F false i k)) all-left
 
-  -- From the first place on, all looks are left.
-  pub seek-start : (k : ℕ) → todoFrom F 0 k ≡ todoAt F 0 k false 0
-  unfolding todoAt after pairsOf
-  seek-start zero = refl
-  seek-start (suc k) = ap (λ (n : ℕ). looksAt false (pairsFrom F 0 0 n) ++ after F false 0 k) all-left
+  -- A block that has settled is followed by the next block.
+  after-settle : (i k : ℕ) → after F true i k ≡ todoAt F (suc i) k false 0
+  unfolding after
+  after-settle i k = seek-start (suc i) k
 
-  -- The place s has been found from the pair p of a phase of block i, where k blocks were left: the same looks are left,
-  -- and there is a pair of the block at it, unless all blocks are done.
+  -- The place s has been found from the pair p of a phase of block i, where k blocks were left and no pair waits: the same is
+  -- left to do, without turns that are over, and there is a pair of the block at it, unless all blocks are done.
   pub record Sought (i k : ℕ) (ph : Bool) (p : ℕ) (s : Place) : Type 0 where
-    pub same : todoAt F i k ph p ≡ todoAt F (s .block) (F .blocks - s .block) (s .settling) (s .place)
+    pub same : skip (todoAt F i k ph p) ≡ todoAt F (s .block) (F .blocks - s .block) (s .settling) (s .place)
     pub range : s .block ≤ F .blocks
     pub ended : s .block ≡ F .blocks → s .settling ≡ false
     pub low : s .place ≤ F .pairs
     pub here : s .block < F .blocks → (s .place < F .pairs) × (F .block (s .place) ≡ s .block)
 
-  next-same : (i k : ℕ) (ph : Bool) (n p : ℕ) → p + n ≡ F .pairs → todoAt F i (suc k) ph p ≡ todoAt F i (suc k) ph (nextPair F i p n)
+  -- Between the place and the next pair of the block there is nothing to do.
+  pub next-same : (i k : ℕ) (ph : Bool) (n p : ℕ) → p + n ≡ F .pairs → todoAt F i (suc k) ph p ≡ todoAt F i (suc k) ph (nextPair F i p n)
   next-same i k ph zero p e = refl
   next-same i k ph (suc n) p e =
-      let found : Bool → List Look = λ b. todoAt F i (suc k) ph (cond b p (nextPair F i (suc p) n)) in
+      let found : Bool → List Step = λ b. todoAt F i (suc k) ph (cond b p (nextPair F i (suc p) n)) in
       elim (tell true (eqb (F .block p) i)) [
         | inl h ↦ ap found (sym h)
         | inr h ↦
@@ -79,7 +81,8 @@ module _ (F : Frame) where
             ∙ next-same i k ph n (suc p) (omega arith) ∙ ap found (sym h)
       ]
 
-  next-here : (i n p : ℕ) → p + n ≡ F .pairs → (nextPair F i p n ≤ F .pairs) × (nextPair F i p n < F .pairs → F .block (nextPair F i p n) ≡ i)
+  -- The next pair of the block is one, or there is none.
+  pub next-here : (i n p : ℕ) → p + n ≡ F .pairs → (nextPair F i p n ≤ F .pairs) × (nextPair F i p n < F .pairs → F .block (nextPair F i p n) ≡ i)
   next-here i zero p e = (omega arith, λ l. absurd (omega arith))
   next-here i (suc n) p e =
       let found : Bool → ℕ = λ b. cond b p (nextPair F i (suc p) n) in
@@ -89,22 +92,33 @@ module _ (F : Frame) where
         | inr h ↦ subst Is (sym h) (next-here i n (suc p) (omega arith))
       ]
 
+  -- It is no earlier.
+  pub next-up : (i n p : ℕ) → p ≤ nextPair F i p n
+  next-up i zero p = le-refl p
+  next-up i (suc n) p =
+      elim (tell true (eqb (F .block p) i)) [
+        | inl h ↦ subst (λ (b : Bool). p ≤ cond b p (nextPair F i (suc p) n)) (sym h) (le-refl p)
+        | inr h ↦ subst (λ (b : Bool). p ≤ cond b p (nextPair F i (suc p) n)) (sym h) (let k = next-up i n (suc p) in omega arith)
+      ]
+
   todo-left : (i k : ℕ) (ph : Bool) (p : ℕ) → i + k ≡ F .blocks → todoAt F i k ph p ≡ todoAt F i (F .blocks - i) ph p
   todo-left i k ph p e = ap (λ (y : ℕ). todoAt F i y ph p) (let z : k ≡ F .blocks - i = omega arith in z)
 
   -- What `seek` finds has been found.
   pub sought : (m i k : ℕ) (ph : Bool) (p : ℕ) → i + k ≡ F .blocks → (k ≡ 0 → ph ≡ false) → p ≤ F .pairs → m ≡ phases k ph → Sought i k ph p (seek F m i ph p)
-  sought zero i k ph p e z l f = record {
-    same = todo-left i k ph p e;
+  unfolding todoAt
+  sought zero i zero ph p e z l f = record {
+    same = todo-left i 0 ph p e;
     range = omega arith;
-    ended = λ h. z (omega arith);
+    ended = λ h. z refl;
     low = l;
-    here = λ h. absurd (stuck ph f (omega arith));
+    here = λ h. absurd (omega arith);
   }
+  sought zero i (suc k) ph p e z l f = absurd (stuck ph f)
     where
-      stuck : (ph : Bool) → 0 ≡ phases k ph → 1 ≤ k → ⊥
-      stuck false f h = omega arith
-      stuck true f h = omega arith
+      stuck : (ph : Bool) → 0 ≡ phases (suc k) ph → ⊥
+      stuck false f = omega arith
+      stuck true f = omega arith
   sought (suc m) i zero ph p e z l f = absurd (none-left ph f)
     where
       none-left : (ph : Bool) → suc m ≡ phases 0 ph → ⊥
@@ -116,16 +130,17 @@ module _ (F : Frame) where
       (λ a. sought m (suc i) k false 0 (omega arith) (λ y. refl) (omega arith) a)
     where
       r : ℕ
-      r = nextPair F i p (F .pairs - p)
+      r = pairFrom F i p
 
       -- What is found in a later phase, if no pair of this one is left.
-      pass : (ph : Bool) (j h : ℕ) → ltb r (F .pairs) ≡ false → todoAt F i (suc k) ph r ≡ todoAt F j h (not ph) 0
+      pass : (ph : Bool) (j h : ℕ) → ltb r (F .pairs) ≡ false → after F ph i k ≡ todoAt F j h (not ph) 0
           → Sought j h (not ph) 0 (seek F m (nextBlock ph i) (not ph) 0)
           → Sought i (suc k) ph p (cond (ltb r (F .pairs)) (record { block = i; settling = ph; place = r }) (seek F m (nextBlock ph i) (not ph) 0))
       pass ph j h b t s =
           subst (λ (b : Bool). Sought i (suc k) ph p (cond b (record { block = i; settling = ph; place = r }) (seek F m (nextBlock ph i) (not ph) 0))) (sym b)
           (record {
-            same = next-same i k ph (F .pairs - p) p (omega arith) ∙ t ∙ s .same;
+            same =
+                ap skip (next-same i k ph (F .pairs - p) p (omega arith) ∙ seek-turns i k ph r (ltb-no r (F .pairs) .0 b)) ∙ ap skip t ∙ s .same;
             range = s .range;
             ended = s .ended;
             low = s .low;
@@ -137,13 +152,16 @@ module _ (F : Frame) where
           → (m ≡ phases k false → Sought (suc i) k false 0 (seek F m (suc i) false 0))
           → Sought i (suc k) ph p (cond (ltb r (F .pairs)) (record { block = i; settling = ph; place = r }) (seek F m (nextBlock ph i) (not ph) 0))
       go ph true h f u w =
+          let a = ltb-out r (F .pairs) h in
+          let c = next-here i (F .pairs - p) p (omega arith) in
+          let d = seek-here i k ph r a (c .1 a) in
           subst (λ (b : Bool). Sought i (suc k) ph p (cond b (record { block = i; settling = ph; place = r }) (seek F m (nextBlock ph i) (not ph) 0))) (sym h)
           (record {
-            same = next-same i k ph (F .pairs - p) p (omega arith) ∙ todo-left i (suc k) ph r e;
+            same = ap skip (next-same i k ph (F .pairs - p) p (omega arith) ∙ d) ∙ sym d ∙ todo-left i (suc k) ph r e;
             range = omega arith;
             ended = λ y. absurd (omega arith);
-            low = next-here i (F .pairs - p) p (omega arith) .0;
-            here = λ y. let a = ltb-out r (F .pairs) h in (a, next-here i (F .pairs - p) p (omega arith) .1 a);
+            low = c .0;
+            here = λ y. (a, c .1 a);
           })
-      go false false h f u w = pass false i (suc k) h (seek-settle i k r (ltb-no r (F .pairs) .0 h)) (u (omega arith))
-      go true false h f u w = pass true (suc i) k h (seek-next i k r (ltb-no r (F .pairs) .0 h)) (w (omega arith))
+      go false false h f u w = pass false i (suc k) h (after-shift i k) (u (omega arith))
+      go true false h f u w = pass true (suc i) k h (after-settle i k) (w (omega arith))

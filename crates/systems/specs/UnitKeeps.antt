@@ -21,13 +21,13 @@ use Rattle.systems.specs.WorklistEnds.{upd-same, upd-other, front, work-
 use Rattle.systems.specs.Machine.{own, past, free, nextMark, asks, looks, Finds}
 use Rattle.systems.specs.Leaners.{found-in, found-out}
 use Rattle.systems.specs.Phases.{Update, base, target, rule, turning, marksTo, marksOf, plan, Doing}
-use Rattle.systems.specs.PhaseKeeps.{rule-monotone, turning-shifts, turning-drops, old-here, marks-later, marked-turns, marked-here, unmarked-still, still-val, marked-mark, past-doing}
+use Rattle.systems.specs.PhaseKeeps.{rule-monotone, turning-shifts, turning-drops, old-here, marks-later, marked-turns, marked-here, unmarked-still, still-val, past-doing}
 
 module _ (u : Update) where
   open Update u using (F, L, M, old)
 
-  -- A pair of the block is free before it is marked, and not after.
-  free-before : (ph : Bool) (i r : ℕ) → F .block r ≡ i → free ph (marksOf u ph i r) ≡ true
+  -- A pair of the block is free before it is marked.
+  pub free-before : (ph : Bool) (i r : ℕ) → F .block r ≡ i → free ph (marksOf u ph i r) ≡ true
   unfolding marksOf
   free-before false i r e = ap (λ (m : ℕ). eqb m 0) (marks-later u i r (omega arith))
   free-before true i r e =
@@ -36,6 +36,7 @@ module _ (u : Update) where
         | inr s ↦ ap (λ (m : ℕ). ltb m 2) (cond-no 1 (marksTo u i r) s ∙ marks-later u i r (omega arith))
       ]
 
+  -- It is not after.
   free-after : (ph : Bool) (i r : ℕ) → F .block r ≡ i → free ph (nextMark ph (marksOf u ph i r)) ≡ false
   unfolding marksOf
   free-after false i r e = refl
@@ -162,20 +163,8 @@ module _ {u : Update} {i : ℕ} {x t : ℕ → Bool} {q : ℕ} {queue rest : Lis
   pub front-here : (ph : Bool) → Doing u ph i x t rest v (inFront m q queue) → F .block q ≡ i
   front-here ph d = marked-here d q (front-waits ph d .0)
 
-  -- The mark of the pair in front tells the phase.
-  pub phase-told : (ph : Bool) → Doing u ph i x t rest v (inFront m q queue) → not (eqb (m q) 1) ≡ ph
-  phase-told false d = ap (λ (y : ℕ). not (eqb y 1)) (marked-mark d q (front-waits false d .0))
-  phase-told true d = ap (λ (y : ℕ). not (eqb y 1)) (marked-mark d q (front-waits true d .0)) ∙ two (marksOf u true i q)
-    where
-      two : (y : ℕ) → not (eqb (cond (eqb y 0) 3 2) 1) ≡ true
-      two y =
-          elim (tell true (eqb y 0)) [
-            | inl e ↦ ap (λ (b : Bool). not (eqb (cond b 3 2) 1)) e
-            | inr e ↦ ap (λ (b : Bool). not (eqb (cond b 3 2) 1)) e
-          ]
-
   -- The pair in front has the value that pairs turn from.
-  front-value : (ph : Bool) → Doing u ph i x t rest v (inFront m q queue) → not (base u ph i q) ≡ target u ph i
+  pub front-value : (ph : Bool) → Doing u ph i x t rest v (inFront m q queue) → not (base u ph i q) ≡ target u ph i
   unfolding base
   front-value false d =
       ap not (old-here u (d .lt) q (front-here false d) ∙ turning-shifts u (d .lt) q (marked-turns d q (front-waits false d .0)) .was)

@@ -1,9 +1,9 @@
--- A worklist: pairs are marked and put on a stack, where they wait to be turned; and what is kept while that goes on, for
+-- A worklist: pairs are marked and put in a queue, where they wait to be turned; and what is kept while that goes on, for
 -- any rule that asks for pairs. Definitions only.
 use mathlib.Core.Path.{_≡_}
 use mathlib.Core.Logic.{_⊎_}
 use mathlib.Core.Bool.{Bool, true, false, not, cond, _&&_}
-use mathlib.Core.List.{List, [], _∷_}
+use mathlib.Core.List.{List, [], _∷_, _++_}
 use Prim.Native.Nat.{ℕ}
 use lib.Dec.{eqb}
 use Rattle.lists.specs.Lists.{bit}
@@ -21,9 +21,9 @@ pub record Waiting : Type 0 where
 abbrev pub upd {ℓ} : {A : Type ℓ} → (ℕ → A) → ℕ → A → ℕ → A
 upd f p x q = cond (eqb q p) x (f q)
 
--- The pair r gets its next mark, and waits.
+-- The pair r gets its next mark, and waits behind the others.
 abbrev pub wait : (ℕ → ℕ) → ℕ → Waiting → Waiting
-wait next r w = record { marks = upd (w .marks) r (next (w .marks r)); queue = r ∷ w .queue }
+wait next r w = record { marks = upd (w .marks) r (next (w .marks r)); queue = w .queue ++ (r ∷ []) }
 
 -- The pair r waits, if its mark leaves it free and the test asks for it.
 abbrev pub push : (ℕ → Bool) → (ℕ → ℕ) → (ℕ → Bool) → ℕ → Waiting → Waiting

@@ -5,7 +5,7 @@
 use mathlib.Core.Path.{_≡_, refl, sym, ap, _∙_, subst}
 use mathlib.Core.Logic.{_⊎_, inl, inr}
 use mathlib.Core.Bool.{Bool, true, false, not, _&&_, cond, false≢true}
-use mathlib.Core.List.{List, [], _∷_, List·Memᴰ·head, List·Memᴰ·tail, List·Memᴰ·not-nil}
+use mathlib.Core.List.{List, [], _∷_, _++_, List·Memᴰ·head, List·Memᴰ·tail, List·Memᴰ·not-nil}
 use Prim.Native.Nat.{ℕ, _≤_}
 use native.Mathlib.Decide.{ℕ-discrete}
 use native.Mathlib.Omega.{arith}
@@ -14,7 +14,7 @@ use Rattle.lists.specs.Lists.{bit}
 use Rattle.lists.specs.Smallest.{at, smallest}
 use Rattle.lists.specs.Tests.{_∈_, tell, clash, and-in, or-out, and-no, eqb-out, eqb-same, eqb-no, cond-yes, cond-no}
 use Rattle.lists.specs.Sets.{Sub, sub-no, none, add, add-same, add-other, add-sub}
-use Rattle.lists.specs.Counts.{times}
+use Rattle.lists.specs.Counts.{times, times-in, times-out, times-append}
 use Rattle.lists.specs.SmallestLaws.{Monotone, smallest-add, smallest-same}
 use Rattle.systems.specs.Worklist.{Waiting, upd, wait, push, spread, Plan, Stage, Work, Good}
 
@@ -25,6 +25,20 @@ upd-same f p x = ap (λ (b : Bool). cond b x (f p)) (eqb-same p)
 -- A function that has been changed at p has its old value anywhere else.
 pub upd-other {ℓ} : {A : Type ℓ} (f : ℕ → A) (p : ℕ) (x : A) (q : ℕ) → (q ≡ p → ⊥) → upd f p x q ≡ f q
 upd-other f p x q n = ap (λ (b : Bool). cond b x (f q)) (eqb-no q p .1 n)
+
+-- What waits after a test of r waited before, or is r.
+pub push-in : (free : ℕ → Bool) (next : ℕ → ℕ) (ask : ℕ → Bool) (r : ℕ) (w : Waiting) (q : ℕ) → q ∈ push free next ask r w .queue → (q ∈ w .queue) ⊎ (q ≡ r)
+push-in free next ask r w q m =
+    elim (tell true (free (w .marks r) && ask r)) [
+      | inr e ↦ inl (subst (λ (b : Bool). q ∈ cond b (wait next r w) w .queue) e m)
+      | inl e ↦
+          let a = times-in q (subst (λ (b : Bool). q ∈ cond b (wait next r w) w .queue) e m) in
+          let c = times-append q (w .queue) (r ∷ []) in
+          elim (tell true (eqb r q)) [
+            | inl h ↦ inr (sym (eqb-out r q h))
+            | inr h ↦ let b : bit (eqb r q) ≡ 0 = ap bit h in inl (times-out q (w .queue) (omega arith))
+          ]
+    ]
 
 module _ (k : Plan) where
   open Plan k using (bound, rule, free, next, before)
@@ -81,6 +95,7 @@ module _ {k : Plan} (m : Monotone (k .bound) (k .rule)) where
           let b : bit (eqb r p) ≡ 0 = ap bit (eqb-no r p .1 (λ y. z (sym y))) in
           let c : bit (add r x p && not (t p)) ≡ bit (x p && not (t p)) = ap (λ (y : Bool). bit (y && not (t p))) (add-other r x p z) in
           let d = s .queued p in
+          let e = times-append p (w .queue) (r ∷ []) in
           omega arith
     ];
   }
@@ -90,12 +105,13 @@ module _ {k : Plan} (m : Monotone (k .bound) (k .rule)) where
           upd-same (w .marks) r (next (w .marks r)) ∙ ap next (s .marked r ∙ cond-no (next (before r)) (before r) e)
           ∙ sym (cond-yes (next (before r)) (before r) (add-same r x))
 
-      queued-r : times r (r ∷ w .queue) ≡ bit (add r x r && not (t r))
+      queued-r : times r (w .queue ++ (r ∷ [])) ≡ bit (add r x r && not (t r))
       queued-r =
           let b : bit (eqb r r) ≡ 1 = ap bit (eqb-same r) in
           let c : bit (add r x r && not (t r)) ≡ 1 = ap bit (and-in (add-same r x) (ap not (sub-no (s .within) r e))) in
           let d : bit (x r && not (t r)) ≡ 0 = ap (λ (y : Bool). bit (y && not (t r))) e in
           let f = s .queued r in
+          let h = times-append r (w .queue) (r ∷ []) in
           omega arith
 
   -- One pair is tested.

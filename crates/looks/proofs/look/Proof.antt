@@ -1,6 +1,6 @@
 -- While settling it is asked, while shifting it is a seed. Assumes nothing.
 use borrow.Author.Needs.{needs}
-use Rattle.pairs.specs.Looks.{lookTest}
+use Rattle.laws.specs.LookTest.{lookTest}
 use Rattle.looks.proofs.look.Statement.{statement}
 use Rattle.looks.proofs.look.Tie as tie
 
