@@ -1,0 +1,4 @@
+pub mod Chains
+pub mod ChainLaws
+pub mod ChainWalks
+pub mod Indexed
