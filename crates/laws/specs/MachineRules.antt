@@ -87,7 +87,7 @@ module _ (m : Model) (cs : List Change) (j : Judged (m .moves) cs) (ok : Sound m
       ap (λ (v : Values). settleOf F (leanings m) (leanings (changed cs m)) v p) (sym was-same) ∙ sym (update-settled m cs j ok ok′ (valueAt vs) p h)
 
   -- The lists have all that the rule says.
-  moves-answer : (c : Job) → MovesL F (leanings m) (leanings (changed cs m)) (valOf vs) c → Answers (changed cs m) t c
+  pub moves-answer : (c : Job) → MovesL F (leanings m) (leanings (changed cs m)) (valOf vs) c → Answers (changed cs m) t c
   unfolding visitsOn K.visits mark
   moves-answer c w =
       let N = pairsOf (m .sizes) in
