@@ -69,17 +69,14 @@ module _ (F : Frame) (d : Job) where
 
 -- No more wait than there are pairs.
 room-left : (t : Table) (cs : List Change) (vs : List ℕ) (s : Started (modelOf t) cs vs) {n : ℕ} (c : Job)
-    → Underway (wayOf (modelOf t) cs vs s) (leanersOf (modelOf t)) n (seekL (frame (modelOf t)) c) → c .pile .from ≤ c .pile .tail → c .pile .tail ≤ pairsOf (t .sizes) + c .pile .from
+    → Underway (wayOf (modelOf t) cs vs s) (leanersOf (modelOf t)) n (seekL (frame (modelOf t)) c) → c .pile .from < c .pile .tail → c .pile .tail ≤ pairsOf (t .sizes)
 unfolding wayOf seekL
-room-left t cs vs s c w l = elim (tell true (ltb (c .pile .from) (c .pile .tail))) [
-  | inl e ↦
-      let F = frame (modelOf t) in
-      let h = way-room {u = wayOf (modelOf t) cs vs s} w in
-      let k = ap (λ (x : Job). x .pile .tail) (cond-yes (moved (record { block = c .block; settling = c .settling; place = pairFrom F (c .block) (c .place) }) (c .pile) c)
-      (moved (seek F (phases (F .blocks - c .block) (c .settling)) (c .block) (c .settling) (c .place)) (emptied (c .pile)) c) e) in
-      omega arith
-  | inr e ↦ let h = ltb-no (c .pile .from) (c .pile .tail) .0 e in omega arith
-]
+room-left t cs vs s c w l =
+    let F = frame (modelOf t) in
+    let h = way-room {u = wayOf (modelOf t) cs vs s} w in
+    let k = ap (λ (x : Job). x .pile .tail) (cond-yes (moved (record { block = c .block; settling = c .settling; place = pairFrom F (c .block) (c .place) }) (c .pile) c)
+    (moved (seek F (phases (F .blocks - c .block) (c .settling)) (c .block) (c .settling) (c .place)) (emptied (c .pile)) c) (ltb-in (c .pile .from) (c .pile .tail) l)) in
+    omega arith
 
 module _ {t : Table} (dr : Drawn t) {cs : List Change} {vs : List ℕ} (d : Job) (o : On t cs vs d) where
   abbrev F : Frame
@@ -105,7 +102,7 @@ module _ {t : Table} (dr : Drawn t) {cs : List Change} {vs : List ℕ} (d : Job)
   on-queue = let e = ap length (seek-queue F d) in let h = o .under .formed .queue in omega arith
 
   -- No more wait than there are pairs.
-  pub on-room : d .pile .from ≤ d .pile .tail → d .pile .tail ≤ pairsOf (t .sizes) + d .pile .from
+  pub on-room : d .pile .from < d .pile .tail → d .pile .tail ≤ pairsOf (t .sizes)
   on-room l = room-left t cs vs (o .started) d (o .under) l
 
   -- The row of the variable y is next, and y is of the block.
@@ -176,8 +173,13 @@ module _ {t : Table} (dr : Drawn t) {cs : List Change} {vs : List ℕ} (d : Job)
             let e = row-tail f (nextMark (d .settling)) (d .place) (t .sizes .states) (d .pile) in
             let k = row-kept f (nextMark (d .settling)) (d .place) (t .sizes .states) (d .pile) .from in
             let kt = row-kept f (nextMark (d .settling)) (d .place) (t .sizes .states) (d .pile) .tail in
-            let h = room-left t cs vs (o .started) (lookRow f (t .sizes .states) d) looked (omega arith) in
-            omega arith
+            elim (tell true (ltb 0 (d .pile .tail + length (hits f (d .place) (t .sizes .states))))) [
+              | inl y ↦
+                  let l = ltb-out 0 (d .pile .tail + length (hits f (d .place) (t .sizes .states))) y in
+                  let h = room-left t cs vs (o .started) (lookRow f (t .sizes .states) d) looked (omega arith) in
+                  omega arith
+              | inr y ↦ let l = ltb-no 0 (d .pile .tail + length (hits f (d .place) (t .sizes .states))) .0 y in omega arith
+            ]
 
         -- What the row leaves: the next marks at these pairs, and they wait behind the others. What else the room of the queue
         -- holds does not matter.

@@ -1,3 +1,4 @@
 pub mod Started
 pub mod LeanersFew
 pub mod Course
+pub mod Phase
