@@ -1,1 +1,4 @@
 pub mod Rooms
+pub mod RowLoops
+pub mod Filled
+pub mod Queued
