@@ -2,3 +2,5 @@ pub mod Started
 pub mod LeanersFew
 pub mod Course
 pub mod Phase
+pub mod PutRow
+pub mod LookRow

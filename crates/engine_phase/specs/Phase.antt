@@ -91,12 +91,12 @@ module _ {t : Table} (dr : Drawn t) (cs : List Change) (i : ℕ) (ph : Bool) (lo
   at v = jobIn (t .sizes) i ph (y * t .sizes .states) values marks queue 0 tail (v .0) (v .1)
 
   abbrev behind : List ℕ → List ℕ → ℕ → ℕ × ℕ → Job
-  behind marks queue tail v = jobIn (t .sizes) i ph (suc y * t .sizes .states) values marks queue 0 tail (v .0) (v .1)
+  behind marks queue tail v = jobIn (t .sizes) i ph ((y + 1) * t .sizes .states) values marks queue 0 tail (v .0) (v .1)
 
   -- The row of a variable of another block is passed by.
   pub leads-pass : (wordAt t y .block ≡ i → ⊥) → Leads t cs at (behind marks queue tail)
   leads-pass other vs v o =
-      subst (λ (k : ℕ). On t cs vs (jobIn (t .sizes) i ph k values marks queue 0 tail (v .0) (v .1))) (let e : y * t .sizes .states + t .sizes .states ≡ suc y * t .sizes .states = omega arith in e)
+      subst (λ (k : ℕ). On t cs vs (jobIn (t .sizes) i ph k values marks queue 0 tail (v .0) (v .1))) (let e : y * t .sizes .states + t .sizes .states ≡ (y + 1) * t .sizes .states = omega arith in e)
       (on-pass dr (at v) o y lt low refl refl other)
 
   -- The row of a variable of the block is looked at.
@@ -104,7 +104,7 @@ module _ {t : Table} (dr : Drawn t) (cs : List Change) (i : ℕ) (ph : Bool) (lo
       → RowLeft (t .sizes) (lookTest (modelOf t) cs ph (valOf values) (marksIn marks)) ph (y * t .sizes .states) (t .sizes .states) marks queue tail marks′ queue′ tail′
       → Leads t cs at (behind marks′ queue′ tail′)
   leads-row own marks′ queue′ tail′ long room left vs v o =
-      subst (λ (k : ℕ). On t cs vs (jobIn (t .sizes) i ph k values marks′ queue′ 0 tail′ (v .0) (v .1))) (let e : y * t .sizes .states + t .sizes .states ≡ suc y * t .sizes .states = omega arith in e)
+      subst (λ (k : ℕ). On t cs vs (jobIn (t .sizes) i ph k values marks′ queue′ 0 tail′ (v .0) (v .1))) (let e : y * t .sizes .states + t .sizes .states ≡ (y + 1) * t .sizes .states = omega arith in e)
       (on-row dr (at v) o y lt low refl refl own (lookTest (modelOf t) cs ph (valOf values) (marksIn marks)) (λ s h. refl) marks′ (map (waiter (t .sizes)) queue′) tail′
       (left .marks-are) (left .tail-is) (let e = length-map queue′ (waiter (t .sizes)) in omega arith) (left .waits))
 
@@ -153,14 +153,15 @@ module _ {t : Table} (dr : Drawn t) (cs : List Change) (i : ℕ) (ph : Bool) (lo
       → pileIn (t .sizes) marks′ queue′ (suc front) tail′
       ≡ spreadL (free ph) (nextMark ph) (asks (frame (modelOf t)) (leanings (modelOf t)) ph (valOf values′)) (leanersOf (modelOf t) pairOf) (pileIn (t .sizes) marks queue (suc front) tail)
       → visits′ ≡ visits + length (leanersOf (modelOf t) pairOf)
-      → Leads t cs turning (λ other. jobIn (t .sizes) i ph place values′ marks′ queue′ (suc front) tail′ visits′ other)
+      → Leads t cs turning (λ other. jobIn (t .sizes) i ph place values′ marks′ queue′ (front + 1) tail′ visits′ other)
   leads-turn values′ marks′ queue′ tail′ visits′ is-values is-pile is-visits vs other o =
       let e = front-is in
       let n : length (leanersOf (modelOf t) (getD (map (waiter (t .sizes)) queue) front 0)) ≡ length (leanersOf (modelOf t) pairOf) = ap (λ (p : ℕ). length (leanersOf (modelOf t) p)) e in
-      on-turn dr (turning other) o low past waits values′ (pileIn (t .sizes) marks′ queue′ (suc front) tail′) (cond ph other visits′) (cond ph visits′ other)
+      subst (λ (k : ℕ). On t cs vs (jobIn (t .sizes) i ph place values′ marks′ queue′ k tail′ visits′ other)) (let e : suc front ≡ front + 1 = omega arith in e)
+      (on-turn dr (turning other) o low past waits values′ (pileIn (t .sizes) marks′ queue′ (suc front) tail′) (cond ph other visits′) (cond ph visits′ other)
       (is-values ∙ ap (λ (p : ℕ). set values p (turned (getD values p 0))) (sym e))
       (is-pile ∙ ap (λ (p : ℕ). spreadL (free ph) (nextMark ph) (asks (frame (modelOf t)) (leanings (modelOf t)) ph (valOf values′)) (leanersOf (modelOf t) p) (pileIn (t .sizes) marks queue (suc front) tail)) (sym e))
-      (counts (length (leanersOf (modelOf t) (getD (map (waiter (t .sizes)) queue) front 0))) ph (is-visits ∙ ap (λ (k : ℕ). visits + k) (sym n)) .0) (counts (length (leanersOf (modelOf t) (getD (map (waiter (t .sizes)) queue) front 0))) ph (is-visits ∙ ap (λ (k : ℕ). visits + k) (sym n)) .1)
+      (counts (length (leanersOf (modelOf t) (getD (map (waiter (t .sizes)) queue) front 0))) ph (is-visits ∙ ap (λ (k : ℕ). visits + k) (sym n)) .0) (counts (length (leanersOf (modelOf t) (getD (map (waiter (t .sizes)) queue) front 0))) ph (is-visits ∙ ap (λ (k : ℕ). visits + k) (sym n)) .1))
     where
       counts : (k : ℕ) (b : Bool) → visits′ ≡ visits + k → (cond b other visits′ ≡ cond b other visits + cond b 0 k) × (cond b visits′ other ≡ cond b visits other + cond b k 0)
       counts k true h = (omega arith, h)

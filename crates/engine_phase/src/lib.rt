@@ -1,1 +1,353 @@
 // One phase of one block: all its rows are looked at, then the pairs that wait turn, first come first served.
+use rules::Sizes;
+use rules::Variable;
+ghost use mathlib.Core.Path.{_≡_};
+ghost use mathlib.Core.Bool.{true, false, not, cond};
+ghost use mathlib.Core.List.{List};
+ghost use Prim.Native.Nat.{ℕ, suc, _+_, _*_, _/_, _%_, _≤_, _<_};
+ghost use lib.ListN.{length, getD, set};
+ghost use lib.Dec.{eqb};
+ghost use Rattle.lists.specs.Lists.{bit};
+ghost use Rattle.systems.specs.Machine.{asks, free, nextMark};
+ghost use Rattle.systems.specs.ListMachine.{valOf, marksIn, turned, spreadL, nextBlock};
+ghost use Rattle.systems.specs.Rows.{hits};
+ghost use Rattle.rules.specs.Limits.{most-states, most-variables};
+ghost use Rattle.rules.specs.Model.{blocksOf};
+ghost use Rattle.rules.specs.Rooms.{pairsOf};
+ghost use Rattle.rules.specs.Batch.{changesOk};
+ghost use Rattle.rules.specs.Calls.{valueAt};
+ghost use Rattle.rules.specs.Values.{leanings};
+ghost use Rattle.laws.specs.ModelSystem.{frame};
+ghost use Rattle.laws.specs.ModelLeaners.{leanersOf};
+ghost use Rattle.laws.specs.LookTest.{lookTest};
+ghost use Rattle.words.specs.Table.{tableIn, modelOf, Drawn, ownIn, pairIn, changesOf, waiter};
+ghost use Rattle.engine_index.specs.Indexed.{Indexed};
+ghost use Rattle.engine_rows.specs.Rooms.{Bits, Packed, pileIn, Tells, Told};
+ghost use Rattle.engine_phase.specs.Phase.{RowLeft, Somewhere, Leads, jobIn};
+ghost use Rattle.engine_phase.specs.PutRow.{turnsIn, Named, turnsFrom};
+
+fn settle_row(
+    sizes: Sizes,
+    labels: &[u32],
+    equations: &[u32],
+    moves: &[u32],
+    index: &[u16],
+    values: &[u8],
+    y: Variable,
+    bad: &mut [u8],
+) -> bool
+    requires { ⌜ Drawn (tableIn sizes (now labels) (now equations) (now moves)) ⌝ }
+    requires { ⌜ Indexed (tableIn sizes (now labels) (now equations) (now moves)) (now index) ⌝ }
+    requires { ⌜ (y .0 < sizes .variables) × ((length (now values) ≡ pairsOf sizes) × (length (now bad) ≡ sizes .states)) ⌝ }
+    requires { ⌜ Bits (now values) ⌝ }
+    ensures { λ r. ⌜ Tells (sizes .states) (ownIn (tableIn sizes (now (labels .entry)) (now (equations .entry)) (now (moves .entry))) (y .0)) (now (values .entry)) (y .0 * sizes .states)
+        (λ s. asks (frame (modelOf (tableIn sizes (now (labels .entry)) (now (equations .entry)) (now (moves .entry))))) (leanings (modelOf (tableIn sizes (now (labels .entry)) (now (equations .entry)) (now (moves .entry))))) true (valueAt (now (values .entry))) (pairIn sizes (y .0) s))
+        (now (bad .exit)) r ⌝ }
+{
+    true
+}
+
+fn shift_row(
+    sizes: Sizes,
+    labels: &[u32],
+    equations: &[u32],
+    moves: &[u32],
+    index: &[u16],
+    changes: &[u32],
+    values: &[u8],
+    marks: &[u8],
+    y: Variable,
+    bad: &mut [u8],
+) -> bool
+    requires { ⌜ Drawn (tableIn sizes (now labels) (now equations) (now moves)) ⌝ }
+    requires { ⌜ Indexed (tableIn sizes (now labels) (now equations) (now moves)) (now index) ⌝ }
+    requires { ⌜ changesOk sizes (changesOf (now changes)) ≡ true ⌝ }
+    requires { ⌜ (y .0 < sizes .variables) × ((length (now values) ≡ pairsOf sizes) × ((length (now marks) ≡ pairsOf sizes) × (length (now bad) ≡ sizes .states))) ⌝ }
+    requires { ⌜ Bits (now values) × ((p : ℕ) → getD (now marks) p 0 ≤ 3) ⌝ }
+    requires { ⌜ Told (tableIn sizes (now labels) (now equations) (now moves)) (now values) (now marks) (y .0) ⌝ }
+    ensures { λ r. ⌜ Tells (sizes .states) (not (ownIn (tableIn sizes (now (labels .entry)) (now (equations .entry)) (now (moves .entry))) (y .0))) (now (values .entry)) (y .0 * sizes .states)
+        (λ s. lookTest (modelOf (tableIn sizes (now (labels .entry)) (now (equations .entry)) (now (moves .entry)))) (changesOf (now (changes .entry))) false (valueAt (now (values .entry))) (marksIn (now (marks .entry))) (pairIn sizes (y .0) s))
+        (now (bad .exit)) r ⌝ }
+{
+    true
+}
+
+pub struct Spread {
+    pub tail: usize,
+    pub visits: usize,
+}
+
+fn turn(
+    sizes: Sizes,
+    labels: &[u32],
+    equations: &[u32],
+    moves: &[u32],
+    index: &[u16],
+    named: &[u8],
+    operand: &[u32],
+    values: &mut [u8],
+    marks: &mut [u8],
+    queue: &mut [u16],
+    front: usize,
+    at: Spread,
+    settling: bool,
+) -> Spread
+    requires { ⌜ Drawn (tableIn sizes (now labels) (now equations) (now moves)) ⌝ }
+    requires { ⌜ Indexed (tableIn sizes (now labels) (now equations) (now moves)) (now index) × Named (now equations) (now named) (now operand) ⌝ }
+    requires { ⌜ (length (now values) ≡ pairsOf sizes) × ((length (now marks) ≡ pairsOf sizes) × Bits (now values)) ⌝ }
+    requires { ⌜ Packed sizes (now queue) (at .tail) × (front < at .tail) ⌝ }
+    requires { ⌜ valueAt (now values) (waiter sizes (getD (now queue) front 0)) ≡ cond settling (ownIn (tableIn sizes (now labels) (now equations) (now moves)) (getD (now queue) front 0 / 1024)) (not (ownIn (tableIn sizes (now labels) (now equations) (now moves)) (getD (now queue) front 0 / 1024))) ⌝ }
+    requires { ⌜ (at .tail + length (leanersOf (modelOf (tableIn sizes (now labels) (now equations) (now moves))) (waiter sizes (getD (now queue) front 0))) < 4294967296) × (at .visits + length (leanersOf (modelOf (tableIn sizes (now labels) (now equations) (now moves))) (waiter sizes (getD (now queue) front 0))) < 4294967296) ⌝ }
+    ensures { λ r. ⌜ ((now (values .exit) ≡ set (now (values .entry)) (waiter sizes (getD (now (queue .entry)) front 0)) (turned (getD (now (values .entry)) (waiter sizes (getD (now (queue .entry)) front 0)) 0)))
+        × (pileIn sizes (now (marks .exit)) (now (queue .exit)) (suc front) (r .tail)
+        ≡ spreadL (free settling) (nextMark settling) (asks (frame (modelOf (tableIn sizes (now (labels .entry)) (now (equations .entry)) (now (moves .entry))))) (leanings (modelOf (tableIn sizes (now (labels .entry)) (now (equations .entry)) (now (moves .entry))))) settling (valOf (now (values .exit)))) (leanersOf (modelOf (tableIn sizes (now (labels .entry)) (now (equations .entry)) (now (moves .entry)))) (waiter sizes (getD (now (queue .entry)) front 0))) (pileIn sizes (now (marks .entry)) (now (queue .entry)) (suc front) (at .tail))))
+        × ((r .visits ≡ at .visits + length (leanersOf (modelOf (tableIn sizes (now (labels .entry)) (now (equations .entry)) (now (moves .entry)))) (waiter sizes (getD (now (queue .entry)) front 0)))) × Packed sizes (now (queue .exit)) (r .tail)) ⌝ }
+{
+    at
+}
+
+// The pairs of the row of y that have the value `from` and whose places are bad get their marks and wait.
+fn put_row(
+    sizes: Sizes,
+    values: &[u8],
+    marks: &mut [u8],
+    queue: &mut [u16],
+    bad: &mut [u8],
+    y: Variable,
+    tail: usize,
+    settling: bool,
+    from: u8,
+) -> usize
+    requires { ⌜ (y .0 < sizes .variables) × ((sizes .variables ≤ most-variables) × (sizes .states ≤ most-states)) ⌝ }
+    requires { ⌜ (length (now values) ≡ pairsOf sizes) × ((length (now marks) ≡ pairsOf sizes) × (length (now bad) ≡ sizes .states)) ⌝ }
+    requires { ⌜ Packed sizes (now queue) tail × (tail + length (hits (turnsIn (now values) from (now bad) (y .0 * sizes .states)) (y .0 * sizes .states) (sizes .states)) < length (now queue)) ⌝ }
+    ensures { λ r. ⌜ RowLeft sizes (turnsIn (now (values .entry)) from (now (bad .entry)) (y .0 * sizes .states)) settling (y .0 * sizes .states) (sizes .states)
+        (now (marks .entry)) (now (queue .entry)) tail (now (marks .exit)) (now (queue .exit)) r ⌝ }
+{
+    let n = sizes.states as usize;
+    let at = y.0 as usize * n;
+    let end = at + n;
+    if !engine_rows::row_turns(&values[at..end], from, bad) {
+        return tail;
+    }
+    engine_rows::row_marks(bad, settling, &mut marks[at..end]);
+    engine_rows::row_queue(bad, y, queue, tail)
+}
+
+// Whether pairs of the row of y may have to turn, and which, in this phase.
+fn tell_row(
+    sizes: Sizes,
+    labels: &[u32],
+    equations: &[u32],
+    moves: &[u32],
+    index: &[u16],
+    changes: &[u32],
+    values: &[u8],
+    marks: &[u8],
+    bad: &mut [u8],
+    y: Variable,
+    settling: bool,
+) -> bool
+    requires { ⌜ Drawn (tableIn sizes (now labels) (now equations) (now moves)) ⌝ }
+    requires { ⌜ Indexed (tableIn sizes (now labels) (now equations) (now moves)) (now index) ⌝ }
+    requires { ⌜ changesOk sizes (changesOf (now changes)) ≡ true ⌝ }
+    requires { ⌜ (y .0 < sizes .variables) × ((length (now values) ≡ pairsOf sizes) × ((length (now marks) ≡ pairsOf sizes) × (length (now bad) ≡ sizes .states))) ⌝ }
+    requires { ⌜ Bits (now values) × ((p : ℕ) → getD (now marks) p 0 ≤ 3) ⌝ }
+    requires { ⌜ (settling ≡ false → Told (tableIn sizes (now labels) (now equations) (now moves)) (now values) (now marks) (y .0)) ⌝ }
+    ensures { λ r. ⌜ Tells (sizes .states) (turnsFrom settling (ownIn (tableIn sizes (now (labels .entry)) (now (equations .entry)) (now (moves .entry))) (y .0))) (now (values .entry)) (y .0 * sizes .states)
+        (λ s. lookTest (modelOf (tableIn sizes (now (labels .entry)) (now (equations .entry)) (now (moves .entry)))) (changesOf (now (changes .entry))) settling (valueAt (now (values .entry))) (marksIn (now (marks .entry))) (pairIn sizes (y .0) s))
+        (now (bad .exit)) r ⌝ }
+{
+    if settling {
+        return settle_row(sizes, labels, equations, moves, index, values, y, bad);
+    }
+    shift_row(
+        sizes,
+        labels,
+        equations,
+        moves,
+        index,
+        changes,
+        values,
+        marks,
+        y,
+        bad,
+    )
+}
+
+// The byte of the value that pairs turn from, in a block of this kind.
+fn turns_from(kind: u8, settling: bool) -> u8
+    requires { ⌜ kind ≤ 1 ⌝ }
+    ensures { λ r. ⌜ r ≡ bit (turnsFrom settling (eqb kind 1)) ⌝ }
+{
+    if settling {
+        return kind;
+    }
+    1 - kind
+}
+
+// The row of y is looked at, if it is of the block: its pairs that must turn get their marks and wait.
+fn look_row(
+    sizes: Sizes,
+    labels: &[u32],
+    equations: &[u32],
+    moves: &[u32],
+    index: &[u16],
+    changes: &[u32],
+    values: &[u8],
+    marks: &mut [u8],
+    queue: &mut [u16],
+    bad: &mut [u8],
+    y: Variable,
+    block: usize,
+    tail: usize,
+    settling: bool,
+) -> usize
+    requires { ⌜ Drawn (tableIn sizes (now labels) (now equations) (now moves)) ⌝ }
+    requires { ⌜ Indexed (tableIn sizes (now labels) (now equations) (now moves)) (now index) × (changesOk sizes (changesOf (now changes)) ≡ true) ⌝ }
+    requires { ⌜ (y .0 < sizes .variables) × ((block < blocksOf (modelOf (tableIn sizes (now labels) (now equations) (now moves)))) × ((length (now bad) ≡ sizes .states) × (pairsOf sizes < length (now queue)))) ⌝ }
+    requires { ⌜ Packed sizes (now queue) tail ⌝ }
+    requires { ⌜ Somewhere {I = ℕ × ℕ} (tableIn sizes (now labels) (now equations) (now moves)) (changesOf (now changes)) (λ v. jobIn sizes block settling (y .0 * sizes .states) (now values) (now marks) (now queue) 0 tail (v .0) (v .1)) ⌝ }
+    ensures { λ r. ⌜ Packed sizes (now (queue .exit)) r
+        × Leads {I = ℕ × ℕ} (tableIn sizes (now (labels .entry)) (now (equations .entry)) (now (moves .entry))) (changesOf (now (changes .entry)))
+        (λ v. jobIn sizes block settling (y .0 * sizes .states) (now (values .entry)) (now (marks .entry)) (now (queue .entry)) 0 tail (v .0) (v .1))
+        (λ v. jobIn sizes block settling ((y .0 + 1) * sizes .states) (now (values .entry)) (now (marks .exit)) (now (queue .exit)) 0 r (v .0) (v .1)) ⌝ }
+{
+    let e = words::equation_in(rooms::word_at(equations, y.0 as usize));
+    if e.block as usize != block {
+        return tail;
+    }
+    if !tell_row(
+        sizes,
+        labels,
+        equations,
+        moves,
+        index,
+        changes,
+        values,
+        marks,
+        bad,
+        y,
+        settling,
+    ) {
+        return tail;
+    }
+    let from = turns_from(e.kind, settling);
+    put_row(sizes, values, marks, queue, bad, y, tail, settling, from)
+}
+
+// All rows of the block are looked at. Answers where the queue ends then.
+fn look_rows(
+    sizes: Sizes,
+    labels: &[u32],
+    equations: &[u32],
+    moves: &[u32],
+    index: &[u16],
+    changes: &[u32],
+    values: &[u8],
+    marks: &mut [u8],
+    queue: &mut [u16],
+    bad: &mut [u8],
+    block: usize,
+    settling: bool,
+) -> usize
+    requires { ⌜ Drawn (tableIn sizes (now labels) (now equations) (now moves)) ⌝ }
+    requires { ⌜ Indexed (tableIn sizes (now labels) (now equations) (now moves)) (now index) × (changesOk sizes (changesOf (now changes)) ≡ true) ⌝ }
+    requires { ⌜ (block < blocksOf (modelOf (tableIn sizes (now labels) (now equations) (now moves)))) × ((length (now bad) ≡ sizes .states) × (pairsOf sizes < length (now queue))) ⌝ }
+    requires { ⌜ Somewhere {I = ℕ × ℕ} (tableIn sizes (now labels) (now equations) (now moves)) (changesOf (now changes)) (λ v. jobIn sizes block settling 0 (now values) (now marks) (now queue) 0 0 (v .0) (v .1)) ⌝ }
+    ensures { λ r. ⌜ Packed sizes (now (queue .exit)) r
+        × Leads {I = ℕ × ℕ} (tableIn sizes (now (labels .entry)) (now (equations .entry)) (now (moves .entry))) (changesOf (now (changes .entry)))
+        (λ v. jobIn sizes block settling 0 (now (values .entry)) (now (marks .entry)) (now (queue .entry)) 0 0 (v .0) (v .1))
+        (λ v. jobIn sizes block settling (pairsOf sizes) (now (values .entry)) (now (marks .exit)) (now (queue .exit)) 0 r (v .0) (v .1)) ⌝ }
+{
+    let variables = sizes.variables as usize;
+    let mut tail: usize = 0;
+    let mut y: usize = 0;
+    while y < variables {
+        let x = y as u8;
+        tail = look_row(
+            sizes,
+            labels,
+            equations,
+            moves,
+            index,
+            changes,
+            values,
+            marks,
+            queue,
+            bad,
+            Variable(x),
+            block,
+            tail,
+            settling,
+        );
+        y = y + 1;
+    }
+    tail
+}
+
+// One phase of the block: all its rows are looked at, and then each pair that waits turns. Answers the visits of the phase's kind.
+pub fn phase(
+    sizes: Sizes,
+    labels: &[u32],
+    equations: &[u32],
+    moves: &[u32],
+    index: &[u16],
+    named: &[u8],
+    operand: &[u32],
+    changes: &[u32],
+    values: &mut [u8],
+    marks: &mut [u8],
+    queue: &mut [u16],
+    bad: &mut [u8],
+    block: usize,
+    visits: usize,
+    settling: bool,
+) -> usize
+    requires { ⌜ Drawn (tableIn sizes (now labels) (now equations) (now moves)) ⌝ }
+    requires { ⌜ (Indexed (tableIn sizes (now labels) (now equations) (now moves)) (now index) × Named (now equations) (now named) (now operand)) × (changesOk sizes (changesOf (now changes)) ≡ true) ⌝ }
+    requires { ⌜ (block < blocksOf (modelOf (tableIn sizes (now labels) (now equations) (now moves)))) × ((length (now bad) ≡ sizes .states) × (pairsOf sizes < length (now queue))) ⌝ }
+    requires { ⌜ Somewhere {I = ℕ} (tableIn sizes (now labels) (now equations) (now moves)) (changesOf (now changes)) (λ other. jobIn sizes block settling 0 (now values) (now marks) (now queue) 0 0 visits other) ⌝ }
+    ensures { λ r. ⌜ Leads {I = ℕ} (tableIn sizes (now (labels .entry)) (now (equations .entry)) (now (moves .entry))) (changesOf (now (changes .entry)))
+        (λ other. jobIn sizes block settling 0 (now (values .entry)) (now (marks .entry)) (now (queue .entry)) 0 0 visits other)
+        (λ other. jobIn sizes (nextBlock settling block) (not settling) 0 (now (values .exit)) (now (marks .exit)) (now (queue .exit)) 0 0 other r) ⌝ }
+{
+    let tail = look_rows(
+        sizes,
+        labels,
+        equations,
+        moves,
+        index,
+        changes,
+        values,
+        marks,
+        queue,
+        bad,
+        block,
+        settling,
+    );
+    let mut at = Spread {
+        tail: tail,
+        visits: visits,
+    };
+    let mut front: usize = 0;
+    while front < at.tail {
+        at = turn(
+            sizes,
+            labels,
+            equations,
+            moves,
+            index,
+            named,
+            operand,
+            values,
+            marks,
+            queue,
+            front,
+            at,
+            settling,
+        );
+        front = front + 1;
+    }
+    at.visits
+}

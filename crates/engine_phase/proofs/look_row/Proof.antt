@@ -1,0 +1,203 @@
+-- A row of another block is passed by; one of the block is told, and put where pairs must turn. Assumes nothing.
+use mathlib.Core.Path.{_≡_, refl, sym, ap, _∙_}
+use mathlib.Core.Bool.{true, not}
+use Prim.Native.Nat.{ℕ}
+use lib.Dec.{eqb}
+use Rattle.lists.specs.Lists.{bit}
+use Rattle.lists.specs.Tests.{not-out, not-not}
+use Rattle.rules.specs.Session.{unword}
+use Rattle.words.specs.Table.{tableIn, wordAt, changesOf}
+use Rattle.words.specs.Limits.{limits}
+use Rattle.engine_phase.specs.Phase.{leads-pass}
+use Rattle.engine_phase.specs.PutRow.{turnsFrom}
+use Rattle.engine_phase.specs.LookRow.{look-vals, look-marks, look-bits, look-small, look-told, look-none, look-room, look-left}
+use borrow.Author.Needs.{needs}
+use Rattle.engine_phase.proofs.look_row.Statement.{statement}
+use Rattle.engine_phase.proofs.look_row.Tie as tie
+use Rattle.engine_phase.proofs.look_row.Reads as reads
+use Rattle.engine_phase.proofs.look_row.Lts as lts
+use Rattle.engine_phase.proofs.put_row.Reads as put-row-reads
+use Rattle.engine_phase.proofs.tell_row.Reads as tell-row-reads
+use Rattle.engine_phase.proofs.turns_from.Reads as turns-from-reads
+use Rattle.rooms.proofs.word_at.Reads as word-at-reads
+use Rattle.words.proofs.equation_in.Reads as equation-in-reads
+
+cast-word-at : tie.Need-cast-word-at
+cast-word-at c = search needs
+
+word-at-requires : tie.Need-word-at-requires
+word-at-requires c κs = search needs
+
+equation-in-requires : tie.Need-equation-in-requires
+equation-in-requires c κs = search needs
+
+cast-if1 : tie.Need-cast-if1
+cast-if1 c = search needs
+
+returns : tie.Need-returns
+returns c =
+    let at-equation = c .before .before in
+    let at-word = at-equation .before in
+    let at-start = at-word .before .before .before .before .before .before .before .before .before .before .before in
+    let a = at-start .args in
+    let t = tableIn (a .sizes) (a .labels .now) (a .equations .now) (a .moves .now) in
+    let cs = changesOf (a .changes .now) in
+    let pre = at-start .pre in
+    let lt = pre .1 .1 .0 .0 in
+    let low = pre .1 .1 .0 .1 .0 in
+    let room = pre .1 .1 .0 .1 .1 .1 in
+    let is-block : at-equation .equation-in .result .block ≡ wordAt t (a .y .0) .block = at-equation .equation-in .ensures .is-block ∙ ap (λ (w : ℕ). unword w .block) (at-word .word-at .ensures) in
+    (pre .1 .1 .1 .0, leads-pass (pre .0) cs (a .block) (a .settling) low (a .y .0) lt (a .values .now) (a .marks .now) (a .queue .now) (a .tail) (λ e. c .if1 .taken (is-block ∙ e)))
+
+tell-row-requires : tie.Need-tell-row-requires
+tell-row-requires c κs =
+    let at-equation = c .before .before .before .before in
+    let at-word = at-equation .before in
+    let at-start = at-word .before .before .before .before .before .before .before .before .before .before .before in
+    let a = at-start .args in
+    let t = tableIn (a .sizes) (a .labels .now) (a .equations .now) (a .moves .now) in
+    let cs = changesOf (a .changes .now) in
+    let pre = at-start .pre in
+    let lt = pre .1 .1 .0 .0 in
+    let low = pre .1 .1 .0 .1 .0 in
+    let room = pre .1 .1 .0 .1 .1 .1 in
+    let is-block : at-equation .equation-in .result .block ≡ wordAt t (a .y .0) .block = at-equation .equation-in .ensures .is-block ∙ ap (λ (w : ℕ). unword w .block) (at-word .word-at .ensures) in
+    let own : wordAt t (a .y .0) .block ≡ a .block = sym is-block ∙ c .before .before .if1 .left in
+    let sw = pre .1 .1 .1 .1 in
+    let look = a .values .now in (
+      pre .0,
+      (
+        pre .1 .0 .0,
+        (
+          pre .1 .0 .1,
+          (
+            (
+              lt,
+              (
+                look-vals (pre .0) cs (a .block) (a .settling) low (a .y .0) lt own look (a .marks .now) (a .queue .now) (a .tail) room sw,
+                (look-marks (pre .0) cs (a .block) (a .settling) low (a .y .0) lt own look (a .marks .now) (a .queue .now) (a .tail) room sw, pre .1 .1 .0 .1 .1 .0),
+              ),
+            ),
+            (
+              (
+                look-bits (pre .0) cs (a .block) (a .settling) low (a .y .0) lt own look (a .marks .now) (a .queue .now) (a .tail) room sw,
+                look-small (pre .0) cs (a .block) (a .settling) low (a .y .0) lt own look (a .marks .now) (a .queue .now) (a .tail) room sw,
+              ),
+              look-told (pre .0) cs (a .block) (a .settling) low (a .y .0) lt own look (a .marks .now) (a .queue .now) (a .tail) room sw,
+            ),
+          ),
+        ),
+      ),
+    )
+
+same-length : tie.Need-same-length
+same-length c = search needs
+
+same-length-2 : tie.Need-same-length-2
+same-length-2 c = search needs
+
+returns-2 : tie.Need-returns-2
+returns-2 c =
+    let at-equation = c .before .before .before .before .before .before .before .before in
+    let at-word = at-equation .before in
+    let at-start = at-word .before .before .before .before .before .before .before .before .before .before .before in
+    let a = at-start .args in
+    let t = tableIn (a .sizes) (a .labels .now) (a .equations .now) (a .moves .now) in
+    let cs = changesOf (a .changes .now) in
+    let pre = at-start .pre in
+    let lt = pre .1 .1 .0 .0 in
+    let low = pre .1 .1 .0 .1 .0 in
+    let room = pre .1 .1 .0 .1 .1 .1 in
+    let is-block : at-equation .equation-in .result .block ≡ wordAt t (a .y .0) .block = at-equation .equation-in .ensures .is-block ∙ ap (λ (w : ℕ). unword w .block) (at-word .word-at .ensures) in
+    let own : wordAt t (a .y .0) .block ≡ a .block = sym is-block ∙ c .before .before .before .before .before .before .if1 .left in
+    let at-tell = c .before .before .before in
+    look-none (pre .0) cs (a .block) (a .settling) low (a .y .0) lt own (a .values .now) (a .marks .now) (a .queue .now) (a .tail) room (pre .1 .1 .1 .1) _ _ (at-tell .tell-row .ensures)
+    (not-out (at-tell .tell-row .result) (c .if2 .taken)) (pre .1 .1 .1 .0)
+
+turns-from-requires : tie.Need-turns-from-requires
+turns-from-requires c κs = search needs
+
+put-row-requires : tie.Need-put-row-requires
+put-row-requires c κs =
+    let at-equation = c .before .before .before .before .before .before .before .before .before .before .before .before in
+    let at-word = at-equation .before in
+    let at-start = at-word .before .before .before .before .before .before .before .before .before .before .before in
+    let a = at-start .args in
+    let t = tableIn (a .sizes) (a .labels .now) (a .equations .now) (a .moves .now) in
+    let cs = changesOf (a .changes .now) in
+    let pre = at-start .pre in
+    let lt = pre .1 .1 .0 .0 in
+    let low = pre .1 .1 .0 .1 .0 in
+    let room = pre .1 .1 .0 .1 .1 .1 in
+    let is-block : at-equation .equation-in .result .block ≡ wordAt t (a .y .0) .block = at-equation .equation-in .ensures .is-block ∙ ap (λ (w : ℕ). unword w .block) (at-word .word-at .ensures) in
+    let own : wordAt t (a .y .0) .block ≡ a .block = sym is-block ∙ c .before .before .before .before .before .before .before .before .before .before .if1 .left in
+    let at-from = c .before .before .before in
+    let at-tell = at-from .before .before .before .before in
+    let told = at-tell .tell-row .ensures in
+    let is-from = at-from .turns-from .ensures ∙ ap (λ (k : ℕ). bit (turnsFrom (a .settling) (eqb k 1))) (at-equation .equation-in .ensures .is-kind ∙ ap (λ (w : ℕ). unword w .kind) (at-word .word-at .ensures)) in
+    let yes : at-tell .tell-row .result ≡ true = sym (not-not (at-tell .tell-row .result)) ∙ ap not (at-from .before .if2 .left) in
+    let sw = pre .1 .1 .1 .1 in
+    let l = limits (pre .0) in (
+      (lt, (l .1 .1 .0, l .0 .1)),
+      (
+        (
+          look-vals (pre .0) cs (a .block) (a .settling) low (a .y .0) lt own (a .values .now) (a .marks .now) (a .queue .now) (a .tail) room sw,
+          (look-marks (pre .0) cs (a .block) (a .settling) low (a .y .0) lt own (a .values .now) (a .marks .now) (a .queue .now) (a .tail) room sw, told .long),
+        ),
+        (pre .1 .1 .1 .0, look-room (pre .0) cs (a .block) (a .settling) low (a .y .0) lt own (a .values .now) (a .marks .now) (a .queue .now) (a .tail) room sw _ _ told _ is-from yes),
+      ),
+    )
+
+same-length-3 : tie.Need-same-length-3
+same-length-3 c = search needs
+
+same-length-4 : tie.Need-same-length-4
+same-length-4 c = search needs
+
+same-length-5 : tie.Need-same-length-5
+same-length-5 c = search needs
+
+returns-3 : tie.Need-returns-3
+returns-3 c =
+    let at-equation = c .before .before .before .before .before .before .before .before .before .before .before .before .before .before .before .before .before .before .before in
+    let at-word = at-equation .before in
+    let at-start = at-word .before .before .before .before .before .before .before .before .before .before .before in
+    let a = at-start .args in
+    let t = tableIn (a .sizes) (a .labels .now) (a .equations .now) (a .moves .now) in
+    let cs = changesOf (a .changes .now) in
+    let pre = at-start .pre in
+    let lt = pre .1 .1 .0 .0 in
+    let low = pre .1 .1 .0 .1 .0 in
+    let room = pre .1 .1 .0 .1 .1 .1 in
+    let is-block : at-equation .equation-in .result .block ≡ wordAt t (a .y .0) .block = at-equation .equation-in .ensures .is-block ∙ ap (λ (w : ℕ). unword w .block) (at-word .word-at .ensures) in
+    let own : wordAt t (a .y .0) .block ≡ a .block = sym is-block ∙ c .before .before .before .before .before .before .before .before .before .before .before .before .before .before .before .before .before .if1 .left in
+    let at-from = c .before .before .before .before .before .before .before .before .before .before in
+    let at-tell = at-from .before .before .before .before in
+    let told = at-tell .tell-row .ensures in
+    let is-from = at-from .turns-from .ensures ∙ ap (λ (k : ℕ). bit (turnsFrom (a .settling) (eqb k 1))) (at-equation .equation-in .ensures .is-kind ∙ ap (λ (w : ℕ). unword w .kind) (at-word .word-at .ensures)) in
+    let yes : at-tell .tell-row .result ≡ true = sym (not-not (at-tell .tell-row .result)) ∙ ap not (at-from .before .if2 .left) in
+    let sw = pre .1 .1 .1 .1 in
+    let l = limits (pre .0) in
+    let at-put = c .before .before .before .before .before .before in
+    look-left (pre .0) cs (a .block) (a .settling) low (a .y .0) lt own (a .values .now) (a .marks .now) (a .queue .now) (a .tail) room sw _ _ told _ is-from yes _ _ _
+    (at-put .put-row .kept .1 .1 .1 .0) (at-put .put-row .ensures)
+
+pub look-row-spec : {M : Type 1} → statement M
+look-row-spec =
+    tie.close
+    (tie.spec
+    cast-word-at
+    word-at-requires
+    equation-in-requires
+    cast-if1
+    returns
+    tell-row-requires
+    same-length
+    same-length-2
+    returns-2
+    turns-from-requires
+    put-row-requires
+    same-length-3
+    same-length-4
+    same-length-5
+    returns-3)

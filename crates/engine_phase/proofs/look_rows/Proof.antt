@@ -1,0 +1,107 @@
+-- Row after row: what the rows before y leave stays on the course, and y rows are behind. The rows left are counted down. Assumes nothing.
+use mathlib.Core.Path.{_≡_, refl, _∙_, subst}
+use Prim.Native.Nat.{ℕ, _-_, _*_, _≤_}
+use native.Mathlib.Omega.{arith}
+use lib.ListN.{length}
+use Rattle.words.specs.Table.{tableIn, changesOf}
+use Rattle.engine_rows.specs.Rooms.{Packed}
+use Rattle.engine_phase.specs.Course.{On}
+use Rattle.engine_phase.specs.Phase.{Leads, leads-on, jobIn}
+use borrow.Author.Needs.{needs}
+use Rattle.engine_phase.proofs.look_rows.Statement.{statement}
+use Rattle.engine_phase.proofs.look_rows.Tie as tie
+use Rattle.engine_phase.proofs.look_rows.Reads as reads
+use Rattle.engine_phase.proofs.look_rows.Lts as lts
+use Rattle.engine_phase.proofs.look_row.Reads as look-row-reads
+
+abbrev Inv-loop : tie.InvT-loop
+Inv-loop sizes labels equations moves index changes values marks₀ queue₀ bad₀ block settling variables tail₀ y₀ marks queue bad tail y =
+    ((y ≤ sizes .variables) × ((length marks ≡ length marks₀) × ((length queue ≡ length queue₀) × (length bad ≡ length bad₀)))) × (Packed sizes queue tail
+    × Leads {I = ℕ × ℕ} (tableIn sizes labels equations moves) (changesOf changes) (λ v. jobIn sizes block settling 0 values marks₀ queue₀ 0 0 (v .0) (v .1))
+    (λ v. jobIn sizes block settling (y * sizes .states) values marks queue 0 tail (v .0) (v .1)))
+
+abbrev μ-loop : tie.MeasureT-loop
+μ-loop sizes labels equations moves index changes values marks₀ queue₀ bad₀ block settling variables tail₀ y₀ marks queue bad tail y =
+    sizes .variables - y
+
+cast-variables : tie.Need-cast-variables Inv-loop μ-loop
+cast-variables c = search needs
+
+loop-holds : tie.Need-loop-holds Inv-loop μ-loop
+loop-holds c =
+    let a = c .before .before .before .before .before .before .before .before .before .before .args in (
+      (omega arith, (refl, (refl, refl))),
+      (
+        (λ i h. absurd (omega arith)),
+        λ vs v o.
+            subst (λ (k : ℕ). On (tableIn (a .sizes) (a .labels .now) (a .equations .now) (a .moves .now)) (changesOf (a .changes .now)) vs (jobIn (a .sizes) (a .block) (a .settling) k (a .values .now) (a .marks .now) (a .queue .now) 0 0 (v .0) (v .1))) (let e : 0 ≡ 0 * a .sizes .states = omega arith in e) o,
+      ),
+    )
+
+cast-x : tie.Need-cast-x Inv-loop μ-loop
+cast-x c = search needs
+
+look-row-requires : tie.Need-look-row-requires Inv-loop μ-loop
+look-row-requires c κs =
+    let at-loop = c .before .before .before .before in
+    let at-start = at-loop .before .before .before .before .before .before .before .before .before .before .before in
+    let pre = at-start .pre in
+    let inv = at-loop .loop .inv in
+    (pre .0, (pre .1 .0, ((c .before .before .before .loop-test .taken, (pre .1 .1 .0 .0, (inv .0 .1 .1 .1 ∙ pre .1 .1 .0 .1 .0, omega (arith, inv .0 .1 .1 .0, pre .1 .1 .0 .1 .1)))), (inv .1 .0, leads-on (inv .1 .1) (pre .1 .1 .1)))))
+
+add-y : tie.Need-add-y Inv-loop μ-loop
+add-y c = search needs
+
+loop-less : tie.Need-loop-less Inv-loop μ-loop
+loop-less c = search needs
+
+loop-again : tie.Need-loop-again Inv-loop μ-loop
+loop-again c =
+    let at-row = c .before .before .before .before .before .before in
+    let at-loop = at-row .before .before .before .before .before in
+    let inv = at-loop .loop .inv in
+    let row = at-row .look-row in (
+      (omega (arith, at-row .before .before .before .before .loop-test .taken), (row .kept .1 .1 .1 .1 .1 .1 .1 .0 ∙ inv .0 .1 .0, (row .kept .1 .1 .1 .1 .1 .1 .1 .1 .0 ∙ inv .0 .1 .1 .0, row .kept .1 .1 .1 .1 .1 .1 .1 .1 .1 .0 ∙ inv .0 .1 .1 .1))),
+      (
+        row .ensures .0,
+        λ vs v o. row .ensures .1 vs v (inv .1 .1 vs v o),
+      ),
+    )
+
+same-length : tie.Need-same-length Inv-loop μ-loop
+same-length c = c .before .loop .inv .0 .1 .0
+
+same-length-2 : tie.Need-same-length-2 Inv-loop μ-loop
+same-length-2 c = c .before .loop .inv .0 .1 .1 .0
+
+same-length-3 : tie.Need-same-length-3 Inv-loop μ-loop
+same-length-3 c = c .before .loop .inv .0 .1 .1 .1
+
+returns : tie.Need-returns Inv-loop μ-loop
+returns c =
+    let at-loop = c .before in
+    let a = at-loop .before .before .before .before .before .before .before .before .before .before .before .args in
+    let inv = at-loop .loop .inv in
+    let e : at-loop .loop .y ≡ a .sizes .variables = omega (arith, c .loop-test .left, inv .0 .0) in (
+      inv .1 .0,
+      λ vs v o. subst (λ (k : ℕ). On (tableIn (a .sizes) (a .labels .now) (a .equations .now) (a .moves .now)) (changesOf (a .changes .now)) vs
+          (jobIn (a .sizes) (a .block) (a .settling) (k * a .sizes .states) (a .values .now) (at-loop .loop .marks) (at-loop .loop .queue) 0 (at-loop .loop .tail) (v .0) (v .1))) e (inv .1 .1 vs v o),
+    )
+
+pub look-rows-spec : {M : Type 1} → statement M
+look-rows-spec =
+    tie.close
+    (tie.spec
+    Inv-loop
+    μ-loop
+    cast-variables
+    loop-holds
+    cast-x
+    look-row-requires
+    add-y
+    loop-less
+    loop-again
+    same-length
+    same-length-2
+    same-length-3
+    returns)

@@ -1,0 +1,180 @@
+-- The rows are looked at, then pairs turn from the front of the queue: the lists stay on the course, and no more turn than there are
+-- pairs. Assumes nothing.
+use mathlib.Core.Path.{_≡_, refl, _∙_}
+use Prim.Native.Nat.{ℕ, _-_}
+use native.Mathlib.Omega.{arith}
+use lib.ListN.{length}
+use Rattle.rules.specs.Rooms.{pairsOf}
+use Rattle.words.specs.Table.{tableIn, changesOf}
+use Rattle.words.specs.Limits.{pairs-few}
+use Rattle.engine_rows.specs.Rooms.{Packed}
+use Rattle.engine_phase.specs.Course.{on-vals, on-marks, on-bits, on-room}
+use Rattle.engine_phase.specs.Phase.{Leads, leads-on, leads-over, leads-turn, front-value, front-few, jobIn}
+use borrow.Author.Needs.{needs}
+use Rattle.engine_phase.proofs.phase.Statement.{statement}
+use Rattle.engine_phase.proofs.phase.Tie as tie
+use Rattle.engine_phase.proofs.phase.Reads as reads
+use Rattle.engine_phase.proofs.phase.Lts as lts
+use Rattle.engine_phase.proofs.look_rows.Reads as look-rows-reads
+use Rattle.engine_phase.proofs.turn.Reads as turn-reads
+
+abbrev Inv-loop : tie.InvT-loop
+Inv-loop sizes labels equations moves index named operand changes values₀ marks₀ queue₀ bad block visits settling tail at₀ front₀ values marks queue at front =
+    ((length values ≡ length values₀) × ((length marks ≡ length marks₀) × (length queue ≡ length queue₀))) × (Packed sizes queue (at .tail)
+    × Leads {I = ℕ} (tableIn sizes labels equations moves) (changesOf changes) (λ other. jobIn sizes block settling (pairsOf sizes) values₀ marks₀ queue₀ 0 tail visits other)
+    (λ other. jobIn sizes block settling (pairsOf sizes) values marks queue front (at .tail) (at .visits) other))
+
+abbrev μ-loop : tie.MeasureT-loop
+μ-loop sizes labels equations moves index named operand changes values₀ marks₀ queue₀ bad block visits settling tail at₀ front₀ values marks queue at front =
+    pairsOf sizes - front
+
+look-rows-requires : tie.Need-look-rows-requires Inv-loop μ-loop
+look-rows-requires c κs =
+    let at-start = c .before .before .before .before .before .before .before .before .before .before .before .before .before .before .before in
+    let pre = at-start .pre in
+    let sw = pre .1 .1 .1 in
+    (pre .0, ((pre .1 .0 .0 .0, pre .1 .0 .1), (pre .1 .1 .0, record { start = sw .start; index = (at-start .args .visits, sw .index); on = sw .on })))
+
+loop-holds : tie.Need-loop-holds Inv-loop μ-loop
+loop-holds c = ((refl, (refl, refl)), (c .before .before .before .before .before .before .look-rows .ensures .0, λ vs other o. o))
+
+turn-requires : tie.Need-turn-requires Inv-loop μ-loop
+turn-requires c κs =
+    let at-loop = c .before .before .before .before .before in
+    let at-rows = at-loop .before .before .before .before .before .before .before in
+    let at-start = at-rows .before .before .before .before .before .before .before .before .before .before .before .before .before .before .before .before in
+    let a = at-start .args in
+    let t = tableIn (a .sizes) (a .labels .now) (a .equations .now) (a .moves .now) in
+    let cs = changesOf (a .changes .now) in
+    let pre = at-start .pre in
+    let low = pre .1 .1 .0 .0 in
+    let l = at-loop .loop in
+    let inv = l .inv in
+    let waits = c .before .before .before .if1 .taken in
+    let sw = leads-on (inv .1 .1) (record { start = pre .1 .1 .1 .start; index = pre .1 .1 .1 .index; on = at-rows .look-rows .ensures .1 (pre .1 .1 .1 .start) (a .visits, pre .1 .1 .1 .index) (pre .1 .1 .1 .on) }) in
+    let d = jobIn (a .sizes) (a .block) (a .settling) (pairsOf (a .sizes)) (l .values) (l .marks) (l .queue) (l .front) (l .at .tail) (l .at .visits) (sw .index) in (
+      pre .0,
+      (
+        (pre .1 .0 .0 .0, pre .1 .0 .0 .1),
+        (
+          (on-vals (pre .0) d (sw .on), (on-marks (pre .0) d (sw .on), on-bits (pre .0) d (sw .on))),
+          (
+            (inv .1 .0, waits),
+            (
+              front-value (pre .0) cs (a .block) (a .settling) low (pairsOf (a .sizes)) (omega arith) (l .values) (l .marks) (l .queue) (l .front) (l .at .tail) (l .at .visits) waits (inv .1 .0) sw,
+              front-few (pre .0) cs (a .block) (a .settling) low (pairsOf (a .sizes)) (omega arith) (l .values) (l .marks) (l .queue) (l .front) (l .at .tail) (l .at .visits) waits sw,
+            ),
+          ),
+        ),
+      ),
+    )
+
+add-front : tie.Need-add-front Inv-loop μ-loop
+add-front c =
+    let at-turn = c .before .before .before .before .before .before in
+    let at-loop = at-turn .before .before .before .before .before .before in
+    let at-rows = at-loop .before .before .before .before .before .before .before in
+    let at-start = at-rows .before .before .before .before .before .before .before .before .before .before .before .before .before .before .before .before in
+    let a = at-start .args in
+    let t = tableIn (a .sizes) (a .labels .now) (a .equations .now) (a .moves .now) in
+    let cs = changesOf (a .changes .now) in
+    let pre = at-start .pre in
+    let low = pre .1 .1 .0 .0 in
+    let l = at-loop .loop in
+    let inv = l .inv in
+    let waits = at-turn .before .before .before .before .if1 .taken in
+    let sw = leads-on (inv .1 .1) (record { start = pre .1 .1 .1 .start; index = pre .1 .1 .1 .index; on = at-rows .look-rows .ensures .1 (pre .1 .1 .1 .start) (a .visits, pre .1 .1 .1 .index) (pre .1 .1 .1 .on) }) in
+    let d = jobIn (a .sizes) (a .block) (a .settling) (pairsOf (a .sizes)) (l .values) (l .marks) (l .queue) (l .front) (l .at .tail) (l .at .visits) (sw .index) in
+    let room = on-room (pre .0) d (sw .on) waits in
+    record { fits = omega (arith, pairs-few (pre .0)) }
+
+loop-less : tie.Need-loop-less Inv-loop μ-loop
+loop-less c =
+    let at-turn = c .before .before .before .before .before .before in
+    let at-loop = at-turn .before .before .before .before .before .before in
+    let at-rows = at-loop .before .before .before .before .before .before .before in
+    let at-start = at-rows .before .before .before .before .before .before .before .before .before .before .before .before .before .before .before .before in
+    let a = at-start .args in
+    let t = tableIn (a .sizes) (a .labels .now) (a .equations .now) (a .moves .now) in
+    let cs = changesOf (a .changes .now) in
+    let pre = at-start .pre in
+    let low = pre .1 .1 .0 .0 in
+    let l = at-loop .loop in
+    let inv = l .inv in
+    let waits = at-turn .before .before .before .before .if1 .taken in
+    let sw = leads-on (inv .1 .1) (record { start = pre .1 .1 .1 .start; index = pre .1 .1 .1 .index; on = at-rows .look-rows .ensures .1 (pre .1 .1 .1 .start) (a .visits, pre .1 .1 .1 .index) (pre .1 .1 .1 .on) }) in
+    let d = jobIn (a .sizes) (a .block) (a .settling) (pairsOf (a .sizes)) (l .values) (l .marks) (l .queue) (l .front) (l .at .tail) (l .at .visits) (sw .index) in
+    let room = on-room (pre .0) d (sw .on) waits in
+    omega arith
+
+loop-again : tie.Need-loop-again Inv-loop μ-loop
+loop-again c =
+    let at-turn = c .before .before .before .before .before .before in
+    let at-loop = at-turn .before .before .before .before .before .before in
+    let at-rows = at-loop .before .before .before .before .before .before .before in
+    let at-start = at-rows .before .before .before .before .before .before .before .before .before .before .before .before .before .before .before .before in
+    let a = at-start .args in
+    let t = tableIn (a .sizes) (a .labels .now) (a .equations .now) (a .moves .now) in
+    let cs = changesOf (a .changes .now) in
+    let pre = at-start .pre in
+    let low = pre .1 .1 .0 .0 in
+    let l = at-loop .loop in
+    let inv = l .inv in
+    let waits = at-turn .before .before .before .before .if1 .taken in
+    let sw = leads-on (inv .1 .1) (record { start = pre .1 .1 .1 .start; index = pre .1 .1 .1 .index; on = at-rows .look-rows .ensures .1 (pre .1 .1 .1 .start) (a .visits, pre .1 .1 .1 .index) (pre .1 .1 .1 .on) }) in
+    let d = jobIn (a .sizes) (a .block) (a .settling) (pairsOf (a .sizes)) (l .values) (l .marks) (l .queue) (l .front) (l .at .tail) (l .at .visits) (sw .index) in
+    let room = on-room (pre .0) d (sw .on) waits in
+    let made = at-turn .turn .ensures in
+    let kept = at-turn .turn .kept in (
+      (kept .1 .1 .1 .1 .1 .1 .1 .0 ∙ inv .0 .0, (kept .1 .1 .1 .1 .1 .1 .1 .1 .0 ∙ inv .0 .1 .0, kept .1 .1 .1 .1 .1 .1 .1 .1 .1 .0 ∙ inv .0 .1 .1)),
+      (
+        made .1 .1,
+        λ vs other o.
+            leads-turn (pre .0) cs (a .block) (a .settling) low (pairsOf (a .sizes)) (omega arith) (l .values) (l .marks) (l .queue) (l .front) (l .at .tail) (l .at .visits) waits
+            (at-turn .turn .last .1 .1 .1 .1 .1 .1 .1 .0) (at-turn .turn .last .1 .1 .1 .1 .1 .1 .1 .1 .0) (at-turn .turn .last .1 .1 .1 .1 .1 .1 .1 .1 .1 .0) (at-turn .turn .result .tail) (at-turn .turn .result .visits) (made .0 .0) (made .0 .1) (made .1 .0) vs other (inv .1 .1 vs other o),
+      ),
+    )
+
+same-length : tie.Need-same-length Inv-loop μ-loop
+same-length c = c .before .before .loop .inv .0 .0
+
+same-length-2 : tie.Need-same-length-2 Inv-loop μ-loop
+same-length-2 c = c .before .before .loop .inv .0 .1 .0 ∙ c .before .before .before .before .before .before .before .before .before .look-rows .kept .1 .1 .1 .1 .1 .1 .1 .0
+
+same-length-3 : tie.Need-same-length-3 Inv-loop μ-loop
+same-length-3 c = c .before .before .loop .inv .0 .1 .1 ∙ c .before .before .before .before .before .before .before .before .before .look-rows .kept .1 .1 .1 .1 .1 .1 .1 .1 .0
+
+same-length-4 : tie.Need-same-length-4 Inv-loop μ-loop
+same-length-4 c = search needs
+
+returns : tie.Need-returns Inv-loop μ-loop
+returns c =
+    let at-loop = c .before .before in
+    let at-rows = at-loop .before .before .before .before .before .before .before in
+    let at-start = at-rows .before .before .before .before .before .before .before .before .before .before .before .before .before .before .before .before in
+    let a = at-start .args in
+    let t = tableIn (a .sizes) (a .labels .now) (a .equations .now) (a .moves .now) in
+    let cs = changesOf (a .changes .now) in
+    let pre = at-start .pre in
+    let low = pre .1 .1 .0 .0 in
+    let l = at-loop .loop in
+    let inv = l .inv in
+    λ vs other o. leads-over (pre .0) cs (a .block) (a .settling) low (pairsOf (a .sizes)) (omega arith) (l .values) (l .marks) (l .queue) (l .front) (l .at .tail) (l .at .visits) (c .if1 .left) vs other (inv .1 .1 vs other (at-rows .look-rows .ensures .1 vs (a .visits, other) o))
+
+pub phase-spec : {M : Type 1} → statement M
+phase-spec =
+    tie.close
+    (tie.spec
+    Inv-loop
+    μ-loop
+    look-rows-requires
+    loop-holds
+    turn-requires
+    add-front
+    loop-less
+    loop-again
+    same-length
+    same-length-2
+    same-length-3
+    same-length-4
+    returns)

@@ -1,0 +1,51 @@
+-- By the phase, one of two rows tells. Assumes nothing.
+use Rattle.words.specs.Table.{tableIn, changesOf}
+use Rattle.engine_phase.specs.LookRow.{tells-settle, tells-shift}
+use borrow.Author.Needs.{needs}
+use Rattle.engine_phase.proofs.tell_row.Statement.{statement}
+use Rattle.engine_phase.proofs.tell_row.Tie as tie
+use Rattle.engine_phase.proofs.tell_row.Reads as reads
+use Rattle.engine_phase.proofs.tell_row.Lts as lts
+use Rattle.engine_phase.proofs.settle_row.Reads as settle-row-reads
+use Rattle.engine_phase.proofs.shift_row.Reads as shift-row-reads
+
+settle-row-requires : tie.Need-settle-row-requires
+settle-row-requires c κs =
+    let at-start = c .before .before .before .before .before .before .before .before .before .before in
+    let pre = at-start .pre in
+    let lengths = pre .1 .1 .1 .0 in
+    let small = pre .1 .1 .1 .1 .0 in
+    (pre .0, (pre .1 .0, ((lengths .0, (lengths .1 .0, lengths .1 .1 .1)), small .0)))
+
+same-length : tie.Need-same-length
+same-length c = search needs
+
+returns : tie.Need-returns
+returns c =
+    let at-row = c .before .before in
+    let at-if = at-row .before .before in
+    let a = at-if .before .before .before .before .before .before .before .before .before .args in
+    tells-settle (tableIn (a .sizes) (a .labels .now) (a .equations .now) (a .moves .now)) (changesOf (a .changes .now)) (a .values .now) (a .marks .now) _ (a .y .0) (a .sizes .states) _ (a .settling) (at-if .if1 .taken) (at-row .settle-row .ensures)
+
+shift-row-requires : tie.Need-shift-row-requires
+shift-row-requires c κs =
+    let at-start = c .before .before .before .before .before .before .before .before .before .before in
+    let pre = at-start .pre in
+    let lengths = pre .1 .1 .1 .0 in
+    let small = pre .1 .1 .1 .1 .0 in
+    (pre .0, (pre .1 .0, (pre .1 .1 .0, (lengths, (small, pre .1 .1 .1 .1 .1 (c .before .if1 .left))))))
+
+same-length-2 : tie.Need-same-length-2
+same-length-2 c = search needs
+
+returns-2 : tie.Need-returns-2
+returns-2 c =
+    let at-row = c .before .before in
+    let at-if = at-row .before .before in
+    let a = at-if .before .before .before .before .before .before .before .before .before .args in
+    tells-shift (tableIn (a .sizes) (a .labels .now) (a .equations .now) (a .moves .now)) (changesOf (a .changes .now)) (a .values .now) (a .marks .now) _ (a .y .0) (a .sizes .states) _ (a .settling) (at-if .if1 .left) (at-row .shift-row .ensures)
+
+pub tell-row-spec : {M : Type 1} → statement M
+tell-row-spec =
+    tie.close
+    (tie.spec settle-row-requires same-length returns shift-row-requires same-length-2 returns-2)
