@@ -1,5 +1,6 @@
 pub mod Tested
 pub mod EquationWalk
+pub mod FrontWalk
 pub mod MoveWalk
 pub mod CheckedMoves
 pub mod SignedWords

@@ -11,6 +11,8 @@ ghost use Rattle.rules.specs.Session.{unword, restOk};
 ghost use Rattle.sessions.specs.Tested.{countsBy, roomsOf, heldIn, goesOn, equationOk};
 ghost use Rattle.sessions.specs.EquationWalk.{equationsFrom};
 ghost use Rattle.sessions.specs.LiveWalk.{liveBy};
+ghost use Rattle.sessions.specs.MoveWalk.{inside, inRange};
+ghost use Rattle.table.specs.Ascending.{ascends};
 ghost use Rattle.laws.specs.Hanging.{movingOver};
 use rules::Session;
 use rules::Sizes;
@@ -24,28 +26,69 @@ pub fn counts_ok(session: Session, room: usize) -> bool
         & ((session.live <= 1) & (session.moves as usize <= table::least(limits::MOST_MOVES, room)))
 }
 
-// Whether the highest proposition of each of the first n sets lies below the count.
+// Whether the highest proposition of each of the first n sets lies below the count: that of all of them together does.
 fn labels_ok(sizes: Sizes, labels: &[u32], n: usize) -> bool
     ensures { λ r. ⌜ r ≡ all (labelOk sizes) (take n (now (labels .entry))) ⌝ }
 {
-    let mut i = table::least(n, labels.len());
-    let mut ok = true;
-    while 0 < i {
-        i = i - 1;
-        ok = limits::label_ok(sizes, rooms::word_at(labels, i)) & ok;
+    let end = table::least(n, labels.len());
+    let mut i: usize = 0;
+    let mut together: u32 = 0;
+    while i < end {
+        together = together | labels[i];
+        i = i + 1;
     }
-    ok
+    limits::label_ok(sizes, together)
 }
 
 // Whether none of the first n bytes is over `most`.
 fn bytes_ok(room: &[u8], n: usize, most: u8) -> bool
     ensures { λ r. ⌜ r ≡ all (λ v. leb v most) (take n (now (room .entry))) ⌝ }
 {
-    let mut i = table::least(n, room.len());
+    let end = table::least(n, room.len());
+    let mut i: usize = 0;
     let mut ok = true;
-    while 0 < i {
-        i = i - 1;
-        ok = (rooms::byte_at(room, i) <= most) & ok;
+    while i < end {
+        ok = ok & (room[i] <= most);
+        i = i + 1;
+    }
+    ok
+}
+
+// Whether source, action and target of a packed move lie below these counts of states and actions.
+fn in_range(states: u32, actions: u32, q: u32) -> bool
+    ensures { λ r. ⌜ r ≡ inside states actions q ⌝ }
+{
+    (table::source_of(q) < states)
+        & (table::action_of(q) < actions)
+        & (table::target_of(q) < states)
+}
+
+// Whether the first n moves are in range.
+fn moves_in_range(sizes: Sizes, moves: &[u32], n: usize) -> bool
+    ensures { λ r. ⌜ r ≡ all (inRange sizes) (take n (now (moves .entry))) ⌝ }
+{
+    let end = table::least(n, moves.len());
+    let states = sizes.states as u32;
+    let actions = sizes.actions as u32;
+    let mut i: usize = 0;
+    let mut ok = true;
+    while i < end {
+        ok = ok & in_range(states, actions, moves[i]);
+        i = i + 1;
+    }
+    ok
+}
+
+// Whether the first n moves ascend: each is over the one before it.
+fn moves_ascend(moves: &[u32], n: usize) -> bool
+    ensures { λ r. ⌜ r ≡ ascends 0 (take n (now (moves .entry))) ⌝ }
+{
+    let end = table::least(n, moves.len());
+    let mut i: usize = 1;
+    let mut ok = true;
+    while i < end {
+        ok = ok & (moves[i - 1] < moves[i]);
+        i = i + 1;
     }
     ok
 }
@@ -54,17 +97,7 @@ fn bytes_ok(room: &[u8], n: usize, most: u8) -> bool
 fn moves_ok(sizes: Sizes, moves: &[u32], n: usize) -> bool
     ensures { λ r. ⌜ r ≡ movesOk sizes 0 (take n (now (moves .entry))) ⌝ }
 {
-    let end = table::least(n, moves.len());
-    let mut i: usize = 0;
-    let mut least: u64 = 0;
-    let mut ok = true;
-    while i < end {
-        let q = rooms::word_at(moves, i);
-        ok = ok & ((least <= q as u64) & limits::move_ok(sizes, table::unpacked(q)));
-        least = (q as u64) + 1;
-        i = i + 1;
-    }
-    ok
+    moves_in_range(sizes, moves, n) & moves_ascend(moves, n)
 }
 
 // How many states, from the first on, have a move each among the first n moves.
@@ -75,7 +108,7 @@ fn moving(moves: &[u32], n: usize) -> u32
     let mut i: usize = 0;
     let mut r: u32 = 0;
     while i < end {
-        let m = table::unpacked(rooms::word_at(moves, i));
+        let m = table::unpacked(moves[i]);
         r = limits::moving_with(r, m.source);
         i = i + 1;
     }

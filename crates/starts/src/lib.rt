@@ -3,7 +3,7 @@
 use rules::Sizes;
 ghost use mathlib.Core.Path.{_≡_};
 ghost use mathlib.Core.List.{map};
-ghost use Prim.Native.Nat.{suc, _≤_, _<_, max};
+ghost use Prim.Native.Nat.{suc, _+_, _≤_, _<_, max};
 ghost use lib.IntN.{pos, _-ℤ_};
 ghost use lib.ListN.{length, getD, take, replicate};
 ghost use lib.Dec.{eqb};
@@ -14,39 +14,48 @@ ghost use Rattle.rules.specs.Update.{trues};
 ghost use Rattle.rules.specs.Calls.{valueAt, bits};
 ghost use Rattle.pairs.specs.Words.{kindIn};
 
+// Sets each place to v.
+fn set_all(room: &mut [u8], v: u8)
+    ensures { λ _. ⌜ now (room .exit) ≡ replicate (length (now (room .entry))) v ⌝ }
+{
+    let n = room.len();
+    let mut j: usize = 0;
+    while j < n {
+        room[j] = v;
+        j = j + 1;
+    }
+}
+
 // Sets the first n places to 0.
 pub fn clear(room: &mut [u8], n: usize)
     requires { ⌜ n ≤ length (now room) ⌝ }
     ensures { λ _. ⌜ now (room .exit) ≡ fill (replicate n 0) (now (room .entry)) ⌝ }
 {
-    let mut j: usize = 0;
-    while j < n {
-        rooms::set_byte(room, j, 0);
-        j = j + 1;
-    }
+    set_all(&mut room[..n], 0);
 }
 
-// The own value of a pair's block, as it is written into a room.
-fn own_byte(sizes: Sizes, equations: &[u32], p: usize) -> u8
-    requires { ⌜ 0 < sizes .states ⌝ }
-    ensures { λ r. ⌜ r ≡ bit (eqb (kindIn sizes (now (equations .entry)) p) 1) ⌝ }
+// The own value of the block of variable x, as it is written into a room.
+fn own_byte(equations: &[u32], x: usize) -> u8
+    ensures { λ r. ⌜ r ≡ bit (eqb (unword (getD (now (equations .entry)) x 0) .kind) 1) ⌝ }
 {
-    if pairs::own_value(sizes, equations, p) {
-        return 1;
-    }
-    0
+    let e = pairs::formula_at(equations, x);
+    (e.kind == 1) as u8
 }
 
-// Gives each of the first n pairs the own value of its block.
+// Gives each of the first n pairs the own value of its block, all pairs of a variable at once.
 pub fn own_values(sizes: Sizes, equations: &[u32], n: usize, values: &mut [u8])
     requires { ⌜ (0 < sizes .states) × (n ≤ length (now values)) ⌝ }
     ensures { λ _. ⌜ now (values .exit) ≡ fill (bits n (λ p. eqb (kindIn sizes (now (equations .entry)) p) 1)) (now (values .entry)) ⌝ }
 {
+    let states = sizes.states as usize;
     let mut p: usize = 0;
+    let mut x: usize = 0;
     while p < n {
-        let v = own_byte(sizes, equations, p);
-        rooms::set_byte(values, p, v);
-        p = p + 1;
+        let end = p + table::least(n - p, states);
+        let v = own_byte(equations, x);
+        set_all(&mut values[p..end], v);
+        p = end;
+        x = x + 1;
     }
 }
 
@@ -76,25 +85,34 @@ pub fn count_blocks(equations: &[u32], n: usize) -> usize
     r
 }
 
-// 1 for a true pair, 0 for a false one.
-fn one_if(values: &[u8], p: usize) -> usize
-    ensures { λ r. ⌜ (r ≡ bit (valueAt (now (values .entry)) p)) × (r ≤ 1) ⌝ }
+// How many pairs are counted in one byte: not too many for it, and a multiple of what the machine takes at once.
+const COUNTED_AT_ONCE: usize = 224;
+
+// How many of the pairs from `from` up to `end` are true.
+fn count_some(values: &[u8], from: usize, end: usize) -> u8
+    requires { ⌜ (from ≤ end) × ((end ≤ from + 255) × (end ≤ length (now values))) ⌝ }
+    ensures { λ r. ⌜ (trues from (valueAt (now (values .entry))) + r ≡ trues end (valueAt (now (values .entry)))) × (from + r ≤ end) ⌝ }
 {
-    if pairs::value_at(values, p) {
-        return 1;
+    let mut r: u8 = 0;
+    let mut p = from;
+    while p < end {
+        r = r + (values[p] == 1) as u8;
+        p = p + 1;
     }
-    0
+    r
 }
 
 // How many of the first n pairs are true.
 pub fn count_true(values: &[u8], n: usize) -> usize
     ensures { λ r. ⌜ (r ≡ trues n (valueAt (now (values .entry)))) × (r ≤ n) ⌝ }
 {
+    let end = table::least(n, values.len());
     let mut r: usize = 0;
     let mut p: usize = 0;
-    while p < n {
-        r = r + one_if(values, p);
-        p = p + 1;
+    while p < end {
+        let next = p + table::least(end - p, COUNTED_AT_ONCE);
+        r = r + count_some(values, p, next) as usize;
+        p = next;
     }
     r
 }

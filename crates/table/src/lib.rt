@@ -10,6 +10,7 @@ ghost use Rattle.laws.specs.Emptied.{movesOf};
 ghost use Rattle.table.specs.Ascending.{ascends, below, leading};
 ghost use Rattle.table.specs.Halving.{testsFor};
 ghost use Rattle.table.specs.OwnMoves.{partOf};
+ghost use Rattle.table.specs.Stamps.{weightOf};
 use rules::Action;
 use rules::Move;
 use rules::State;
@@ -63,15 +64,22 @@ pub fn unpacked(m: u32) -> Move
     }
 }
 
+// What so many moves add to the stamp, wrapping, by the sums of their sources, actions and targets.
+fn weighed(sources: u32, actions: u32, targets: u32, n: u32) -> u32
+    ensures { λ r. ⌜ r ≡ wrap (weightOf sources actions targets n) ⌝ }
+{
+    let w = 65537 * (sources as u64)
+        + 4099 * (actions as u64)
+        + 257 * (targets as u64)
+        + (n as u64);
+    (w % 4294967296) as u32
+}
+
 // What one move adds to the stamp, wrapping.
 pub fn weight_of(m: u32) -> u32
     ensures { λ r. ⌜ r ≡ wrap (weight m) ⌝ }
 {
-    let w = 65537 * (source_of(m) as u64)
-        + 4099 * (action_of(m) as u64)
-        + 257 * (target_of(m) as u64)
-        + 1;
-    (w % 4294967296) as u32
+    weighed(source_of(m), action_of(m), target_of(m), 1)
 }
 
 // The stamp with one move more.
@@ -88,17 +96,23 @@ pub fn stamp_without(stamp: u32, m: u32) -> u32
     std::num::wrapping_sub_u32(stamp, weight_of(m))
 }
 
-// The stamp of the first n moves.
+// The stamp of the first n moves: sources, actions and targets are summed apart, and weighed once.
 pub fn stamp_of(moves: &[u32], n: usize) -> u32
     ensures { λ r. ⌜ r ≡ stampOf (take n (now (moves .entry))) ⌝ }
 {
-    let mut i = least(n, moves.len());
-    let mut stamp: u32 = 0;
-    while 0 < i {
-        i = i - 1;
-        stamp = stamp_with(stamp, rooms::word_at(moves, i));
+    let end = least(n, moves.len());
+    let mut i: usize = 0;
+    let mut sources: u32 = 0;
+    let mut actions: u32 = 0;
+    let mut targets: u32 = 0;
+    while i < end {
+        let m = moves[i];
+        sources = std::num::wrapping_add_u32(sources, source_of(m));
+        actions = std::num::wrapping_add_u32(actions, action_of(m));
+        targets = std::num::wrapping_add_u32(targets, target_of(m));
+        i = i + 1;
     }
-    stamp
+    weighed(sources, actions, targets, (end % 4294967296) as u32)
 }
 
 // The place of the first of the n moves, from `from` on, that does not lie below the key, in any list: a walk.

@@ -5,7 +5,6 @@ use Prim.Native.Nat.{ℕ, _-_, _+_}
 use native.Mathlib.Omega.{arith}
 use lib.ListN.{take, drop}
 use borrow.Author.Needs.{needs}
-use Rattle.rules.specs.Moves.{source}
 use Rattle.laws.specs.Hanging.{movingOver}
 use Rattle.sessions.specs.LiveWalk.{moving-turn, moving-end}
 use Rattle.sessions.proofs.moving.Statement.{statement}
@@ -27,8 +26,11 @@ least-requires c κs = search needs
 loop-holds : tie.Need-loop-holds Inv-loop μ-loop
 loop-holds c = refl
 
-word-at-requires : tie.Need-word-at-requires Inv-loop μ-loop
-word-at-requires c κs = search needs
+mul-unpacked : tie.Need-mul-unpacked Inv-loop μ-loop
+mul-unpacked c = search needs
+
+shared-slice-read-unpacked : tie.Need-shared-slice-read-unpacked Inv-loop μ-loop
+shared-slice-read-unpacked c = search needs
 
 unpacked-requires : tie.Need-unpacked-requires Inv-loop μ-loop
 unpacked-requires c κs = search needs
@@ -47,9 +49,8 @@ loop-again c =
     let at-loop = c .before .before .before .before in
     let a = start-before-loop at-loop .args in
     let s = at-loop .loop in
-    let from = c .before .unpacked .ensures .0 ∙ ap (λ (q : ℕ). source q) (c .before .before .word-at .ensures) in
     ap (λ (k : ℕ). movingOver k (drop (s .i + 1) (take (a .n) (a .moves .now)))) (c .moving-with .ensures)
-    ∙ moving-turn (a .moves .now) (a .n) (s .i) (s .r) _ _ (omega arith) from (s .inv)
+    ∙ moving-turn (a .moves .now) (a .n) (s .i) (s .r) _ _ (omega arith) (c .before .unpacked .ensures .0) (s .inv)
 
 returns : tie.Need-returns Inv-loop μ-loop
 returns c =
@@ -66,7 +67,8 @@ moving-spec =
     μ-loop
     least-requires
     loop-holds
-    word-at-requires
+    mul-unpacked
+    shared-slice-read-unpacked
     unpacked-requires
     moving-with-requires
     add-i

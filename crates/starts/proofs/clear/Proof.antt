@@ -1,66 +1,40 @@
--- The places before j are 0, those from j on are as they were. Assumes nothing.
-use mathlib.Core.Path.{_≡_, refl, ap, _∙_}
-use Prim.Native.Nat.{ℕ, _-_, _≤_}
+-- The first n places are lent and set. Assumes nothing.
+use mathlib.Core.Path.{sym, ap, _∙_}
+use Prim.Native.Nat.{ℕ}
 use native.Mathlib.Omega.{arith}
-use lib.ListN.{length}
-use Rattle.starts.specs.Starts.{filled, filled-none, filled-long, filled-more, filled-zeros}
+use lib.ListN.{replicate}
+use lib.Seq.{length-take-le}
+use Rattle.starts.specs.Starts.{part-one}
 use borrow.Author.Needs.{needs}
 use Rattle.starts.proofs.clear.Statement.{statement}
 use Rattle.starts.proofs.clear.Tie as tie
 
-abbrev Inv-loop : tie.InvT-loop
-Inv-loop room₀ n j₀ room j = (j ≤ n) × (room ≡ filled j (λ p. 0) room₀)
+slice-relend-prefix-set-all : tie.Need-slice-relend-prefix-set-all
+slice-relend-prefix-set-all c = search needs
 
-abbrev μ-loop : tie.MeasureT-loop
-μ-loop room₀ n j₀ room j = n - j
+slice-aggregate-set-all : tie.Need-slice-aggregate-set-all
+slice-aggregate-set-all c =
+    let a = c .before .before .args in
+    sym (length-take-le (a .n) (a .room .now) (omega arith))
 
-loop-holds : tie.Need-loop-holds Inv-loop μ-loop
-loop-holds c = (omega arith, filled-none (λ p. 0) (c .before .args .room .now))
+set-all-requires : tie.Need-set-all-requires
+set-all-requires c κs = search needs
 
-set-byte-requires : tie.Need-set-byte-requires Inv-loop μ-loop
-set-byte-requires c κs = search needs
+same-length : tie.Need-same-length
+same-length c = search needs
 
-add-j : tie.Need-add-j Inv-loop μ-loop
-add-j c = omega arith
-
-loop-less : tie.Need-loop-less Inv-loop μ-loop
-loop-less c = omega arith
-
-loop-again : tie.Need-loop-again Inv-loop μ-loop
-loop-again c =
-    let s = c .before .before .before .before .before .before .before in
-    let l = c .before .before .before .before .before .loop in
-    let h = s .pre in
-    let t = c .before .before .before .before .loop-test .taken in
-    (omega arith, filled-more (l .j) (λ p. 0) (s .args .room .now) (l .room) _ 0 (omega arith) (l .inv .1) refl (c .before .before .set-byte .ensures))
-
-same-length : tie.Need-same-length Inv-loop μ-loop
-same-length c =
-    let s = c .before .before .before in
-    let l = c .before .loop in
-    let h = s .pre in
-    let i = l .inv .0 in
-    ap length (l .inv .1) ∙ filled-long (l .j) (λ p. 0) (s .args .room .now) (omega arith)
-
-returns : tie.Need-returns Inv-loop μ-loop
+returns : tie.Need-returns
 returns c =
-    let s = c .before .before .before in
-    let l = c .before .loop in
-    let t = c .loop-test .left in
-    let i = l .inv .0 in
-    let e : l .j ≡ s .args .n = omega arith in
-    l .inv .1 ∙ ap (λ (j : ℕ). filled j (λ p. 0) (s .args .room .now)) e ∙ filled-zeros (s .args .n) (s .args .room .now)
+    let a = c .before .before .before .before .before .args in
+    let long = length-take-le (a .n) (a .room .now) (omega arith) in
+    part-one (a .n) 0 _ (a .room .now) (c .before .before .set-all .ensures ∙ ap (λ (n : ℕ). replicate n 0) long)
 
 pub clear-spec : {M : Type 1} → statement M
 clear-spec =
     tie.close
     (tie.spec
-    Inv-loop
-    μ-loop
-    loop-holds
-    set-byte-requires
-    add-j
-    loop-less
-    loop-again
+    slice-relend-prefix-set-all
+    slice-aggregate-set-all
+    set-all-requires
     same-length
     returns)

@@ -1,18 +1,26 @@
--- The byte is the bit of the value that was asked for. Assumes nothing.
-use mathlib.Core.Path.{sym, ap, _∙_}
-use Rattle.lists.specs.Lists.{bit}
+-- The byte is the bit of the kind that was asked for. Assumes nothing.
+use mathlib.Core.Path.{ap, _∙_}
+use Prim.Native.Nat.{ℕ}
+use lib.ListN.{getD}
+use lib.Dec.{eqb}
+use mir.Val.{boolByte}
+use Rattle.rules.specs.Session.{unword}
+use Rattle.starts.specs.Starts.{byte-bit}
 use borrow.Author.Needs.{needs}
 use Rattle.starts.proofs.own_byte.Statement.{statement}
 use Rattle.starts.proofs.own_byte.Tie as tie
 
-own-value-requires : tie.Need-own-value-requires
-own-value-requires c κs = search needs
+formula-at-requires : tie.Need-formula-at-requires
+formula-at-requires c κs = search needs
+
+cast-result : tie.Need-cast-result
+cast-result c = search needs
 
 returns : tie.Need-returns
-returns c = sym (ap bit (sym (c .before .own-value .ensures) ∙ c .if1 .taken))
-
-returns-2 : tie.Need-returns-2
-returns-2 c = sym (ap bit (sym (c .before .own-value .ensures) ∙ c .if1 .left))
+returns c =
+    let a = c .before .before .before .args in
+    let k = unword (getD (a .equations .now) (a .x) 0) .kind in
+    ap (λ (k : ℕ). boolByte (eqb k 1)) (c .before .formula-at .ensures .is-kind) ∙ byte-bit (eqb k 1)
 
 pub own-byte-spec : {M : Type 1} → statement M
-own-byte-spec = tie.close (tie.spec own-value-requires returns returns-2)
+own-byte-spec = tie.close (tie.spec formula-at-requires cast-result returns)

@@ -1,51 +1,90 @@
--- A walk from the last of the n moves to the first: the stamp so far is that of the moves passed. Assumes nothing.
-use mathlib.Core.Path.{_≡_}
-use Prim.Native.Nat.{_≤_, min}
-use lib.ListN.{length, take, drop}
-use Rattle.rules.specs.Moves.{stampOf}
-use Rattle.table.specs.Fronts.{rest-less, rest-over}
-use Rattle.table.specs.Stamps.{stamp-more}
-use borrow.Author.Needs.{needs}
+-- What the moves before i have summed to and the weights of the others make the stamp. Assumes nothing.
+use mathlib.Core.Path.{_≡_, refl, sym, ap, _∙_}
+use Prim.Native.Nat.{ℕ, _-_, _≤_}
+use lib.ListN.{getD, take}
 use native.Mathlib.Omega.{arith}
+use borrow.Author.Needs.{needs}
+use Rattle.rules.specs.Moves.{wrap, stampOf}
+use Rattle.table.specs.Stamps.{weightOf, stampFrom, stamp-start, stamp-turn, stamp-over}
 use Rattle.table.proofs.stamp_of.Statement.{statement}
 use Rattle.table.proofs.stamp_of.Tie as tie
 
 abbrev Inv-loop : tie.InvT-loop
-Inv-loop moves n i₀ stamp₀ i stamp = (i ≤ min n (length moves)) × (stamp ≡ stampOf (drop i (take n moves)))
+Inv-loop moves n end i₀ sources₀ actions₀ targets₀ i sources actions targets = (i ≤ end) × (stampFrom moves n sources actions targets i ≡ stampOf (take n moves))
 
 abbrev μ-loop : tie.MeasureT-loop
-μ-loop moves n i₀ stamp₀ i stamp = i
+μ-loop moves n end i₀ sources₀ actions₀ targets₀ i sources actions targets = end - i
 
 least-requires : tie.Need-least-requires Inv-loop μ-loop
 least-requires c κs = search needs
 
 loop-holds : tie.Need-loop-holds Inv-loop μ-loop
-unfolding stampOf
 loop-holds c =
-    let e = rest-over (c .before .before .args .moves .now) (c .before .before .args .n) (c .least .result) (omega arith) in
-    (omega arith, rw e)
+    let a = c .before .before .args in
+    (omega arith, stamp-start (a .moves .now) (a .n))
 
-sub-i : tie.Need-sub-i Inv-loop μ-loop
-sub-i c = search needs
+mul-m : tie.Need-mul-m Inv-loop μ-loop
+mul-m c = search needs
 
-word-at-requires : tie.Need-word-at-requires Inv-loop μ-loop
-word-at-requires c κs = search needs
+shared-slice-read-m : tie.Need-shared-slice-read-m Inv-loop μ-loop
+shared-slice-read-m c = search needs
 
-stamp-with-requires : tie.Need-stamp-with-requires Inv-loop μ-loop
-stamp-with-requires c κs = search needs
+source-of-requires : tie.Need-source-of-requires Inv-loop μ-loop
+source-of-requires c κs = search needs
+
+wrapping-add-u32-requires : tie.Need-wrapping-add-u32-requires Inv-loop μ-loop
+wrapping-add-u32-requires c κs = search needs
+
+action-of-requires : tie.Need-action-of-requires Inv-loop μ-loop
+action-of-requires c κs = search needs
+
+wrapping-add-u32-requires-2 : tie.Need-wrapping-add-u32-requires-2 Inv-loop μ-loop
+wrapping-add-u32-requires-2 c κs = search needs
+
+target-of-requires : tie.Need-target-of-requires Inv-loop μ-loop
+target-of-requires c κs = search needs
+
+wrapping-add-u32-requires-3 : tie.Need-wrapping-add-u32-requires-3 Inv-loop μ-loop
+wrapping-add-u32-requires-3 c κs = search needs
+
+add-i : tie.Need-add-i Inv-loop μ-loop
+add-i c = search needs
 
 loop-less : tie.Need-loop-less Inv-loop μ-loop
 loop-less c = search needs
 
 loop-again : tie.Need-loop-again Inv-loop μ-loop
 loop-again c =
-    let e = rest-less (c .before .before .before .before .before .before .args .moves .now) (c .before .before .before .before .before .before .args .n) (c .before .before .before .loop .i) (omega arith) (omega arith) in
-    (omega arith, rw (e, c .stamp-with .ensures, c .before .word-at .ensures, c .before .before .before .loop .inv .1) (stamp-more _ _))
+    let at-loop = c .before .before .before .before .before .before .before .before in
+    let a = at-loop .before .before .before .args in
+    let s = at-loop .loop in
+    let q = getD (a .moves .now) (s .i) 0 in
+    let turn = stamp-turn (a .moves .now) (a .n) (s .i) (s .sources) (s .actions) (s .targets) q (omega arith) refl in (
+      omega arith,
+      rw (
+        c .wrapping-add-u323 .ensures,
+        c .before .target-of .ensures .0,
+        c .before .before .wrapping-add-u322 .ensures,
+        c .before .before .before .action-of .ensures .0,
+        c .before .before .before .before .wrapping-add-u32 .ensures,
+        c .before .before .before .before .before .source-of .ensures .0,
+      ) (turn ∙ s .inv .1),
+    )
+
+cast-weighed : tie.Need-cast-weighed Inv-loop μ-loop
+cast-weighed c = search needs
+
+weighed-requires : tie.Need-weighed-requires Inv-loop μ-loop
+weighed-requires c κs = search needs
 
 returns : tie.Need-returns Inv-loop μ-loop
 returns c =
-    let e : c .before .loop .i ≡ 0 = omega arith in
-    rw e at (c .before .loop .inv .1)
+    let at-loop = c .before .before in
+    let a = at-loop .before .before .before .args in
+    let s = at-loop .loop in
+    let e : at-loop .before .least .result ≡ s .i = omega arith in
+    let over = stamp-over (a .moves .now) (a .n) (s .i) (s .sources) (s .actions) (s .targets) (omega arith) in
+    c .weighed .ensures ∙ ap (λ (k : ℕ). wrap (weightOf (s .sources) (s .actions) (s .targets) (wrap k))) e ∙ sym over ∙ s .inv .1
 
 pub stamp-of-spec : {M : Type 1} → statement M
 stamp-of-spec =
@@ -55,9 +94,17 @@ stamp-of-spec =
     μ-loop
     least-requires
     loop-holds
-    sub-i
-    word-at-requires
-    stamp-with-requires
+    mul-m
+    shared-slice-read-m
+    source-of-requires
+    wrapping-add-u32-requires
+    action-of-requires
+    wrapping-add-u32-requires-2
+    target-of-requires
+    wrapping-add-u32-requires-3
+    add-i
     loop-less
     loop-again
+    cast-weighed
+    weighed-requires
     returns)
