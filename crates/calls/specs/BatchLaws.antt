@@ -4,7 +4,7 @@ use mathlib.Core.List.{List}
 use Prim.Native.Nat.{ℕ}
 use lib.ListN.{length}
 use Rattle.rules.specs.Records.{Outcome, refused, accepted}
-use Rattle.rules.specs.Rooms.{Rooms}
+use Rattle.rules.specs.Rooms.{Rooms, lengthsOf, workOk, lentOk}
 use Rattle.rules.specs.Batch.{Batch, readBatch, judge}
 use Rattle.rules.specs.Session.{held}
 use Rattle.rules.specs.Calls.{Left, andThen, judged, batchBy, batch}
@@ -21,14 +21,14 @@ abbrev pub updated : Outcome Report → Rooms → Left Report Rooms
 updated o l = record { answer = o; rooms = l }
 
 -- A session that was checked: k is what the check found.
-module _ (s : Session) (l : Rooms) (bytes : List ℕ) (k : Checked) (h : checkedSays k ≡ checkOf s l) where
+module _ (s : Session) (l : Rooms) (bytes : List ℕ) (k : Checked) (h : checkedSays k ≡ checkOf (workOk (lengthsOf l) (s .sizes)) s l) where
   -- A refusal of the check is the answer, and the rooms stay.
   pub batch-stops : (why : Refusal) → k ≡ Found.Refused why → updated (refused (numberOf why) 0) l ≡ batch s l bytes
-  unfolding batch judged
-  batch-stops why g = sym (ap (batchBy s l) (checked-stops s l k h _ why g))
+  unfolding batch judged lentOk
+  batch-stops why g = sym (ap (batchBy s l) (checked-stops _ s l k h _ why g))
 
   module _ (g : k ≡ Found.Good) where
     -- After a good check the batch is what its reading and its judgement come to.
     pub batch-goes : batchBy s l (andThen (readBatch (s .sizes) bytes) (judge s (length (l .moves)) (held s l .moves))) ≡ batch s l bytes
-    unfolding batch judged
-    batch-goes = sym (ap (batchBy s l) (checked-goes s l k h _ g))
+    unfolding batch judged lentOk
+    batch-goes = sym (ap (batchBy s l) (checked-goes _ s l k h _ g))

@@ -28,7 +28,7 @@ use Rattle.edits.specs.Judging.{verdictSays}
 use Rattle.edits.specs.declared.Verdict.{Verdict}
 use Rattle.edits.specs.declared.Verdict.the-variants as Found
 use Rattle.applies.specs.Kept.{Kept, appliedTo}
-use Rattle.sessions.specs.Tested.{roomsOf}
+use Rattle.rules.specs.Rooms.{roomsOf}
 use Rattle.calls.specs.BatchLaws.{updated}
 use Rattle.pairs.specs.Drawn.{tableOf}
 use Rattle.starts.specs.Differences.{mag-sub}

@@ -9,7 +9,7 @@ ghost use Rattle.rules.specs.Records.{accepted};
 ghost use Rattle.rules.specs.Answers.{updatedSays};
 ghost use Rattle.rules.specs.Calls.{batch};
 ghost use Rattle.edits.specs.Changes.{changesOf};
-ghost use Rattle.sessions.specs.Tested.{roomsOf};
+ghost use Rattle.rules.specs.Rooms.{roomsOf};
 ghost use Rattle.calls.specs.BatchLaws.{updated};
 ghost use Rattle.updates.specs.Moving.{Sane, Able};
 ghost use Rattle.updates.specs.Reports.{batchOf, batchRead, batchBytes};

@@ -2,7 +2,7 @@
 ghost use mathlib.Core.Path.{_≡_};
 ghost use Rattle.rules.specs.Calls.{write};
 ghost use Rattle.rules.specs.Answers.{writtenSays};
-ghost use Rattle.sessions.specs.Tested.{roomsOf};
+ghost use Rattle.rules.specs.Rooms.{roomsOf};
 use calls::Checked;
 use rules::Refusal;
 use rules::Session;

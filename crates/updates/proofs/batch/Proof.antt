@@ -2,7 +2,7 @@
 use Rattle.updates.specs.Moving.{sane}
 use Rattle.calls.specs.BatchLaws.{batch-stops, batch-goes}
 use mathlib.Core.Path.{_∙_}
-use Rattle.sessions.specs.Tested.{roomsOf}
+use Rattle.rules.specs.Rooms.{roomsOf}
 use borrow.Author.Needs.{needs}
 use Rattle.updates.proofs.batch.Statement.{statement}
 use Rattle.updates.proofs.batch.Tie as tie

@@ -4,7 +4,7 @@ use Rattle.updates.specs.Moving.{able, sane-held}
 use Rattle.rules.specs.Batch.{Batch}
 use lib.ListN.{take}
 use Rattle.edits.specs.Changes.{changesOf}
-use Rattle.sessions.specs.Tested.{roomsOf}
+use Rattle.rules.specs.Rooms.{roomsOf}
 use borrow.Author.Needs.{needs}
 use Rattle.updates.proofs.judge_on.Statement.{statement}
 use Rattle.updates.proofs.judge_on.Tie as tie

@@ -8,7 +8,7 @@ use Rattle.updates.specs.Moving.{made-drawn, made-started, made-few}
 use native.Mathlib.Omega.{arith}
 use lib.ListN.{take}
 use Rattle.edits.specs.Changes.{changesOf}
-use Rattle.sessions.specs.Tested.{roomsOf}
+use Rattle.rules.specs.Rooms.{roomsOf}
 use borrow.Author.Needs.{needs}
 use Rattle.updates.proofs.move_on.Statement.{statement}
 use Rattle.updates.proofs.move_on.Tie as tie

@@ -8,7 +8,7 @@ use lib.ListN.{length, length-replicate}
 use Rattle.rules.specs.Limits.{most-changes}
 use native.Mathlib.Omega.{arith}
 use mathlib.Core.Path.{_∙_}
-use Rattle.sessions.specs.Tested.{roomsOf}
+use Rattle.rules.specs.Rooms.{roomsOf}
 use borrow.Author.Needs.{needs}
 use Rattle.updates.proofs.read_on.Statement.{statement}
 use Rattle.updates.proofs.read_on.Tie as tie
