@@ -26,6 +26,18 @@ pub fn clear(room: &mut [u8], n: usize)
     }
 }
 
+// The same in a room of numbers of two bytes.
+pub fn clear_halves(room: &mut [u16], n: usize)
+    requires { ⌜ n ≤ length (now room) ⌝ }
+    ensures { λ _. ⌜ now (room .exit) ≡ fill (replicate n 0) (now (room .entry)) ⌝ }
+{
+    let mut j: usize = 0;
+    while j < n {
+        room[j] = 0;
+        j = j + 1;
+    }
+}
+
 // The own value of a pair's block, as it is written into a room.
 fn own_byte(sizes: Sizes, equations: &[u32], p: usize) -> u8
     requires { ⌜ 0 < sizes .states ⌝ }
