@@ -1,7 +1,7 @@
 // The four calls for other languages. A session lies in a room as eight numbers, an answer is one number, and a report is
 // three numbers in a room; what the calls leave stands in specs/Boundary.antt.
 ghost use mathlib.Core.Path.{_≡_};
-ghost use Rattle.sessions.specs.Tested.{roomsOf};
+ghost use Rattle.rules.specs.Rooms.{roomsOf};
 ghost use Rattle.boundary.specs.Boundary.{loadedTo, batchedTo, wroteTo, loadCall, batchCall, writeCall, askCall};
 use rules::State;
 use rules::Variable;

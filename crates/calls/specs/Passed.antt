@@ -1,19 +1,19 @@
 -- What is known of a session in which the check finds nothing wrong. Assumes nothing.
 use mathlib.Core.Path.{_≡_, sym, ap, _∙_}
-use mathlib.Core.Bool.{true}
+use mathlib.Core.Bool.{Bool, true}
 use Prim.Native.Nat.{_≤_}
 use native.Mathlib.Omega.{arith}
 use lib.ListN.{length}
-use Rattle.lists.specs.Tests.{tests, and-in}
+use Rattle.lists.specs.Tests.{tests, and-in, and-is}
 use Rattle.rules.specs.Limits.{most-states, most-variables, most-moves, sizesOk}
 use Rattle.rules.specs.Model.{WellFormed}
 use Rattle.rules.specs.Rooms.{Rooms, lengthsOf, pairsOf, roomsOk}
-use Rattle.rules.specs.Session.{held, countsOk, sessionDemands}
+use Rattle.rules.specs.Session.{held, countsOk}
 use Rattle.rules.specs.declared.Session.{Session}
 use Rattle.laws.specs.SessionHolds.{sessionOk, Holds, session-holds}
 use Rattle.laws.specs.Accepted.{Yes, asked-out}
 use Rattle.sessions.specs.CheckedMoves as Moves
-use Rattle.calls.specs.Checks.{allWell, checkOf, checkedSays}
+use Rattle.calls.specs.Checks.{allWell, demandsWith, checkOf, checkedSays}
 use Rattle.calls.specs.declared.Checked.{Checked}
 use Rattle.calls.specs.declared.Checked.the-variants as Found
 
@@ -45,17 +45,24 @@ fits s l a b =
       moves-room = omega arith;
     }
 
-module _ (s : Session) (l : Rooms) (k : Checked) (h : checkedSays k ≡ checkOf s l) (g : k ≡ Found.Good) where
+module _ (work : Bool) (s : Session) (l : Rooms) (k : Checked) (h : checkedSays k ≡ checkOf work s l) (g : k ≡ Found.Good) where
   -- All three questions are answered yes.
-  pub passed-yes : Yes (sessionDemands s l)
-  passed-yes = asked-out (sessionDemands s l) allWell tt (sym h ∙ ap checkedSays g) .0
+  passed-yes : Yes (demandsWith work s l)
+  passed-yes = asked-out (demandsWith work s l) allWell tt (sym h ∙ ap checkedSays g) .0
+
+  -- No room is too short.
+  passed-rooms : (roomsOk (lengthsOf l) (s .sizes) ≡ true) × (work ≡ true)
+  passed-rooms = and-is (roomsOk (lengthsOf l) (s .sizes)) work .0 (passed-yes .1 .0)
+
+  pub passed-work : work ≡ true
+  passed-work = passed-rooms .1
 
   -- The session is good, and nothing in it is too large for its room.
   pub passed-session : sessionOk s l ≡ true
-  passed-session = and-in (and-in (passed-yes .0) (passed-yes .1 .0)) (passed-yes .1 .1 .0)
+  passed-session = and-in (and-in (passed-yes .0) (passed-rooms .0)) (passed-yes .1 .1 .0)
 
   pub passed-fits : Fits s l
-  passed-fits = fits s l (passed-yes .0) (passed-yes .1 .0)
+  passed-fits = fits s l (passed-yes .0) (passed-rooms .0)
 
   -- The rooms hold a model inside the limits.
   pub passed-holds : WellFormed (held s l) × Holds s l (held s l)

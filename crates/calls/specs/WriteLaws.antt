@@ -1,5 +1,6 @@
 -- The writing of a session, in the words of the code: what each way out leaves. Assumes nothing.
 use mathlib.Core.Path.{_≡_, sym, ap, _∙_}
+use mathlib.Core.Bool.{true}
 use mathlib.Core.List.{List}
 use Prim.Native.Nat.{ℕ, _+_, _*_, _≤_, _<_}
 use native.Mathlib.Omega.{arith}
@@ -16,7 +17,7 @@ use Rattle.rules.specs.declared.Refusal.{Refusal}
 use Rattle.rules.specs.declared.Session.{Session}
 use Rattle.laws.specs.SpellingLength.{labelled, equationSize, encode-length}
 use Rattle.calls.specs.AskLaws.{leb-no}
-use Rattle.calls.specs.Checks.{checkOf, checkedSays, checked-stops, checked-goes}
+use Rattle.calls.specs.Checks.{checkOf, work-unasked, checkedSays, checked-stops, checked-goes}
 use Rattle.calls.specs.Passed.{passed-holds}
 use Rattle.calls.specs.declared.Checked.{Checked}
 use Rattle.calls.specs.declared.Checked.the-variants as Found
@@ -30,17 +31,17 @@ abbrev pub wrote : Outcome ℕ → List ℕ → Left ℕ (List ℕ)
 wrote o out = record { answer = o; rooms = out }
 
 -- A session that was checked: k is what the check found.
-module _ (s : Session) (l : Rooms) (out : List ℕ) (k : Checked) (h : checkedSays k ≡ checkOf s l) where
+module _ (s : Session) (l : Rooms) (out : List ℕ) (k : Checked) (h : checkedSays k ≡ checkOf true s l) where
   -- A refusal of the check is the answer, and the output stays.
   pub write-stops : (why : Refusal) → k ≡ Found.Refused why → wrote (refused (numberOf why) 0) out ≡ write s l out
   unfolding write writable
-  write-stops why g = sym (ap (writeBy (held s l) out) (checked-stops s l k h _ why g))
+  write-stops why g = sym (ap (writeBy (held s l) out) (work-unasked s l _ ∙ checked-stops true s l k h _ why g))
 
   module _ (g : k ≡ Found.Good) where
     -- The length of the spelling, by the counts.
     pub good-length : length (encode (held s l)) ≡ lengthBy s (l .labels)
     good-length =
-        let w = passed-holds s l k h g in
+        let w = passed-holds true s l k h g in
         let e = encode-length (held s l) (w .0) in
         let n = w .1 .count in omega arith
 
@@ -50,7 +51,7 @@ module _ (s : Session) (l : Rooms) (out : List ℕ) (k : Checked) (h : checkedSa
       unfolding write writable
       write-short f =
           let m = length (encode (held s l)) in
-          let w : writable s l out ≡ refused 13 0 = checked-goes s l k h _ g ∙ cond-no (accepted m) (refused 13 0) (leb-no m (length out) (omega arith)) in
+          let w : writable s l out ≡ refused 13 0 = work-unasked s l _ ∙ checked-goes true s l k h _ g ∙ cond-no (accepted m) (refused 13 0) (leb-no m (length out) (omega arith)) in
           sym (ap (writeBy (held s l) out) w)
 
       -- Where it has room, the answer is the length, and the output begins with the spelling.
@@ -58,5 +59,5 @@ module _ (s : Session) (l : Rooms) (out : List ℕ) (k : Checked) (h : checkedSa
       unfolding write writable
       write-good f after d =
           let m = length (encode (held s l)) in
-          let w : writable s l out ≡ accepted m = checked-goes s l k h _ g ∙ cond-yes (accepted m) (refused 13 0) (leb-is m (length out) .1 (omega arith)) in
+          let w : writable s l out ≡ accepted m = work-unasked s l _ ∙ checked-goes true s l k h _ g ∙ cond-yes (accepted m) (refused 13 0) (leb-is m (length out) .1 (omega arith)) in
           rw (e, d) (sym (ap (writeBy (held s l) out) w))

@@ -2,7 +2,7 @@
 ghost use mathlib.Core.Path.{_≡_};
 ghost use Rattle.rules.specs.Calls.{ask};
 ghost use Rattle.rules.specs.Answers.{askedSays};
-ghost use Rattle.sessions.specs.Tested.{roomsOf};
+ghost use Rattle.rules.specs.Rooms.{roomsOf};
 ghost use Rattle.calls.specs.AskLaws.{numbersOk};
 ghost use Rattle.calls.specs.Checks.{checkOf, checkedSays};
 use limits::Lent;
@@ -48,7 +48,8 @@ pub fn ask(session: Session, values: &[u8], here: State, x: Variable) -> Asked
     Asked::Accepted(v == 1)
 }
 
-// What a batch and a writing ask of a session, in order: 12 for the sizes, 13 for the rooms, 12 for the rest.
+// What a batch and a writing ask of a session, in order: 12 for the sizes, 13 for the rooms, 12 for the rest. `work` says whether
+// the rooms to work in are long enough; a writing has none and says yes.
 pub fn session_refusal(
     session: Session,
     labels: &[u32],
@@ -56,8 +57,9 @@ pub fn session_refusal(
     values: &[u8],
     marks: &[u8],
     moves: &[u32],
+    work: bool,
 ) -> Checked
-    ensures { λ r. ⌜ checkedSays r ≡ checkOf session (roomsOf (now (labels .entry)) (now (equations .entry)) (now (values .entry)) (now (marks .entry)) (now (moves .entry))) ⌝ }
+    ensures { λ r. ⌜ checkedSays r ≡ checkOf work session (roomsOf (now (labels .entry)) (now (equations .entry)) (now (values .entry)) (now (marks .entry)) (now (moves .entry))) ⌝ }
 {
     let sizes = session.sizes;
     if !sessions::counts_ok(session, moves.len()) {
@@ -69,8 +71,10 @@ pub fn session_refusal(
         values: values.len(),
         marks: marks.len(),
         moves: moves.len(),
+        index: 0,
+        queue: 0,
     };
-    if !limits::rooms_ok(lent, sizes) {
+    if !(limits::rooms_ok(lent, sizes) & work) {
         return Checked::Refused(Refusal::ShortRoom);
     }
     if !sessions::rest_ok(session, labels, equations, values, marks, moves) {

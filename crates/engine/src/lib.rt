@@ -12,7 +12,7 @@ ghost use Rattle.systems.specs.Machine.{free, nextMark};
 ghost use Rattle.systems.specs.ListMachine.{turned, pushL, turnL};
 ghost use Rattle.rules.specs.Model.{blocksOf};
 ghost use Rattle.rules.specs.Batch.{changesOk};
-ghost use Rattle.rules.specs.Rooms.{pairsOf};
+ghost use Rattle.rules.specs.Rooms.{pairsOf, indexNeeds, queueNeeds, indexAfter, queueAfter};
 ghost use Rattle.rules.specs.Calls.{valueAt, bits};
 ghost use Rattle.rules.specs.Update.{turnAll};
 ghost use Rattle.rules.specs.Values.{leanings, solve};
@@ -437,8 +437,19 @@ pub struct Effects {
     pub net: i32,
 }
 
+// The rooms to work in, cleared as far as they are used; `room` is the length of the move room.
+fn clear_work(sizes: Sizes, room: usize, index: &mut [u16], queue: &mut [u16])
+    requires { ⌜ (indexNeeds sizes room ≤ length (now index)) × (queueNeeds sizes ≤ length (now queue)) ⌝ }
+    ensures { λ _. ⌜ (now (index .exit) ≡ indexAfter sizes room (now (index .entry))) × (now (queue .exit) ≡ queueAfter sizes (now (queue .entry))) ⌝ }
+{
+    let heads = limits::index_needs(sizes, room);
+    let waiting = limits::queue_needs(sizes);
+    starts::clear_halves(index, heads);
+    starts::clear_halves(queue, waiting);
+}
+
 // The values follow the changes that made the moves; the marks say what turned.
-pub fn update(
+fn follow_changes(
     sizes: Sizes,
     labels: &[u32],
     equations: &[u32],
@@ -477,8 +488,47 @@ pub fn update(
     }
 }
 
+// The same with rooms to work in, of which the places used are 0 afterwards.
+pub fn update(
+    sizes: Sizes,
+    labels: &[u32],
+    equations: &[u32],
+    moves: &[u32],
+    n: usize,
+    changes: &[u32],
+    count: usize,
+    values: &mut [u8],
+    marks: &mut [u8],
+    index: &mut [u16],
+    queue: &mut [u16],
+) -> Effects
+    requires { ⌜ Drawn sizes (now labels) (now equations) (now moves) n ⌝ }
+    requires { ⌜ changesOk sizes (changesOf (take count (now changes))) ≡ true ⌝ }
+    requires { ⌜ Started (tableOf sizes (now labels) (now equations) (now moves) n) (changesOf (take count (now changes))) (take (pairsOf sizes) (now values)) ⌝ }
+    requires { ⌜ ((pairsOf sizes ≤ length (now values)) × (pairsOf sizes ≤ length (now marks))) × ((count ≤ 64) × (count ≤ length (now changes))) ⌝ }
+    requires { ⌜ (indexNeeds sizes (length (now moves)) ≤ length (now index)) × (queueNeeds sizes ≤ length (now queue)) ⌝ }
+    ensures { λ r. ⌜ (Leaves (tableOf sizes (now (labels .entry)) (now (equations .entry)) (now (moves .entry)) n)
+        (turnAll (tableOf sizes (now (labels .entry)) (now (equations .entry)) (now (moves .entry)) n) (changesOf (take count (now (changes .entry)))) (valueAt (now (values .entry))))
+        (now (values .entry)) (now (marks .entry)) (now (values .exit)) (now (marks .exit)) (r .visits .shift) (r .visits .settle) (r .net))
+        × ((now (index .exit) ≡ indexAfter sizes (length (now (moves .entry))) (now (index .entry))) × (now (queue .exit) ≡ queueAfter sizes (now (queue .entry)))) ⌝ }
+{
+    let done = follow_changes(
+        sizes,
+        labels,
+        equations,
+        moves,
+        n,
+        changes,
+        count,
+        values,
+        marks,
+    );
+    clear_work(sizes, moves.len(), index, queue);
+    done
+}
+
 // The values of the model, found from each block's own value with no change; the marks are cleared.
-pub fn load_values(
+fn find_values(
     sizes: Sizes,
     labels: &[u32],
     equations: &[u32],
@@ -496,4 +546,27 @@ pub fn load_values(
     starts::own_values(sizes, equations, p, values);
     move_values(sizes, labels, equations, moves, n, labels, 0, values, marks);
     starts::clear(marks, p);
+}
+
+// The same with rooms to work in, of which the places used are 0 afterwards.
+pub fn load_values(
+    sizes: Sizes,
+    labels: &[u32],
+    equations: &[u32],
+    moves: &[u32],
+    n: usize,
+    values: &mut [u8],
+    marks: &mut [u8],
+    index: &mut [u16],
+    queue: &mut [u16],
+)
+    requires { ⌜ Drawn sizes (now labels) (now equations) (now moves) n ⌝ }
+    requires { ⌜ (pairsOf sizes ≤ length (now values)) × (pairsOf sizes ≤ length (now marks)) ⌝ }
+    requires { ⌜ (indexNeeds sizes (length (now moves)) ≤ length (now index)) × (queueNeeds sizes ≤ length (now queue)) ⌝ }
+    ensures { λ _. ⌜ ((now (values .exit) ≡ fill (bits (pairsOf sizes) (at (solve (tableOf sizes (now (labels .entry)) (now (equations .entry)) (now (moves .entry)) n)))) (now (values .entry)))
+        × (now (marks .exit) ≡ fill (replicate (pairsOf sizes) 0) (now (marks .entry))))
+        × ((now (index .exit) ≡ indexAfter sizes (length (now (moves .entry))) (now (index .entry))) × (now (queue .exit) ≡ queueAfter sizes (now (queue .entry)))) ⌝ }
+{
+    find_values(sizes, labels, equations, moves, n, values, marks);
+    clear_work(sizes, moves.len(), index, queue);
 }

@@ -494,7 +494,7 @@ pub fn first_turn(read: Read, l: Lent) -> OneTurn
     if !limits::sizes_ok(z) {
         return OneTurn::Stop(ReadModel::Refused(Refusal::BadSize, 0));
     }
-    if !limits::rooms_ok(l, z) {
+    if !limits::lent_ok(l, z) {
         return OneTurn::Stop(ReadModel::Refused(Refusal::ShortRoom, 0));
     }
     OneTurn::Go(rec, started_with(z), next)

@@ -10,12 +10,12 @@ use lib.Seq.{take-at}
 use lib.Dec.{eqb, leb}
 use Rattle.lists.specs.Lists.{all, bit, fill}
 use Rattle.lists.specs.Smallest.{at}
-use Rattle.lists.specs.Tests.{tell, and-in}
+use Rattle.lists.specs.Tests.{tell, and-in, and-left, and-is}
 use Rattle.lists.specs.TableLaws.{bit-back, listed-is, listed-length, listed-most}
 use Rattle.rules.specs.Moves.{stampOf}
 use Rattle.rules.specs.Model.{Model, WellFormed}
 use Rattle.rules.specs.Records.{Outcome, refused, accepted}
-use Rattle.rules.specs.Rooms.{Rooms, lengthsOf, pairsOf, roomsOk}
+use Rattle.rules.specs.Rooms.{Rooms, lengthsOf, pairsOf, roomsOk, workOk, lentOk}
 use Rattle.rules.specs.Load.{readModel}
 use Rattle.rules.specs.Spelling.{encode}
 use Rattle.rules.specs.Batch.{Batch, readBatch, judge, edited}
@@ -90,7 +90,7 @@ pub record Solved (s : Session) (l : Rooms) (m : Model) : Type 0 where
 pub record WasLoaded (l : Rooms) (bytes : List ℕ) (m : Model) : Type 0 where
   pub model : WellFormed m
   pub spelled : encode m ≡ bytes
-  pub rooms : roomsOk (lengthsOf l) (m .sizes) ≡ true
+  pub rooms : lentOk (lengthsOf l) (m .sizes) ≡ true
   pub room : length (m .moves) ≤ length (l .moves)
   pub is : load l bytes ≡ loadBy l (accepted m)
 
@@ -105,22 +105,24 @@ load-out l bytes s y e = go (readModel (lengthsOf l) bytes) refl e
         (m, record { model = k .0; spelled = k .1; rooms = k .2; room = k .3; is = ap (loadBy l) q }, cc)
 
 -- The rooms after an accepted load.
-pub load-solved : (l : Rooms) (m : Model) → WellFormed m → roomsOk (lengthsOf l) (m .sizes) ≡ true → length (m .moves) ≤ length (l .moves)
+pub load-solved : (l : Rooms) (m : Model) → WellFormed m → lentOk (lengthsOf l) (m .sizes) ≡ true → length (m .moves) ≤ length (l .moves)
     → Solved (sessionOf m) (loadBy l (accepted m) .rooms) m
+unfolding lentOk
 load-solved l m w r c =
     let n = pairsOf (m .sizes) in
     let vs = bits n (at (solve m)) in
     let len : length vs ≡ n = listed-length 0 n (λ p. bit (at (solve m) p)) in
     record {
       model = w;
-      holds = laid-holds m vs l w len (bits-small n (at (solve m))) r c;
+      holds = laid-holds m vs l w len (bits-small n (at (solve m))) (and-left (roomsOk (lengthsOf l) (m .sizes)) _ r) c;
       small = refl;
       values = take-at vs (drop (length vs) (l .values)) n len;
     }
 
--- An accepted batch: the session was good, and the bytes spell a batch with which nothing is wrong.
+-- An accepted batch: the session was good, the rooms to work in long enough, and the bytes spell a batch with which nothing is wrong.
 pub record WasBatch (s : Session) (l : Rooms) (bytes : List ℕ) (b : Batch) : Type 0 where
   pub session : sessionOk s l ≡ true
+  pub work : workOk (lengthsOf l) (s .sizes) ≡ true
   pub read : readBatch (s .sizes) bytes ≡ accepted b
   pub stamp : b .stamp ≡ stampOf (held s l .moves)
   pub good : Judged (held s l .moves) (b .changes)
@@ -129,10 +131,11 @@ pub record WasBatch (s : Session) (l : Rooms) (bytes : List ℕ) (b : Batch) : T
   pub is : batch s l bytes ≡ batchBy s l (accepted b)
 
 pub judged-out : (s : Session) (l : Rooms) (bytes : List ℕ) (b : Batch) → AreBytes bytes → judged s l bytes ≡ accepted b → WasBatch s l bytes b
-unfolding judged batch
+unfolding judged batch lentOk
 judged-out s l bytes b y e =
-    let a = asked-out (sessionDemands s l) _ b e in
-    let ok : sessionOk s l ≡ true = and-in (and-in (a .0 .0) (a .0 .1 .0)) (a .0 .1 .1 .0) in
+    let a = asked-out (sessionDemands lentOk s l) _ b e in
+    let long = and-is (roomsOk (lengthsOf l) (s .sizes)) (workOk (lengthsOf l) (s .sizes)) .0 (a .0 .1 .0) in
+    let ok : sessionOk s l ≡ true = and-in (and-in (a .0 .0) (long .0)) (a .0 .1 .1 .0) in
     let t = then-out (readBatch (s .sizes) bytes) (judge s (length (l .moves)) (held s l .moves)) b (a .1) in
     let j = judge-out s (length (l .moves)) (held s l .moves) (t .0) b (t .2) in
     let h = session-holds s l ok in
@@ -140,6 +143,7 @@ judged-out s l bytes b y e =
     let q = j .3 in
     record {
       session = ok;
+      work = long .1;
       read = t .1 ∙ ap accepted (sym q);
       stamp = ap (λ (x : Batch). x .stamp) q ∙ j .0;
       good = subst (λ (x : Batch). Judged (held s l .moves) (x .changes)) (sym q) (j .1);

@@ -13,7 +13,7 @@ use Rattle.lists.specs.Lists.{fill}
 use Rattle.lists.specs.Smallest.{at}
 use Rattle.lists.specs.Tests.{tests, and-is, leb-is}
 use Rattle.rules.specs.Records.{Outcome, refused, accepted}
-use Rattle.rules.specs.Rooms.{Rooms, lengthsOf, pairsOf, roomsOk}
+use Rattle.rules.specs.Rooms.{Rooms, lengthsOf, pairsOf, roomsOk, lentOk}
 use Rattle.rules.specs.Spelling.{encode}
 use Rattle.rules.specs.Batch.{Batch}
 use Rattle.rules.specs.Update.{changed}
@@ -122,7 +122,7 @@ pub record Reloads (s : Session) (l fresh : Rooms) (left : Left Session Rooms) :
   pub values : take (pairsOf (s .sizes)) (left .rooms .values) ≡ take (pairsOf (s .sizes)) (l .values)
   pub marks : take (pairsOf (s .sizes)) (left .rooms .marks) ≡ replicate (pairsOf (s .sizes)) 0
 
-solved-reloads : (s : Session) (l fresh : Rooms) → Solved s l (held s l) → roomsOk (lengthsOf fresh) (s .sizes) ≡ true → s .moves ≤ length (fresh .moves)
+solved-reloads : (s : Session) (l fresh : Rooms) → Solved s l (held s l) → lentOk (lengthsOf fresh) (s .sizes) ≡ true → s .moves ≤ length (fresh .moves)
     → Reloads s l fresh (load fresh (encode (held s l)))
 solved-reloads s l fresh h r c =
     let m = held s l in
@@ -139,7 +139,7 @@ solved-reloads s l fresh h r c =
     })
 
 -- After any sequence of accepted and refused batches from a load, a fresh load gives the same session.
-pub batch-as-reload : (s : Session) (l fresh : Rooms) → Reached s l → roomsOk (lengthsOf fresh) (s .sizes) ≡ true → s .moves ≤ length (fresh .moves)
+pub batch-as-reload : (s : Session) (l fresh : Rooms) → Reached s l → lentOk (lengthsOf fresh) (s .sizes) ≡ true → s .moves ≤ length (fresh .moves)
     → Reloads s l fresh (load fresh (encode (held s l)))
 batch-as-reload s l fresh h = solved-reloads s l fresh (reached-solved h)
 
@@ -150,7 +150,7 @@ unfolding write writable
 write-is s l out ok c =
     let k = simp and-is at ok in
     let o = asked-in ((13, leb (length (encode (held s l))) (length out)) ∷ []) (accepted (length (encode (held s l)))) (leb-is _ _ .1 c, tt) in
-    let a = asked-in (sessionDemands s l) (asked ((13, leb (length (encode (held s l))) (length out)) ∷ []) (accepted (length (encode (held s l))))) (k .0 .0, (k .0 .1, (k .1, tt))) in
+    let a = asked-in (sessionDemands roomsOk s l) (asked ((13, leb (length (encode (held s l))) (length out)) ∷ []) (accepted (length (encode (held s l))))) (k .0 .0, (k .0 .1, (k .1, tt))) in
     ap (writeBy (held s l) out) (a ∙ o)
 
 -- An accepted writing answers the length of those bytes, and there was room for them.
@@ -160,7 +160,7 @@ unfolding write writable
 write-out s l out n e =
     let d : List (ℕ × Bool) = (13, leb (length (encode (held s l))) (length out)) ∷ [] in
     let o = go (writable s l out) e in
-    let a = asked-out (sessionDemands s l) (asked d (accepted (length (encode (held s l))))) n o in
+    let a = asked-out (sessionDemands roomsOk s l) (asked d (accepted (length (encode (held s l))))) n o in
     let b = asked-out d (accepted (length (encode (held s l)))) n (a .1) in
     (same (b .1), leb-is _ _ .0 (b .0 .0))
   where
@@ -182,7 +182,7 @@ write-load l bytes s out y e c =
 
 -- Loading what was written of a session reached from a load gives that session back, with its marks cleared.
 pub load-write : (s : Session) (l fresh : Rooms) (out : List ℕ) (n : ℕ) → Reached s l → write s l out .answer ≡ accepted n
-    → roomsOk (lengthsOf fresh) (s .sizes) ≡ true → s .moves ≤ length (fresh .moves) → Reloads s l fresh (load fresh (take n (write s l out .rooms)))
+    → lentOk (lengthsOf fresh) (s .sizes) ≡ true → s .moves ≤ length (fresh .moves) → Reloads s l fresh (load fresh (take n (write s l out .rooms)))
 load-write s l fresh out n h e r c =
     let t = reached-solved h in
     let ok = holds-session s l (held s l) (t .model) (t .holds) .1 in

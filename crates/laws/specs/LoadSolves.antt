@@ -8,7 +8,7 @@ use lib.ListN.{length}
 use Rattle.lists.specs.Smallest.{at}
 use Rattle.rules.specs.Model.{Model, WellFormed}
 use Rattle.rules.specs.Records.{accepted}
-use Rattle.rules.specs.Rooms.{Rooms, lengthsOf, pairsOf, roomsOk}
+use Rattle.rules.specs.Rooms.{Rooms, lengthsOf, pairsOf, lentOk}
 use Rattle.rules.specs.Spelling.{encode}
 use Rattle.rules.specs.Values.{Values, Solution, solve}
 use Rattle.rules.specs.Session.{held}
@@ -55,7 +55,7 @@ load-solves l bytes s y e =
     let k = loaded-solved l bytes s y e in (solved-solves s (load l bytes .rooms) (k .0), k .1)
 
 -- Every model inside the limits is accepted where the rooms suffice.
-pub load-accepts : (l : Rooms) (m : Model) → WellFormed m → roomsOk (lengthsOf l) (m .sizes) ≡ true → length (m .moves) ≤ length (l .moves)
+pub load-accepts : (l : Rooms) (m : Model) → WellFormed m → lentOk (lengthsOf l) (m .sizes) ≡ true → length (m .moves) ≤ length (l .moves)
     → load l (encode m) ≡ loadBy l (accepted m)
 unfolding load
 load-accepts l m w r c = ap (loadBy l) (read-accepts (lengthsOf l) m w r c)

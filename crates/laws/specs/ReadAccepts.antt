@@ -13,7 +13,7 @@ use Rattle.lists.specs.Tests.{tests, tell, and-is, ltb-is, leb-is, eqb-is}
 use Rattle.rules.specs.Limits.{sizesOk}
 use Rattle.rules.specs.Model.{Equation, Model, labelOk, moveOk, operandsOk, equationsOk, movesOk, wellFormed, WellFormed, signed, signOk, equationIn, styleOk, placed}
 use Rattle.rules.specs.Records.{Rec, widths, accepted, onto}
-use Rattle.rules.specs.Rooms.{Lengths, roomsOk}
+use Rattle.rules.specs.Rooms.{Lengths, lentOk}
 use Rattle.rules.specs.Load.{step, put, last, settleStyle, readModel}
 use Rattle.rules.specs.Spelling.{liveRecs, labelRecs, equationRecs, signedRecs, styleRecs, moveRecs, records, encode}
 use Rattle.rules.specs.declared.Sizes.{Sizes}
@@ -131,7 +131,7 @@ unplaced-back l m h =
     λ i. record { sizes = m .sizes; live = m .live; labels = m .labels; equations = e i; moves = m .moves }
 
 -- Every model inside the limits is accepted where the rooms suffice.
-pub read-accepts : (l : Lengths) (m : Model) → WellFormed m → roomsOk l (m .sizes) ≡ true → length (m .moves) ≤ l .moves
+pub read-accepts : (l : Lengths) (m : Model) → WellFormed m → lentOk l (m .sizes) ≡ true → length (m .moves) ≤ l .moves
     → readModel l (encode m) ≡ accepted m
 unfolding readModel
 read-accepts l m h r n =

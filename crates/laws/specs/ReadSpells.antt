@@ -14,7 +14,7 @@ use Rattle.rules.specs.Limits.{most-moves, sizesOk}
 use Rattle.rules.specs.Moves.{pack, source, action, target}
 use Rattle.rules.specs.Model.{Equation, Model, labelOk, moveOk, runOf, equationsOk, movesOk, wellFormed, WellFormed, signed, signOk, equationIn, guilty, componentIn, placed, styleOk}
 use Rattle.rules.specs.Records.{Rec, field, widths, Turn, no, back, next, demand, accepted, bytesOf, over, run, parts}
-use Rattle.rules.specs.Rooms.{Lengths, roomsOk}
+use Rattle.rules.specs.Rooms.{Lengths, lentOk}
 use Rattle.rules.specs.Load.{sizesOf, Sofar, State, before, inside, started, blockFits, labelDemands, blockDemands, equationDemands, moveDemands, movesDue, endDemands, liveDemands, afterLive, sizesDemands, afterLabel, afterBlock, afterEquation, afterMove, signedOf, signOf, signedDemands, afterSigned, askChains, step, put, last, lastOf, settleStyle, readModel, putMove, sayIn}
 use Rattle.rules.specs.Spelling.{sizesRec, liveRec, liveRecs, labelRecs, blockRec, equationRecs, signedRecs, endRec, moveRecs, records, encode}
 use Rattle.rules.specs.declared.Sizes.{Sizes}
@@ -445,7 +445,7 @@ module _ (l : Lengths) where
 
   -- The records spell the model, which is inside the limits and fits the rooms.
   Good : List Rec → Model → Type 0
-  Good rs m = (rs ≡ records m) × WellFormed m × (roomsOk l (m .sizes) ≡ true) × (length (m .moves) ≤ l .moves)
+  Good rs m = (rs ≡ records m) × WellFormed m × (lentOk l (m .sizes) ≡ true) × (length (m .moves) ≤ l .moves)
 
   -- Components change no record.
   same-records : (m : Model) → records (settleStyle m) ≡ records m
@@ -504,13 +504,13 @@ module _ (l : Lengths) where
 
   -- Records that are passed spell a model that is inside the limits and fits the rooms.
   pub passed-spells : {rs : List Rec} {m : Model} → Walks (step l) put last before rs m → AllWritable rs
-      → (rs ≡ records (settleStyle m)) × WellFormed (settleStyle m) × (roomsOk l (m .sizes) ≡ true) × (length (m .moves) ≤ l .moves)
+      → (rs ≡ records (settleStyle m)) × WellFormed (settleStyle m) × (lentOk l (m .sizes) ≡ true) × (length (m .moves) ≤ l .moves)
   unfolding Good
   passed-spells w f = first w f
 
   -- What loads is inside the limits, fits the rooms, and its spelling is the bytes.
   pub read-spelling : (s : List ℕ) (m : Model) → AreBytes s → readModel l s ≡ accepted m
-      → WellFormed m × (encode m ≡ s) × (roomsOk l (m .sizes) ≡ true) × (length (m .moves) ≤ l .moves)
+      → WellFormed m × (encode m ≡ s) × (lentOk l (m .sizes) ≡ true) × (length (m .moves) ≤ l .moves)
   unfolding readModel Good
   read-spelling s m b e =
       let u = un-onto (step l) put last settleStyle (run (step l) put last before (parts s)) m e in

@@ -14,7 +14,7 @@ use Rattle.rules.specs.Limits.{most-moves}
 use Rattle.rules.specs.Moves.{stampOf}
 use Rattle.rules.specs.Records.{Rec, field, Parts, ends, broken, part, parts, Outcome, refused, accepted, Turn, no, back, next, over, demand, onto, atEnd, onTurn, run}
 use Rattle.rules.specs.Model.{Model, guilty, liveOk}
-use Rattle.rules.specs.Rooms.{Rooms, Lengths, lengthsOf}
+use Rattle.rules.specs.Rooms.{Rooms, Lengths, lengthsOf, roomsOk, lentOk}
 use Rattle.rules.specs.Load.{Sofar, State, before, inside, signedOf, signedDemands, afterSigned, askChains, settleStyle, sizesDemands, labelDemands, blockDemands, equationDemands, moveDemands, endDemands, liveDemands, step, put, last, readModel}
 use Rattle.rules.specs.Batch.{Change, Batch, Place, first, after, changeDemands, stepBatch, putBatch, emptyBatch, readBatch, repeated, misplaced, unless, firstOf, edited, judge}
 use Rattle.rules.specs.Spelling.{encode}
@@ -208,7 +208,7 @@ then-told (accepted a) f h k = k a
 pub batch-told : (s : Session) (l : Rooms) (bytes : List ℕ) → Told (batch s l bytes .answer)
 unfolding batch judged readBatch
 batch-told s l bytes =
-    go (judged s l bytes) (asked-told (sessionDemands s l) _ refl
+    go (judged s l bytes) (asked-told (sessionDemands lentOk s l) _ refl
     (then-told (readBatch (s .sizes) bytes) _ (run-told (stepBatch (s .sizes)) putBatch emptyBatch (change-told (s .sizes)) (parts bytes) first)
     (judge-told s (length (l .moves)) (held s l .moves))))
   where
@@ -221,7 +221,7 @@ unfolding write writable
 write-told s l out =
     let n = length (encode (held s l)) in
     let room : List (ℕ × Bool) = (13, leb n (length out)) ∷ [] in
-    go (writable s l out) (asked-told (sessionDemands s l) (asked room (accepted n)) refl (asked-told room (accepted n) refl tt))
+    go (writable s l out) (asked-told (sessionDemands roomsOk s l) (asked room (accepted n)) refl (asked-told room (accepted n) refl tt))
   where
     go : (o : Outcome ℕ) → Told o → Told (writeBy (held s l) out o .answer)
     go (refused n p) h = h

@@ -20,7 +20,7 @@ use Rattle.rules.specs.Limits.{sizesOk}
 use Rattle.rules.specs.Chains.{together, mixed}
 use Rattle.rules.specs.Moves.{source, action, target}
 use Rattle.rules.specs.Model.{Equation, Model, labelOk, moveOk, movesOk, operandsOk, signOk, equationIn, namesIn, guilty, componentIn, numbered, placed, styleOk, blocksOf, wellFormed, WellFormed}
-use Rattle.rules.specs.Rooms.{Rooms, lengthsOf, pairsOf, roomsOk}
+use Rattle.rules.specs.Rooms.{Rooms, lengthsOf, pairsOf, roomsOk, workOk, lentOk}
 use Rattle.rules.specs.Spelling.{encode}
 use Rattle.rules.specs.Calls.{Left, bits, load}
 use Rattle.rules.specs.declared.Session.{Session}
@@ -205,11 +205,11 @@ module _ (m : Model) (w : WellFormed m) where
       ∙ sym (ap (λ (v : ℕ → Bool). v p) (solve-same m))
 
   -- So a load of it leaves the same values, and the same labels and moves.
-  pub rewritten-loads : (l : Rooms) → roomsOk (lengthsOf l) (m .sizes) ≡ true → length (m .moves) ≤ length (l .moves)
+  pub rewritten-loads : (l : Rooms) → lentOk (lengthsOf l) (m .sizes) ≡ true → length (m .moves) ≤ length (l .moves)
       → (load l (encode (rewritten m)) .rooms .values ≡ load l (encode m) .rooms .values)
       × (load l (encode (rewritten m)) .rooms .labels ≡ load l (encode m) .rooms .labels)
       × (load l (encode (rewritten m)) .rooms .moves ≡ load l (encode m) .rooms .moves)
-  unfolding roomsOk
+  unfolding roomsOk workOk lentOk
   rewritten-loads l r c =
       let a = load-accepts l (rewritten m) rewritten-good r c in
       let b = load-accepts l m w r c in

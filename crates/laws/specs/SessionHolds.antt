@@ -13,14 +13,14 @@ use Rattle.lists.specs.Tests.{tests, and-in, and-is, leb-is, eqb-is}
 use Rattle.rules.specs.Limits.{most-moves, sizesOk}
 use Rattle.rules.specs.Moves.{stampOf}
 use Rattle.rules.specs.Model.{Equation, Model, wellFormed, WellFormed, signOk, equationIn}
-use Rattle.rules.specs.Rooms.{Rooms, lengthsOf, pairsOf, roomsOk}
+use Rattle.rules.specs.Rooms.{Rooms, lengthsOf, pairsOf, roomsOk, indexAfter, queueAfter}
 use Rattle.rules.specs.Session.{word, unword, held, sessionOf, countsOk, restOk}
 use Rattle.rules.specs.declared.Sizes.{Sizes}
 use Rattle.rules.specs.declared.Session.{Session}
 use Rattle.laws.specs.Named.{names-well, style-sign}
 use Rattle.laws.specs.ReadAccepts.{operands-small}
 
--- All that a batch and a writing ask of a session.
+-- All that a writing asks of a session; a batch asks the rooms to work in besides.
 abbrev pub sessionOk : Session → Rooms → Bool
 sessionOk s l = countsOk s l && roomsOk (lengthsOf l) (s .sizes) && restOk s l
 
@@ -127,6 +127,8 @@ module _ (m : Model) (values : List ℕ) (l : Rooms) where
     values = fill values (l .values);
     marks = fill (replicate (pairsOf (m .sizes)) 0) (l .marks);
     moves = fill (m .moves) (l .moves);
+    index = indexAfter (m .sizes) (length (l .moves)) (l .index);
+    queue = queueAfter (m .sizes) (l .queue);
   }
 
   marks-zero : (n : ℕ) → all (λ v. leb v 3) (replicate n 0) ≡ true
@@ -171,6 +173,8 @@ module _ (s : Session) (l : Rooms) (m n : Model) (values marks : List ℕ) where
     values = fill values (l .values);
     marks = fill marks (l .marks);
     moves = fill (n .moves ++ replicate (s .moves - length (n .moves)) 0) (l .moves);
+    index = indexAfter (n .sizes) (length (l .moves)) (l .index);
+    queue = queueAfter (n .sizes) (l .queue);
   }
 
   pub moved-holds : Holds s l m → n .sizes ≡ m .sizes → n .live ≡ m .live → n .labels ≡ m .labels → n .equations ≡ m .equations

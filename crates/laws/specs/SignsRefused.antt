@@ -15,7 +15,7 @@ use Rattle.lists.specs.Ranges.{some-in, lowest-some}
 use Rattle.rules.specs.Limits.{sizesOk}
 use Rattle.rules.specs.Model.{Equation, labelOk, signOk, equationIn, namesIn, guilty, numbered}
 use Rattle.rules.specs.Records.{Rec, widths, bytes, bytesOf, Parts, ends, broken, part, partsFrom, Turn, no, back, next, over, demand, refused, onto, atEnd, run, parts, field}
-use Rattle.rules.specs.Rooms.{Lengths, roomsOk}
+use Rattle.rules.specs.Rooms.{Lengths, lentOk}
 use Rattle.rules.specs.Load.{Sofar, State, before, inside, started, labelDemands, blockDemands, equationDemands, moveDemands, endDemands, liveDemands, sizesDemands, afterLabel, afterEquation, signOf, signedDemands, afterSigned, askChains, step, put, last, settleStyle, readModel}
 use Rattle.rules.specs.Spelling.{sizesRec, liveRec, liveRecs, labelRecs, signedRec, signedRecs}
 use Rattle.rules.specs.declared.Sizes.{Sizes}
@@ -138,7 +138,7 @@ module _ (l : Lengths) where
 pub record Text (l : Lengths) (z : Sizes) (live : ℕ) (ls : List ℕ) (es : List Equation) : Type 0 where
   pub sizes : sizesOk z ≡ true
   pub flag : live ≤ 1
-  pub rooms : roomsOk l z ≡ true
+  pub rooms : lentOk l z ≡ true
   pub signs : z .blocks ≡ 0
   pub labels : length ls ≡ z .states
   pub sets : all (labelOk z) ls ≡ true

@@ -13,7 +13,7 @@ use Rattle.lists.specs.Tests.{tests, tell, not-out, and-is, and-no, eqb-is, eqb
 use Rattle.rules.specs.Moves.{pack}
 use Rattle.rules.specs.Model.{Equation, Model, signed, wellFormed, WellFormed, guilty, noneHangs}
 use Rattle.rules.specs.Records.{Rec, field, widths, bytes, bytesOf, Parts, ends, broken, part, partsFrom, parts, Turn, no, back, next, over, demand, refused, onto, atEnd, onTurn, run}
-use Rattle.rules.specs.Rooms.{Lengths, roomsOk}
+use Rattle.rules.specs.Rooms.{Lengths, lentOk}
 use Rattle.rules.specs.Load.{Sofar, State, before, inside, started, movesDue, sizesOf, signOf, sizesDemands, liveDemands, labelDemands, blockDemands, equationDemands, signedDemands, moveDemands, endDemands, afterLive, afterLabel, afterBlock, afterEquation, afterSigned, afterMove, askChains, blockFits, step, put, last, settleStyle, readModel}
 use Rattle.rules.specs.Spelling.{sizesRec, liveRec, liveRecs, labelRecs, equationRecs, signedRecs, styleRecs, moveRecs, records, encode}
 use Rattle.rules.specs.declared.Sizes.{Sizes}
@@ -34,7 +34,7 @@ pub record HangsAt (l : Lengths) (s : List ℕ) (q : ℕ) : Type 0 where
   pub live : model .live ≡ 1
   pub formed : WellFormed (still model)
   pub hanging : noneHangs (model .sizes .states) (model .moves) ≡ false
-  pub rooms : roomsOk l (model .sizes) ≡ true
+  pub rooms : lentOk l (model .sizes) ≡ true
   pub room : length (model .moves) ≤ l .moves
   pub place : suc q ≡ length (encode model)
 

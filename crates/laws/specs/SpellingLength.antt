@@ -10,7 +10,7 @@ use lib.Dec.{eqb}
 use Rattle.lists.specs.Tests.{tests, tell, and-is, eqb-is, leb-is}
 use Rattle.rules.specs.Model.{Equation, Model, equationsOk, wellFormed, WellFormed, signed, styleOk}
 use Rattle.rules.specs.Records.{Rec, widths, digits, writes, bytesOf, accepted}
-use Rattle.rules.specs.Rooms.{Lengths, roomsOk}
+use Rattle.rules.specs.Rooms.{Lengths, lentOk}
 use Rattle.rules.specs.Load.{readModel}
 use Rattle.rules.specs.Spelling.{liveRecs, labelRecs, equationRecs, signedRecs, styleRecs, moveRecs, records, encode}
 use Rattle.rules.specs.declared.Sizes.{Sizes}
@@ -21,7 +21,7 @@ use Rattle.laws.specs.Placed.{signs-out}
 
 -- A load is accepted exactly where the bytes spell a model inside the limits that fits the rooms.
 pub read-exact : (l : Lengths) (s : List ℕ) (m : Model) → AreBytes s
-    → (readModel l s ≡ accepted m) ↔ (WellFormed m × (encode m ≡ s) × (roomsOk l (m .sizes) ≡ true) × (length (m .moves) ≤ l .moves))
+    → (readModel l s ≡ accepted m) ↔ (WellFormed m × (encode m ≡ s) × (lentOk l (m .sizes) ≡ true) × (length (m .moves) ≤ l .moves))
 read-exact l s m b = (read-spelling l s m b, λ h. ap (readModel l) (sym (h .1)) ∙ read-accepts l m (h .0) (h .2) (h .3))
 
 bytes-append : (s t : List ℕ) → AreBytes s → AreBytes t → AreBytes (s ++ t)

@@ -14,7 +14,7 @@ use Rattle.rules.specs.Limits.{most-moves, sizesOk}
 use Rattle.rules.specs.Moves.{pack, source, action, target}
 use Rattle.rules.specs.Model.{Equation, Model, labelOk, moveOk, operandsOk, namesOk, runOf, equationsOk, movesOk, wellFormed, signed, signOk, equationIn, guilty, numbered, styleOk}
 use Rattle.rules.specs.Records.{Rec, next, over}
-use Rattle.rules.specs.Rooms.{Lengths, roomsOk}
+use Rattle.rules.specs.Rooms.{Lengths, lentOk}
 use Rattle.rules.specs.Load.{Moves, Sofar, State, before, inside, started, movesDue, blockFits, labelDemands, blockDemands, equationDemands, moveDemands, endDemands, sizesDemands, afterLabel, afterBlock, afterEquation, afterMove, signedDemands, afterSigned, askChains, step, put, last}
 use Rattle.rules.specs.Spelling.{labelRecs, equationRec, blockRec, equationRecs, moveRec, moveRecs, records, sizesRec, signedRec, signedRecs, styleRecs, liveRec, liveRecs}
 use Rattle.rules.specs.declared.Sizes.{Sizes}
@@ -289,7 +289,7 @@ module _ (l : Lengths) where
       (styleRecs (m .sizes) (m .equations) ++ moveRecs (m .moves)) (omega arith) (k .0 .0 .0 .1) refl refl (style-in m h n)
 
   -- The records of a model inside the limits are passed, and say it.
-  pub walks-records : (m : Model) → wellFormed m ≡ true → roomsOk l (m .sizes) ≡ true → length (m .moves) ≤ l .moves → W before (records m) (unplaced m)
+  pub walks-records : (m : Model) → wellFormed m ≡ true → lentOk l (m .sizes) ≡ true → length (m .moves) ≤ l .moves → W before (records m) (unplaced m)
   unfolding wellFormed step put records
   walks-records m h r n =
       let k = simp and-is at h in

@@ -4,4 +4,4 @@ use Rattle.limits.specs.declared.Lent.{Lent}
 
 abbrev pub lengthsBy : Lent → Lengths
 lengthsBy l =
-    record { labels = l .labels; equations = l .equations; values = l .values; marks = l .marks; moves = l .moves }
+    record { labels = l .labels; equations = l .equations; values = l .values; marks = l .marks; moves = l .moves; index = l .index; queue = l .queue }

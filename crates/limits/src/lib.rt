@@ -1,11 +1,11 @@
 // The most of each thing, and whether the numbers of a model lie inside their limits.
 ghost use mathlib.Core.Path.{_≡_};
-ghost use Prim.Native.Nat.{_<_};
+ghost use Prim.Native.Nat.{_*_, _<_};
 ghost use Rattle.rules.specs.Limits.{sizesOk};
 ghost use Rattle.rules.specs.Load.{movingWith};
 ghost use Rattle.rules.specs.Model.{labelOk, moveOk, operandsOk, namesOk};
 ghost use Rattle.rules.specs.Moves.{pack};
-ghost use Rattle.rules.specs.Rooms.{pairsOf, roomsOk};
+ghost use Rattle.rules.specs.Rooms.{pairsOf, roomsOk, indexNeeds, queueNeeds, workOk, lentOk};
 ghost use Rattle.rules.specs.Values.{pair};
 ghost use Rattle.limits.specs.Lent.{lengthsBy};
 use rules::Move;
@@ -34,6 +34,8 @@ pub struct Lent {
     pub values: usize,
     pub marks: usize,
     pub moves: usize,
+    pub index: usize,
+    pub queue: usize,
 }
 
 // Each size lies between its least and its most.
@@ -57,11 +59,18 @@ pub fn moving_with(n: u32, here: State) -> u32
     n
 }
 
+// A byte times a number of two bytes.
+fn product(k: u8, n: u16) -> usize
+    ensures { λ r. ⌜ (r ≡ k * n) × (r < 16777216) ⌝ }
+{
+    (k as usize) * (n as usize)
+}
+
 // How many pairs there are.
 pub fn pairs_of(z: Sizes) -> usize
     ensures { λ r. ⌜ (r ≡ pairsOf z) × (r < 16777216) ⌝ }
 {
-    (z.variables as usize) * (z.states as usize)
+    product(z.variables, z.states)
 }
 
 // The number of the pair of a state and a variable.
@@ -80,6 +89,39 @@ pub fn rooms_ok(l: Lent, z: Sizes) -> bool
         & (z.variables as usize <= l.equations)
         & (n <= l.values)
         & (n <= l.marks)
+}
+
+// The places used of the index: a head for each action and target, and a link for each move that the move room, `room` places
+// long, can hold.
+pub fn index_needs(z: Sizes, room: usize) -> usize
+    ensures { λ r. ⌜ (r ≡ indexNeeds z room) × (r < 16778240) ⌝ }
+{
+    let heads = product(z.actions, z.states);
+    if room < MOST_MOVES {
+        return heads + room;
+    }
+    heads + MOST_MOVES
+}
+
+// The places used of the queue: one for each pair, and one more.
+pub fn queue_needs(z: Sizes) -> usize
+    ensures { λ r. ⌜ (r ≡ queueNeeds z) × (r < 16777217) ⌝ }
+{
+    pairs_of(z) + 1
+}
+
+// Neither room to work in is shorter than needed.
+pub fn work_ok(l: Lent, z: Sizes) -> bool
+    ensures { λ r. ⌜ r ≡ workOk (lengthsBy l) z ⌝ }
+{
+    (index_needs(z, l.moves) <= l.index) & (queue_needs(z) <= l.queue)
+}
+
+// No room at all is shorter than needed.
+pub fn lent_ok(l: Lent, z: Sizes) -> bool
+    ensures { λ r. ⌜ r ≡ lentOk (lengthsBy l) z ⌝ }
+{
+    rooms_ok(l, z) & work_ok(l, z)
 }
 
 // The highest proposition of the set lies below the proposition count.

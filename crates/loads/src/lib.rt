@@ -1,14 +1,15 @@
 // The call that loads a model: read and judged, stored in the rooms lent, and its values found.
 ghost use mathlib.Core.Path.{_≡_};
+ghost use Rattle.rules.specs.Rooms.{roomsWith};
 ghost use Rattle.rules.specs.Calls.{load};
 ghost use Rattle.rules.specs.Answers.{loadedSays};
-ghost use Rattle.loads.specs.LoadLaws.{five, loaded};
+ghost use Rattle.loads.specs.LoadLaws.{loaded};
 use judge::ReadModel;
 use rules::Loaded;
 use rules::Session;
 
 // A model loaded: refused where the reading refuses it, with the rooms left as they were; else its session, with the values
-// found and the marks cleared.
+// found and the marks and the rooms to work in cleared.
 pub fn load(
     bytes: &[u8],
     labels: &mut [u32],
@@ -16,16 +17,37 @@ pub fn load(
     values: &mut [u8],
     marks: &mut [u8],
     moves: &mut [u32],
+    index: &mut [u16],
+    queue: &mut [u16],
 ) -> Loaded
-    ensures { λ r. ⌜ loaded (loadedSays r) (five (now (labels .exit)) (now (equations .exit)) (now (values .exit)) (now (marks .exit)) (now (moves .exit)))
-        ≡ load (five (now (labels .entry)) (now (equations .entry)) (now (values .entry)) (now (marks .entry)) (now (moves .entry))) (now (bytes .entry)) ⌝ }
+    ensures { λ r. ⌜ loaded (loadedSays r) (roomsWith (now (labels .exit)) (now (equations .exit)) (now (values .exit)) (now (marks .exit)) (now (moves .exit)) (now (index .exit)) (now (queue .exit)))
+        ≡ load (roomsWith (now (labels .entry)) (now (equations .entry)) (now (values .entry)) (now (marks .entry)) (now (moves .entry)) (now (index .entry)) (now (queue .entry))) (now (bytes .entry)) ⌝ }
 {
-    let found = store::read_model(bytes, values.len(), marks.len(), labels, equations, moves);
+    let found = store::read_model(
+        bytes,
+        values.len(),
+        marks.len(),
+        index.len(),
+        queue.len(),
+        labels,
+        equations,
+        moves,
+    );
     match found {
         ReadModel::Refused(why, at) => Loaded::Refused(why, at),
         ReadModel::Good(sizes, live, count) => {
             let n = count as usize;
-            engine::load_values(sizes, labels, equations, moves, n, values, marks);
+            engine::load_values(
+                sizes,
+                labels,
+                equations,
+                moves,
+                n,
+                values,
+                marks,
+                index,
+                queue,
+            );
             let stamp = table::stamp_of(moves, n);
             Loaded::Accepted(Session {
                 sizes: sizes,

@@ -5,7 +5,7 @@ ghost use lib.ListN.{length, drop};
 ghost use Rattle.io.specs.Counts.{Counts};
 ghost use Rattle.lists.specs.Lists.{fill};
 ghost use Rattle.rules.specs.Answers.{updatedSays};
-ghost use Rattle.sessions.specs.Tested.{roomsOf};
+ghost use Rattle.rules.specs.Rooms.{roomsOf};
 ghost use Rattle.writer.specs.Spelled.{Wrote};
 ghost use Rattle.program.specs.Program.{sessionAfter, printedIn, printed};
 ghost use Rattle.program.specs.Steps.{Stepped, batchesFrom};

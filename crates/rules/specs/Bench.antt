@@ -1,7 +1,7 @@
 -- The bench cases A to F, with the box and the diamond of no move, as one table under one claim: from the bytes of a model
 -- and of its batches to the answers and the rooms. Two more rows have an equation that names one variable twice, and one
 -- that leans on an earlier block. Each model is also written, into room enough and into one place too few. Two further tables have
--- models with signs and live models. Assumes nothing.
+-- models with signs and live models, and a last one the rooms to work in. Assumes nothing.
 use mathlib.Core.Path.{_≡_, refl}
 use mathlib.Core.List.{List, [], _∷_, _++_}
 use Prim.Native.Nat.{ℕ, _-_}
@@ -14,7 +14,7 @@ use Rattle.rules.specs.Moves.{stampOf}
 use Rattle.rules.specs.Model.{labelOk, moveOk, operandsOk, namesOk, guilty, componentIn, placed, signsOk, styleOk, noneHangs, liveOk, wellFormed}
 use Rattle.rules.specs.Chains.{leads, together, mixed, reach, stands, component}
 use Rattle.rules.specs.Records.{Outcome, refused, accepted, widths, partsFrom, run}
-use Rattle.rules.specs.Rooms.{Rooms, roomsOk}
+use Rattle.rules.specs.Rooms.{Rooms, roomsOk, workOk, lentOk}
 use Rattle.rules.specs.Load.{blockFits, step, put, last, readModel}
 use Rattle.rules.specs.Spelling.{records}
 use Rattle.rules.specs.Batch.{stepBatch, putBatch, readBatch, edited, judge}
@@ -40,6 +40,8 @@ lent = record {
   values = replicate 7 9;
   marks = replicate 7 9;
   moves = replicate 4 9;
+  index = replicate 8 9;
+  queue = replicate 8 9;
 }
 
 abbrev afterBatch : Left Report Rooms → Outcome Report → (Session → Rooms → List Seen) → List Seen
@@ -151,7 +153,7 @@ pub bench :
     ∷ [])
     ∷ []
 unfolding
-    load readModel run partsFrom widths step put last sizesOk roomsOk blockFits labelOk moveOk operandsOk namesOk solve solveTo settles smallest
+    load readModel run partsFrom widths step put last sizesOk roomsOk workOk lentOk blockFits labelOk moveOk operandsOk namesOk solve solveTo settles smallest
     blockOf greatest termAt gives leanings write writable countsOk restOk wellFormed stampOf records batch judged readBatch stepBatch putBatch judge edited
     turnAll turnTo turnBlock shifts visitsOn styleOk liveOk
 bench = refl
@@ -206,7 +208,7 @@ pub signed-bench :
     ∷ (no 2 7 ∷ [])
     ∷ []
 unfolding
-    load readModel run partsFrom widths step put last sizesOk roomsOk blockFits labelOk moveOk operandsOk namesOk solve solveTo settles smallest
+    load readModel run partsFrom widths step put last sizesOk roomsOk workOk lentOk blockFits labelOk moveOk operandsOk namesOk solve solveTo settles smallest
     blockOf greatest termAt gives leanings write writable countsOk restOk wellFormed stampOf records batch judged readBatch stepBatch putBatch judge edited
     turnAll turnTo turnBlock shifts visitsOn styleOk signsOk guilty componentIn placed leads together mixed reach stands component liveOk
 signed-bench = refl
@@ -284,7 +286,58 @@ pub live-bench :
     ∷ (loaded (room 7 (1 ∷ 1 ∷ [])) 65796 (wrote strip) (short strip) ∷ no 2 5 ∷ [])
     ∷ []
 unfolding
-    load readModel run partsFrom widths step put last sizesOk roomsOk blockFits labelOk moveOk operandsOk namesOk solve solveTo settles smallest
+    load readModel run partsFrom widths step put last sizesOk roomsOk workOk lentOk blockFits labelOk moveOk operandsOk namesOk solve solveTo settles smallest
     blockOf greatest termAt gives leanings write writable countsOk restOk wellFormed stampOf records batch judged readBatch stepBatch putBatch judge edited
     turnAll turnTo turnBlock shifts visitsOn styleOk signsOk guilty componentIn placed leads together mixed reach stands component liveOk noneHangs
 live-bench = refl
+
+-- The rooms of l, with n places to work in for the index and k for the queue, filled with 9.
+abbrev working : ℕ → ℕ → Rooms → Rooms
+working n k l = record {
+  labels = l .labels;
+  equations = l .equations;
+  values = l .values;
+  marks = l .marks;
+  moves = l .moves;
+  index = replicate n 9;
+  queue = replicate k 9;
+}
+
+-- What a call answers and leaves in the rooms to work in: a refusal, or that it was accepted.
+pub data Worked : Type 0 where
+  did : List ℕ → List ℕ → Worked
+  didNot : ℕ → List ℕ → List ℕ → Worked
+
+abbrev worked : {A : Type 0} → Rooms → Outcome A → Worked
+worked l (refused n p) = didNot n (l .index) (l .queue)
+worked l (accepted a) = did (l .index) (l .queue)
+
+-- Model E loaded, then batch E, each in rooms of n and k places to work in; E has two states, one action and six pairs, and the
+-- room of its moves has four places. Then it is written with none.
+abbrev batchWith : ℕ → ℕ → Left Session Rooms → Outcome Session → Worked
+batchWith n k c (refused q p) = didNot q [] []
+batchWith n k c (accepted s) = let d = batch s (working n k (c .rooms)) E in worked (d .rooms) (d .answer)
+
+abbrev writeWith : Left Session Rooms → Outcome Session → Worked
+writeWith c (refused q p) = didNot q [] []
+writeWith c (accepted s) =
+    let l = working 0 0 (c .rooms) in worked l (write s l (replicate 44 9) .answer)
+
+abbrev work : ℕ → ℕ → List Worked
+work n k =
+    let c = load (working n k lent) e in let d = load lent e in worked (c .rooms) (c .answer) ∷ batchWith n k d (d .answer) ∷ []
+
+-- Six places for the index and seven for the queue are enough, and no more are touched; with one place too few of either, a load and
+-- a batch are refused with 13 and change nothing.
+pub work-bench :
+    work 8 8 ++ work 6 7 ++ work 5 7 ++ work 6 6 ++ (let d = load lent e in writeWith d (d .answer) ∷ [])
+    ≡ (did (room 8 (replicate 6 0)) (room 8 (replicate 7 0)) ∷ did (room 8 (replicate 6 0)) (room 8 (replicate 7 0)) ∷ [])
+    ++ (did (replicate 6 0) (replicate 7 0) ∷ did (replicate 6 0) (replicate 7 0) ∷ [])
+    ++ (didNot 13 (replicate 5 9) (replicate 7 9) ∷ didNot 13 (replicate 5 9) (replicate 7 9) ∷ [])
+    ++ (didNot 13 (replicate 6 9) (replicate 6 9) ∷ didNot 13 (replicate 6 9) (replicate 6 9) ∷ [])
+    ++ (did [] [] ∷ [])
+unfolding
+    load readModel run partsFrom widths step put last sizesOk roomsOk workOk lentOk blockFits labelOk moveOk operandsOk namesOk solve solveTo settles smallest
+    blockOf greatest termAt gives leanings write writable countsOk restOk wellFormed stampOf records batch judged readBatch stepBatch putBatch judge edited
+    turnAll turnTo turnBlock shifts visitsOn styleOk liveOk
+work-bench = refl

@@ -10,7 +10,7 @@ use Rattle.lists.specs.Smallest.{at}
 use Rattle.rules.specs.Limits.{sizesOk}
 use Rattle.rules.specs.Model.{Model}
 use Rattle.rules.specs.Records.{Outcome, refused, accepted}
-use Rattle.rules.specs.Rooms.{Rooms, lengthsOf, pairsOf}
+use Rattle.rules.specs.Rooms.{Rooms, lengthsOf, pairsOf, roomsOk, lentOk, indexAfter, queueAfter}
 use Rattle.rules.specs.Load.{readModel}
 use Rattle.rules.specs.Spelling.{encode}
 use Rattle.rules.specs.Batch.{Batch, readBatch, judge}
@@ -44,7 +44,7 @@ valueAt vs p = eqb (getD vs p 0) 1
 abbrev pub bits : ℕ → Values → List ℕ
 bits n v = listed 0 n (λ p. bit (v p))
 
--- Load: the model read, its values found, all marks 0.
+-- Load: the model read, its values found, all marks 0, the rooms to work in cleared.
 abbrev pub loadBy : Rooms → Outcome Model → Left Session Rooms
 loadBy l (refused n p) = record { answer = refused n p; rooms = l }
 loadBy l (accepted m) = record {
@@ -55,6 +55,8 @@ loadBy l (accepted m) = record {
     values = fill (bits (pairsOf (m .sizes)) (at (solve m))) (l .values);
     marks = fill (replicate (pairsOf (m .sizes)) 0) (l .marks);
     moves = fill (m .moves) (l .moves);
+    index = indexAfter (m .sizes) (length (l .moves)) (l .index);
+    queue = queueAfter (m .sizes) (l .queue);
   };
 }
 
@@ -64,7 +66,7 @@ load l s = loadBy l (readModel (lengthsOf l) s)
 -- Batch: asked of the session 12, 13 and 12, then 1 to 4 of the bytes, then 11, 9, 7 and 8, 10, and 16.
 unfoldable pub judged : Session → Rooms → List ℕ → Outcome Batch
 judged s l bytes =
-    asked (sessionDemands s l) (andThen (readBatch (s .sizes) bytes) (judge s (length (l .moves)) (held s l .moves)))
+    asked (sessionDemands lentOk s l) (andThen (readBatch (s .sizes) bytes) (judge s (length (l .moves)) (held s l .moves)))
 
 -- The report of an update, and the rooms after it. Places that the move list frees at its end become 0.
 abbrev pub marksOf : ℕ → Turned → List ℕ
@@ -84,6 +86,8 @@ roomsAfter s l m t = record {
   values = fill (bits (pairsOf (m .sizes)) (at (t .values))) (l .values);
   marks = fill (marksOf (pairsOf (m .sizes)) t) (l .marks);
   moves = fill (m .moves ++ replicate (s .moves - length (m .moves)) 0) (l .moves);
+  index = indexAfter (m .sizes) (length (l .moves)) (l .index);
+  queue = queueAfter (m .sizes) (l .queue);
 }
 
 abbrev pub batchBy : Session → Rooms → Outcome Batch → Left Report Rooms
@@ -104,7 +108,7 @@ writeBy m out (accepted n) = record { answer = accepted n; rooms = fill (encode 
 unfoldable pub writable : Session → Rooms → List ℕ → Outcome ℕ
 writable s l out =
     let n = length (encode (held s l)) in
-    asked (sessionDemands s l) (asked ((13, leb n (length out)) ∷ []) (accepted n))
+    asked (sessionDemands roomsOk s l) (asked ((13, leb n (length out)) ∷ []) (accepted n))
 
 unfoldable pub write : Session → Rooms → List ℕ → Left ℕ (List ℕ)
 write s l out = writeBy (held s l) out (writable s l out)

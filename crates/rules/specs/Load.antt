@@ -9,7 +9,7 @@ use Rattle.rules.specs.Limits.{most-moves, sizesOk}
 use Rattle.rules.specs.Moves.{pack, source}
 use Rattle.rules.specs.Model.{Equation, Model, labelOk, moveOk, operandsOk, namesOk, signed, signOk, guilty, placed}
 use Rattle.rules.specs.Records.{Rec, field, Turn, no, back, next, over, demand, Outcome, onto, run, parts}
-use Rattle.rules.specs.Rooms.{Lengths, roomsOk}
+use Rattle.rules.specs.Rooms.{Lengths, lentOk}
 use Rattle.rules.specs.declared.Sizes.{Sizes}
 
 -- Of the blocks so far: how many records, the kind of the last, how many of its equations are still due, and how many
@@ -47,7 +47,7 @@ sizesOf r =
     record { states = field r 0; actions = field r 1; propositions = field r 2; variables = field r 3; blocks = field r 4 }
 
 abbrev pub sizesDemands : Lengths → Rec → List (ℕ × Bool)
-sizesDemands l r = (2, eqb (r .kind) 1) ∷ (3, sizesOk (sizesOf r)) ∷ (13, roomsOk l (sizesOf r)) ∷ []
+sizesDemands l r = (2, eqb (r .kind) 1) ∷ (3, sizesOk (sizesOf r)) ∷ (13, lentOk l (sizesOf r)) ∷ []
 
 abbrev pub started : Sizes → Sofar
 started z =

@@ -8,7 +8,8 @@ use Rattle.lists.specs.Lists.{all}
 use Rattle.rules.specs.Limits.{most-moves, sizesOk}
 use Rattle.rules.specs.Moves.{stampOf}
 use Rattle.rules.specs.Model.{Equation, Model, wellFormed}
-use Rattle.rules.specs.Rooms.{Rooms, lengthsOf, pairsOf, roomsOk}
+use Rattle.rules.specs.Rooms.{Rooms, Lengths, lengthsOf, pairsOf}
+use Rattle.rules.specs.declared.Sizes.{Sizes}
 use Rattle.rules.specs.declared.Session.{Session}
 
 -- An equation as one number: operator, first, second, and 2 × block + kind, a byte each.
@@ -44,6 +45,6 @@ restOk s l =
     wellFormed (held s l) && all (λ v. leb v 1) (take (pairsOf (s .sizes)) (l .values))
     && all (λ v. leb v 3) (take (pairsOf (s .sizes)) (l .marks)) && eqb (s .stamp) (stampOf (held s l .moves))
 
--- What a batch and a writing ask of a session, in order.
-abbrev pub sessionDemands : Session → Rooms → List (ℕ × Bool)
-sessionDemands s l = (12, countsOk s l) ∷ (13, roomsOk (lengthsOf l) (s .sizes)) ∷ (12, restOk s l) ∷ []
+-- What a batch and a writing ask of a session, in order. Of which rooms they ask the length is `long`.
+abbrev pub sessionDemands : (Lengths → Sizes → Bool) → Session → Rooms → List (ℕ × Bool)
+sessionDemands long s l = (12, countsOk s l) ∷ (13, long (lengthsOf l) (s .sizes)) ∷ (12, restOk s l) ∷ []

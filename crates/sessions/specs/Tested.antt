@@ -7,7 +7,7 @@ use lib.ListN.{length}
 use lib.Dec.{eqb, ltb, leb}
 use Rattle.rules.specs.Limits.{most-moves, sizesOk}
 use Rattle.rules.specs.Model.{Equation, Model, operandsOk, namesOk}
-use Rattle.rules.specs.Rooms.{Rooms, lengthsOf, roomsOk}
+use Rattle.rules.specs.Rooms.{Rooms, roomsOf}
 use Rattle.rules.specs.Session.{held, countsOk}
 use Rattle.rules.specs.declared.Sizes.{Sizes}
 use Rattle.rules.specs.declared.Session.{Session}
@@ -21,11 +21,7 @@ pub counts-by : (s : Session) (l : Rooms) → countsOk s l ≡ countsBy s (lengt
 unfolding countsOk countsBy
 counts-by s l = refl
 
--- The five rooms, and the model that a session holds in three of them.
-abbrev pub roomsOf : List ℕ → List ℕ → List ℕ → List ℕ → List ℕ → Rooms
-roomsOf labels equations values marks moves =
-    record { labels = labels; equations = equations; values = values; marks = marks; moves = moves }
-
+-- The model that a session holds in three of its rooms.
 abbrev pub heldIn : Session → List ℕ → List ℕ → List ℕ → Model
 heldIn s labels equations moves = held s (roomsOf labels equations [] [] moves)
 

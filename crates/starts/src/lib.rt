@@ -34,6 +34,18 @@ pub fn clear(room: &mut [u8], n: usize)
     set_all(&mut room[..n], 0);
 }
 
+// The same in a room of numbers of two bytes.
+pub fn clear_halves(room: &mut [u16], n: usize)
+    requires { ⌜ n ≤ length (now room) ⌝ }
+    ensures { λ _. ⌜ now (room .exit) ≡ fill (replicate n 0) (now (room .entry)) ⌝ }
+{
+    let mut j: usize = 0;
+    while j < n {
+        room[j] = 0;
+        j = j + 1;
+    }
+}
+
 // The own value of the block of variable x, as it is written into a room.
 fn own_byte(equations: &[u32], x: usize) -> u8
     ensures { λ r. ⌜ r ≡ bit (eqb (unword (getD (now (equations .entry)) x 0) .kind) 1) ⌝ }

@@ -19,7 +19,7 @@ use Rattle.rules.specs.Limits.{sizesOk}
 use Rattle.rules.specs.Model.{Equation, Model, equationIn, componentIn, placed, signed, signOk, styleOk, moveOk, wellFormed}
 use Rattle.rules.specs.Moves.{pack, wrap}
 use Rattle.rules.specs.Records.{Parts, ends, broken, part, Turn, no, back, next, over, Outcome, refused, accepted, onto, onTurn, atEnd, run, numbersOf}
-use Rattle.rules.specs.Rooms.{Lengths, roomsOk}
+use Rattle.rules.specs.Rooms.{Lengths, roomsOk, lentOk}
 use Rattle.rules.specs.Session.{word, unword}
 use Rattle.components.specs.Stored.{held}
 use Rattle.laws.specs.Named.{names-well}
@@ -250,20 +250,20 @@ pub record Fitting (z : Sizes) (t : Stored) : Type 0 where
   pub few : z .variables ≤ 32
   pub room : z .variables ≤ length (t .equations)
 
-pub accepted-fits : (s : List ℕ) (values marks : ℕ) (t : Stored) (m : Model) → AreBytes s → readModel (lengthsWith values marks t) s ≡ accepted m → Fitting (m .sizes) t
-unfolding wellFormed roomsOk
-accepted-fits s values marks t m b e =
-    let w = read-spelling (lengthsWith values marks t) s m b e in
+pub accepted-fits : (s : List ℕ) (values marks index queue : ℕ) (t : Stored) (m : Model) → AreBytes s → readModel (lengthsWith values marks index queue t) s ≡ accepted m → Fitting (m .sizes) t
+unfolding wellFormed roomsOk lentOk
+accepted-fits s values marks index queue t m b e =
+    let w = read-spelling (lengthsWith values marks index queue t) s m b e in
     let k = simp and-is at (w .0) in
     let j = simp tests at (w .2) in
     let q = small (m .sizes) (k .0 .0 .0 .0 .0) in
     record { few = omega arith; room = omega arith }
 
-pub stored-whole : (s : List ℕ) (values marks : ℕ) (t : Stored) (m n : Model) → AreBytes s → readModel (lengthsWith values marks t) s ≡ accepted m → m ≡ settleStyle n
+pub stored-whole : (s : List ℕ) (values marks index queue : ℕ) (t : Stored) (m n : Model) → AreBytes s → readModel (lengthsWith values marks index queue t) s ≡ accepted m → m ≡ settleStyle n
     → completed (m .sizes) (laid (started (n .sizes)) n t) ≡ storedBy (accepted m) t
-unfolding wellFormed roomsOk
-stored-whole s values marks t m n b e f =
-    let w = read-spelling (lengthsWith values marks t) s m b e in
+unfolding wellFormed roomsOk lentOk
+stored-whole s values marks index queue t m n b e f =
+    let w = read-spelling (lengthsWith values marks index queue t) s m b e in
     let v = rw f at w in
     let k = simp and-is at (v .0) in
     let j = simp tests at (v .2) in
@@ -279,22 +279,22 @@ good-stores : (o : Outcome Model) (b : Summary) (t u : Stored) → accepted b �
 good-stores (refused k q) b t u h f = absurd (never (sym h))
 good-stores (accepted m) b t u h f = f m refl cc
 
-pub read-refused : (s : List ℕ) (values marks : ℕ) (t : Stored) (r : ReadModel) (e : Refusal) (p : ℕ) → r ≡ M.Refused e p
-    → readSays r ≡ summary (readModel (lengthsWith values marks t) s) → ReadInto s values marks t r t
-read-refused s values marks t r e p q h =
-    record { says = h; stores = refused-stores (readModel (lengthsWith values marks t) s) (numberOf e) p t (rw q at h) }
+pub read-refused : (s : List ℕ) (values marks index queue : ℕ) (t : Stored) (r : ReadModel) (e : Refusal) (p : ℕ) → r ≡ M.Refused e p
+    → readSays r ≡ summary (readModel (lengthsWith values marks index queue t) s) → ReadInto s values marks index queue t r t
+read-refused s values marks index queue t r e p q h =
+    record { says = h; stores = refused-stores (readModel (lengthsWith values marks index queue t) s) (numberOf e) p t (rw q at h) }
 
-pub read-good : (s : List ℕ) (values marks : ℕ) (t u : Stored) (out : List ℕ) (r : ReadModel) (z : Sizes) (live n : ℕ) → AreBytes s → r ≡ M.Good z live n
-    → readSays r ≡ summary (readModel (lengthsWith values marks t) s)
-    → ((m : Model) → readPlain (lengthsWith values marks t) s ≡ accepted m → u ≡ laid (started (m .sizes)) m t) → out ≡ withComponents z (u .equations)
-    → ReadInto s values marks t (M.Good z live n) (record { labels = u .labels; equations = out; moves = u .moves })
-read-good s values marks t u out r z live n b q h f c =
+pub read-good : (s : List ℕ) (values marks index queue : ℕ) (t u : Stored) (out : List ℕ) (r : ReadModel) (z : Sizes) (live n : ℕ) → AreBytes s → r ≡ M.Good z live n
+    → readSays r ≡ summary (readModel (lengthsWith values marks index queue t) s)
+    → ((m : Model) → readPlain (lengthsWith values marks index queue t) s ≡ accepted m → u ≡ laid (started (m .sizes)) m t) → out ≡ withComponents z (u .equations)
+    → ReadInto s values marks index queue t (M.Good z live n) (record { labels = u .labels; equations = out; moves = u .moves })
+read-good s values marks index queue t u out r z live n b q h f c =
     record {
       says = rw q at h;
-      stores = good-stores (readModel (lengthsWith values marks t) s) (record { sizes = z; live = live; moves = n }) t _ (rw q at h) (λ m e g.
-          let d = plain-accepts (lengthsWith values marks t) s m e in
+      stores = good-stores (readModel (lengthsWith values marks index queue t) s) (record { sizes = z; live = live; moves = n }) t _ (rw q at h) (λ m e g.
+          let d = plain-accepts (lengthsWith values marks index queue t) s m e in
           ap (λ (ws : List ℕ). record { labels = u .labels; equations = ws; moves = u .moves }) c
-          ∙ ap₂ completed g (f (d .0) (d .1)) ∙ stored-whole s values marks t m (d .0) b e (d .2));
+          ∙ ap₂ completed g (f (d .0) (d .1)) ∙ stored-whole s values marks index queue t m (d .0) b e (d .2));
     }
 
 -- What a good answer tells of the sizes.
@@ -302,6 +302,6 @@ good-fits : (o : Outcome Model) (b : Summary) (t : Stored) → accepted b ≡ su
 good-fits (refused k q) b t h f = absurd (never (sym h))
 good-fits (accepted m) b t h f = let e : b .sizes ≡ m .sizes = cc in rw e (f m refl)
 
-pub read-fits : (s : List ℕ) (values marks : ℕ) (t : Stored) (r : ReadModel) (z : Sizes) (live n : ℕ) → AreBytes s → r ≡ M.Good z live n → readSays r ≡ summary (readModel (lengthsWith values marks t) s) → Fitting z t
-read-fits s values marks t r z live n b q h =
-    good-fits (readModel (lengthsWith values marks t) s) (record { sizes = z; live = live; moves = n }) t (rw q at h) (λ m e. accepted-fits s values marks t m b e)
+pub read-fits : (s : List ℕ) (values marks index queue : ℕ) (t : Stored) (r : ReadModel) (z : Sizes) (live n : ℕ) → AreBytes s → r ≡ M.Good z live n → readSays r ≡ summary (readModel (lengthsWith values marks index queue t) s) → Fitting z t
+read-fits s values marks index queue t r z live n b q h =
+    good-fits (readModel (lengthsWith values marks index queue t) s) (record { sizes = z; live = live; moves = n }) t (rw q at h) (λ m e. accepted-fits s values marks index queue t m b e)

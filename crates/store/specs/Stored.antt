@@ -80,12 +80,19 @@ storedBy (refused n p) t = t
 storedBy (accepted m) t =
     record { labels = fill (m .labels) (t .labels); equations = fill (map word (m .equations)) (t .equations); moves = fill (m .moves) (t .moves) }
 
--- The lengths of the rooms: the three, and those for values and marks.
-abbrev pub lengthsWith : ℕ → ℕ → Stored → Lengths
-lengthsWith values marks t =
-    record { labels = length (t .labels); equations = length (t .equations); values = values; marks = marks; moves = length (t .moves) }
+-- The lengths of the rooms: the three, those for values and marks, and those to work in.
+abbrev pub lengthsWith : ℕ → ℕ → ℕ → ℕ → Stored → Lengths
+lengthsWith values marks index queue t = record {
+  labels = length (t .labels);
+  equations = length (t .equations);
+  values = values;
+  marks = marks;
+  moves = length (t .moves);
+  index = index;
+  queue = queue;
+}
 
 -- A reading into rooms t that answers r and leaves u: it says what the rules' reading comes to, and stores the model.
-pub record ReadInto (s : List ℕ) (values marks : ℕ) (t : Stored) (r : ReadModel) (u : Stored) : Type 0 where
-  pub says : readSays r ≡ summary (readModel (lengthsWith values marks t) s)
-  pub stores : u ≡ storedBy (readModel (lengthsWith values marks t) s) t
+pub record ReadInto (s : List ℕ) (values marks index queue : ℕ) (t : Stored) (r : ReadModel) (u : Stored) : Type 0 where
+  pub says : readSays r ≡ summary (readModel (lengthsWith values marks index queue t) s)
+  pub stores : u ≡ storedBy (readModel (lengthsWith values marks index queue t) s) t

@@ -144,11 +144,13 @@ pub fn read_model(
     bytes: &[u8],
     values: usize,
     marks: usize,
+    index: usize,
+    queue: usize,
     labels: &mut [u32],
     equations: &mut [u32],
     moves: &mut [u32],
 ) -> ReadModel
-    ensures { λ r. ⌜ ReadInto (now (bytes .entry)) values marks (record { labels = now (labels .entry); equations = now (equations .entry); moves = now (moves .entry) }) r (record { labels = now (labels .exit); equations = now (equations .exit); moves = now (moves .exit) }) ⌝ }
+    ensures { λ r. ⌜ ReadInto (now (bytes .entry)) values marks index queue (record { labels = now (labels .entry); equations = now (equations .entry); moves = now (moves .entry) }) r (record { labels = now (labels .exit); equations = now (equations .exit); moves = now (moves .exit) }) ⌝ }
 {
     let l = Lent {
         labels: labels.len(),
@@ -156,6 +158,8 @@ pub fn read_model(
         values: values,
         marks: marks,
         moves: moves.len(),
+        index: index,
+        queue: queue,
     };
     let answer = judge::judge_model(bytes, l);
     let ReadModel::Good(z, _, _) = answer else {

@@ -1,5 +1,6 @@
 -- The writing of a session that was found good, in the words of the writer's functions. Assumes nothing.
 use mathlib.Core.Path.{_≡_, sym, ap, _∙_}
+use mathlib.Core.Bool.{true}
 use mathlib.Core.List.{List, _++_, append-nil}
 use Prim.Native.Nat.{ℕ, _+_, _*_, _≤_, _<_}
 use native.Mathlib.Omega.{arith}
@@ -22,21 +23,21 @@ use Rattle.writer.specs.Spelled.{rest, Wrote, heldIn}
 use Rattle.writer.specs.SpelledLaws.{rest-take, held-is, wrote-fills}
 
 -- A session that was checked, and nothing wrong was found.
-module _ (s : Session) (l : Rooms) (out : List ℕ) (found : Checked) (h : checkedSays found ≡ checkOf s l) (g : found ≡ Found.Good) where
+module _ (s : Session) (l : Rooms) (out : List ℕ) (found : Checked) (h : checkedSays found ≡ checkOf true s l) (g : found ≡ Found.Good) where
   -- The writer's limits are kept.
   pub good-limits : (s .sizes .states ≤ 256) × (s .sizes .variables ≤ 32) × (s .moves ≤ 1024)
-  good-limits = let f = passed-fits s l found h g in (f .states, f .variables, f .moves)
+  good-limits = let f = passed-fits true s l found h g in (f .states, f .variables, f .moves)
 
   -- The model written is the one that the session holds.
   good-held : heldIn (s .sizes) (s .live) (s .moves) (l .labels) (l .equations) (l .moves) ≡ held s l
-  good-held = let f = passed-fits s l found h g in held-is s l (f .labels-room) (f .equations-room) (f .moves-room)
+  good-held = let f = passed-fits true s l found h g in held-is s l (f .labels-room) (f .equations-room) (f .moves-room)
 
   -- A number n that was counted as the length.
   module _ (n : ℕ) (e : n ≡ 8 + s .live + 7 * labelled (rest (l .labels) 0 (s .sizes .states)) + 3 * s .sizes .blocks + equationSize (s .sizes) * s .sizes .variables + 6 * s .moves) where
     -- It is the spelling's length.
     counted-is : n ≡ length (encode (held s l))
     counted-is =
-        let f = passed-fits s l found h g in
+        let f = passed-fits true s l found h g in
         let t = ap labelled (rest-take (l .labels) (s .sizes .states) (f .labels-room)) in
         let m = good-length s l out found h g in omega arith
 

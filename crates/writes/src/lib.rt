@@ -2,7 +2,7 @@
 ghost use mathlib.Core.Path.{_≡_};
 ghost use Rattle.rules.specs.Calls.{write};
 ghost use Rattle.rules.specs.Answers.{writtenSays};
-ghost use Rattle.sessions.specs.Tested.{roomsOf};
+ghost use Rattle.rules.specs.Rooms.{roomsOf};
 use calls::Checked;
 use rules::Refusal;
 use rules::Session;
@@ -21,7 +21,7 @@ pub fn write(
 ) -> Written
     ensures { λ r. ⌜ record { answer = writtenSays r; rooms = now (out .exit) } ≡ write session (roomsOf (now (labels .entry)) (now (equations .entry)) (now (values .entry)) (now (marks .entry)) (now (moves .entry))) (now (out .entry)) ⌝ }
 {
-    match calls::session_refusal(session, labels, equations, values, marks, moves) {
+    match calls::session_refusal(session, labels, equations, values, marks, moves, true) {
         Checked::Refused(why) => {
             return Written::Refused(why, 0);
         }

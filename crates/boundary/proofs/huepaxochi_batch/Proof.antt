@@ -1,5 +1,5 @@
 -- Each way out leaves what the call is said to leave there. Assumes nothing.
-use Rattle.sessions.specs.Tested.{roomsOf}
+use Rattle.rules.specs.Rooms.{roomsOf}
 use Rattle.boundary.specs.Ways.{batch-short, long-session, long-report, batch-comes}
 use borrow.Author.Needs.{needs}
 use Rattle.boundary.proofs.huepaxochi_batch.Statement.{statement}

@@ -44,8 +44,8 @@ returns-3 c s e =
     let got : recordAt s 0 ≡ Got (R.Sizes z) n = sym e ∙ g .1 ∙ ap (λ (r : Record). Got r n) (c .before .before .before .rec .given .1) in
     turned-no l s before 0 n (R.Sizes z) got Why.BadSize (sizes-no l z 1 (refl, rw (c .before .sizes-ok .ensures) at (c .if1 .taken)))
 
-rooms-ok-requires : tie.Need-rooms-ok-requires
-rooms-ok-requires c κs = search needs
+lent-ok-requires : tie.Need-lent-ok-requires
+lent-ok-requires c κs = search needs
 
 returns-4 : tie.Need-returns-4
 returns-4 c s e =
@@ -54,7 +54,7 @@ returns-4 c s e =
     let n = g .0 .1 .0 in
     let z = c .before .before .before .before .before .rec .given .0 .0 in
     let got : recordAt s 0 ≡ Got (R.Sizes z) n = sym e ∙ g .1 ∙ ap (λ (r : Record). Got r n) (c .before .before .before .before .before .rec .given .1) in
-    turned-no l s before 0 n (R.Sizes z) got Why.ShortRoom (sizes-no l z 2 (refl, (rw (c .before .before .before .sizes-ok .ensures) at (c .before .before .if1 .left), rw (c .before .rooms-ok .ensures) at (c .if2 .taken))))
+    turned-no l s before 0 n (R.Sizes z) got Why.ShortRoom (sizes-no l z 2 (refl, (rw (c .before .before .before .sizes-ok .ensures) at (c .before .before .if1 .left), rw (c .before .lent-ok .ensures) at (c .if2 .taken))))
 
 started-with-requires : tie.Need-started-with-requires
 started-with-requires c κs = search needs
@@ -68,7 +68,7 @@ returns-5 c s e =
     let got : recordAt s 0 ≡ Got (R.Sizes z) n = sym e ∙ g .1 ∙ ap (λ (r : Record). Got r n) (c .before .before .before .before .before .before .rec .given .1) in
     let w = c .started-with .ensures in
     let fits = rw (c .before .before .before .before .sizes-ok .ensures) at (c .before .before .before .if1 .left) in
-    let k = sizes-next l z (refl, (fits, (rw (c .before .before .rooms-ok .ensures) at (c .before .if2 .left), tt))) in
+    let k = sizes-next l z (refl, (fits, (rw (c .before .before .lent-ok .ensures) at (c .before .if2 .left), tt))) in
     turned-next l s before 0 n (R.Sizes z) got (c .started-with .result) (rw w k) (rw w (started-kept z (not-false (sizesOk z) fits)))
 
 pub first-turn-spec : {M : Type 1} → statement M
@@ -82,7 +82,7 @@ first-turn-spec =
     returns-2
     sizes-ok-requires
     returns-3
-    rooms-ok-requires
+    lent-ok-requires
     returns-4
     started-with-requires
     returns-5)

@@ -4,7 +4,7 @@ use Prim.Native.Nat.{_-_}
 use native.Mathlib.Omega.{arith}
 use lib.ListN.{length}
 use borrow.Author.Needs.{needs}
-use Rattle.sessions.specs.Tested.{roomsOf}
+use Rattle.rules.specs.Rooms.{roomsOf}
 use Rattle.program.specs.Running.{tail-part, Running, begins, takes, goes-on, all-printed}
 use Rattle.program.proofs.print_batches.Statement.{statement}
 use Rattle.program.proofs.print_batches.Tie as tie

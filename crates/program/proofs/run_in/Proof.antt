@@ -2,7 +2,7 @@
 use mathlib.Core.Path.{_∙_}
 -- The whole run: the model's part, and then the batches. Assumes nothing.
 use native.Mathlib.Omega.{arith}
-use Rattle.sessions.specs.Tested.{roomsOf}
+use Rattle.rules.specs.Rooms.{roomsOf}
 use Rattle.laws.specs.RecordLaws.{are-bytes}
 use Rattle.cuts.specs.CutLaws.{cut-most}
 use Rattle.program.specs.Steps.{part-within}

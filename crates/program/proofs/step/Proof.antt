@@ -1,7 +1,7 @@
 -- One part: cut, handed over, and its line written. Assumes nothing.
 use mathlib.Core.Path.{refl}
 use native.Mathlib.Omega.{arith}
-use Rattle.sessions.specs.Tested.{roomsOf}
+use Rattle.rules.specs.Rooms.{roomsOf}
 use Rattle.laws.specs.RecordLaws.{are-bytes}
 use Rattle.program.specs.Steps.{part-within, stepped}
 use borrow.Author.Needs.{needs}

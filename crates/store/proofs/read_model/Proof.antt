@@ -40,7 +40,7 @@ returns c =
     let after-judge-model = c .before .before in
     let a = shared-slice-known-before-judge-model after-judge-model .before .args in
     let t = three (a .labels .now) (a .equations .now) (a .moves .now) in
-    read-refused (a .bytes .now) (a .values) (a .marks) t _ (c .enum-told .given .0 .0) (c .enum-told .given .0 .1 .0) (c .enum-told .given .1) (after-judge-model .judge-model .ensures)
+    read-refused (a .bytes .now) (a .values) (a .marks) (a .index) (a .queue) t _ (c .enum-told .given .0 .0) (c .enum-told .given .0 .1 .0) (c .enum-told .given .1) (after-judge-model .judge-model .ensures)
 
 store-model-requires : tie.Need-store-model-requires
 store-model-requires c κs = search needs
@@ -54,7 +54,7 @@ put-components-requires c κs =
     let a = after-shared-slice-known .before .args in
     let t = three (a .labels .now) (a .equations .now) (a .moves .now) in
     let g = after-shared-slice-known .shared-slice-known .given in
-    let f = read-fits (a .bytes .now) (a .values) (a .marks) t _ _ _ _ (are-bytes (a .bytes .now) (λ i. omega (arith, g i))) (after-answer .answer .given .1) (after-judge-model .judge-model .ensures) in
+    let f = read-fits (a .bytes .now) (a .values) (a .marks) (a .index) (a .queue) t _ _ _ _ (are-bytes (a .bytes .now) (λ i. omega (arith, g i))) (after-answer .answer .given .1) (after-judge-model .judge-model .ensures) in
     let k = after-equations .equations .given in
     let r = f .room in
     (f .few, omega arith)
@@ -78,7 +78,7 @@ returns-2 c =
     let a = after-shared-slice-known .before .args in
     let t = three (a .labels .now) (a .equations .now) (a .moves .now) in
     let g = after-shared-slice-known .shared-slice-known .given in
-    read-good (a .bytes .now) (a .values) (a .marks) t _ _ _ _ _ _ (are-bytes (a .bytes .now) (λ i. omega (arith, g i))) (after-answer .answer .given .1) (after-judge-model .judge-model .ensures) (after-store-model .store-model .ensures) (after-put-components .put-components .ensures)
+    read-good (a .bytes .now) (a .values) (a .marks) (a .index) (a .queue) t _ _ _ _ _ _ (are-bytes (a .bytes .now) (λ i. omega (arith, g i))) (after-answer .answer .given .1) (after-judge-model .judge-model .ensures) (after-store-model .store-model .ensures) (after-put-components .put-components .ensures)
 
 pub read-model-spec : {M : Type 1} → statement M
 read-model-spec =

@@ -1,5 +1,5 @@
 -- Each way out leaves what the call is said to leave there. Assumes nothing.
-use Rattle.sessions.specs.Tested.{roomsOf}
+use Rattle.rules.specs.Rooms.{roomsOf}
 use Rattle.calls.specs.WriteLaws.{write-stops}
 use Rattle.writes.specs.Leaves.{good-limits, leaves-short, leaves-written}
 use mathlib.Core.Path.{sym}

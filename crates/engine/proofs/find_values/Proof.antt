@@ -11,8 +11,8 @@ use Rattle.pairs.specs.Drawn.{tableOf}
 use Rattle.starts.specs.Starts.{own-filled}
 use Rattle.engine.specs.Updates.{load-starts, load-leaves, load-clears}
 use borrow.Author.Needs.{needs}
-use Rattle.engine.proofs.load_values.Statement.{statement}
-use Rattle.engine.proofs.load_values.Tie as tie
+use Rattle.engine.proofs.find_values.Statement.{statement}
+use Rattle.engine.proofs.find_values.Tie as tie
 
 pairs-of-requires : tie.Need-pairs-of-requires
 pairs-of-requires c κs = search needs
@@ -69,8 +69,8 @@ returns c =
     let is-own = c .before .before .before .before .before .before .before .before .before .before .before .before .before .own-values .ensures ∙ ap (λ (q : ℕ). fill (bits q (λ p. eqb (kindIn (a .sizes) (a .equations .now) p) 1)) (a .values .now)) (c .before .before .before .before .before .before .before .before .before .before .before .before .before .before .before .pairs-of .ensures .0) ∙ own-filled (a .sizes) (a .labels .now) (a .equations .now) (a .moves .now) (a .n) d (a .values .now) in
     (load-leaves m ok (a .values .now) _ (k .0) is-own (a .marks .now) _ _ _ _ (c .before .before .before .before .before .before .before .before .move-values .ensures), load-clears m ok (a .values .now) _ (k .0) is-own (a .marks .now) _ _ _ _ _ (c .before .before .before .before .before .before .before .before .before .before .before .before .before .before .before .pairs-of .result) (c .before .before .before .before .before .before .before .before .move-values .ensures) (c .before .before .before .before .before .before .before .before .before .before .before .before .before .before .before .pairs-of .ensures .0) (c .before .before .clear .ensures))
 
-pub load-values-spec : {M : Type 1} → statement M
-load-values-spec =
+pub find-values-spec : {M : Type 1} → statement M
+find-values-spec =
     tie.close
     (tie.spec
     pairs-of-requires
