@@ -6,3 +6,4 @@ pub mod SliceWalks
 pub mod Bits
 pub mod GivesWords
 pub mod AsksWords
+pub mod Lent

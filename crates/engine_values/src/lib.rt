@@ -1,18 +1,18 @@
-// What is done once for each update, before its first unit and after its last: rooms are set to where the machine starts,
-// and blocks and true pairs are counted.
+// What is done once for each update, before its first unit and after its last: values, marks and work rooms are set, and blocks and
+// true pairs are counted.
 use rules::Sizes;
 ghost use mathlib.Core.Path.{_≡_};
 ghost use mathlib.Core.List.{map};
 ghost use Prim.Native.Nat.{suc, _+_, _≤_, _<_, max};
 ghost use lib.IntN.{pos, _-ℤ_};
-ghost use lib.ListN.{length, getD, take, replicate};
+ghost use lib.ListN.{length, getD, replicate};
 ghost use lib.Dec.{eqb};
 ghost use Rattle.lists.specs.Lists.{bit, fill};
 ghost use Rattle.rules.specs.Model.{blocksIn};
 ghost use Rattle.rules.specs.Session.{unword};
 ghost use Rattle.rules.specs.Update.{trues};
 ghost use Rattle.rules.specs.Calls.{valueAt, bits};
-ghost use Rattle.pairs.specs.Words.{kindIn};
+ghost use Rattle.words.specs.Lent.{kindIn};
 
 // Sets each place to v.
 fn set_all(room: &mut [u8], v: u8)
@@ -50,7 +50,7 @@ pub fn clear_halves(room: &mut [u16], n: usize)
 fn own_byte(equations: &[u32], x: usize) -> u8
     ensures { λ r. ⌜ r ≡ bit (eqb (unword (getD (now (equations .entry)) x 0) .kind) 1) ⌝ }
 {
-    let e = pairs::formula_at(equations, x);
+    let e = words::equation_in(rooms::word_at(equations, x));
     (e.kind == 1) as u8
 }
 
@@ -75,7 +75,7 @@ pub fn own_values(sizes: Sizes, equations: &[u32], n: usize, values: &mut [u8])
 fn with_block(equations: &[u32], x: usize, count: usize) -> usize
     ensures { λ r. ⌜ r ≡ max (suc (unword (getD (now (equations .entry)) x 0) .block)) count ⌝ }
 {
-    let e = pairs::formula_at(equations, x);
+    let e = words::equation_in(rooms::word_at(equations, x));
     let past = e.block as usize + 1;
     if count < past {
         return past;
@@ -83,11 +83,11 @@ fn with_block(equations: &[u32], x: usize, count: usize) -> usize
     count
 }
 
-// How many blocks or components the first n equations have: one more than the highest number.
-pub fn count_blocks(equations: &[u32], n: usize) -> usize
-    requires { ⌜ n ≤ length (now equations) ⌝ }
-    ensures { λ r. ⌜ r ≡ blocksIn (map unword (take n (now (equations .entry)))) ⌝ }
+// How many blocks or components the equations have: one more than the highest number.
+pub fn count_blocks(equations: &[u32]) -> usize
+    ensures { λ r. ⌜ r ≡ blocksIn (map unword (now (equations .entry))) ⌝ }
 {
+    let n = equations.len();
     let mut r: usize = 0;
     let mut x: usize = 0;
     while x < n {

@@ -7,10 +7,10 @@ use lib.ListN.{getD}
 use lib.Dec.{eqb}
 use Rattle.rules.specs.Update.{trues}
 use Rattle.rules.specs.Calls.{valueAt}
-use Rattle.starts.specs.Starts.{byte-bit, byte-small, trues-more}
+use Rattle.engine_values.specs.Starts.{byte-bit, byte-small, trues-more}
 use borrow.Author.Needs.{needs}
-use Rattle.starts.proofs.count_some.Statement.{statement}
-use Rattle.starts.proofs.count_some.Tie as tie
+use Rattle.engine_values.proofs.count_some.Statement.{statement}
+use Rattle.engine_values.proofs.count_some.Tie as tie
 
 abbrev Inv-loop : tie.InvT-loop
 Inv-loop values from end r₀ p₀ r p = (p ≤ end) × (from + r ≤ p) × (trues from (valueAt values) + r ≡ trues p (valueAt values))

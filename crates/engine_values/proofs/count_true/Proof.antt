@@ -6,10 +6,10 @@ use native.Mathlib.Omega.{arith}
 use lib.ListN.{length}
 use Rattle.rules.specs.Update.{trues}
 use Rattle.rules.specs.Calls.{valueAt}
-use Rattle.starts.specs.Starts.{trues-within}
+use Rattle.engine_values.specs.Starts.{trues-within}
 use borrow.Author.Needs.{needs}
-use Rattle.starts.proofs.count_true.Statement.{statement}
-use Rattle.starts.proofs.count_true.Tie as tie
+use Rattle.engine_values.proofs.count_true.Statement.{statement}
+use Rattle.engine_values.proofs.count_true.Tie as tie
 
 abbrev Inv-loop : tie.InvT-loop
 Inv-loop values n end r₀ p₀ r p = (p ≤ end) × (r ≤ p) × (r ≡ trues p (valueAt values))

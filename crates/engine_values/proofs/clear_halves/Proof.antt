@@ -4,9 +4,9 @@ use Prim.Native.Nat.{ℕ, _-_, _≤_}
 use native.Mathlib.Omega.{arith}
 use lib.ListN.{length}
 use borrow.Author.Needs.{needs}
-use Rattle.starts.specs.Starts.{filled, filled-none, filled-long, filled-more, filled-zeros}
-use Rattle.starts.proofs.clear_halves.Statement.{statement}
-use Rattle.starts.proofs.clear_halves.Tie as tie
+use Rattle.engine_values.specs.Starts.{filled, filled-none, filled-long, filled-more, filled-zeros}
+use Rattle.engine_values.proofs.clear_halves.Statement.{statement}
+use Rattle.engine_values.proofs.clear_halves.Tie as tie
 
 abbrev Inv-loop : tie.InvT-loop
 Inv-loop room₀ n j₀ room j = (j ≤ n) × (room ≡ filled j (λ p. 0) room₀)

@@ -26,9 +26,7 @@ use Rattle.rules.specs.declared.Sizes.{Sizes}
 use Rattle.laws.specs.ModelSystem.{frame}
 use Rattle.laws.specs.SessionHolds.{fill-length}
 use Rattle.laws.specs.Accepted.{filled-at}
-use Rattle.pairs.specs.Drawn.{tableOf, Drawn}
-use Rattle.pairs.specs.Words.{kindIn}
-use Rattle.pairs.specs.EquationWords.{own-kind}
+use Rattle.words.specs.Lent.{tableOf, Drawn, kindIn, own-kind}
 
 -- A list of numbers, so many longer, and one longer.
 listed-add : (i n m : ℕ) (f : ℕ → ℕ) → listed i (n + m) f ≡ listed i n f ++ listed (i + n) m f
@@ -88,6 +86,15 @@ filled-all n v room e =
     let l = listed-length 0 n (λ p. v) in
     ap (λ (x : List ℕ). listed 0 n (λ p. v) ++ x) (drop-of-length-le room {i = length (listed 0 n (λ p. v))} (omega arith))
     ∙ append-nil (listed 0 n (λ p. v)) ∙ listed-one 0 n (λ p. v) v (λ p a b. refl)
+
+-- A list of zeros, and what a room filled with zeros is.
+listed-zeros : (i n : ℕ) → listed i n (λ p. 0) ≡ replicate n 0
+listed-zeros i zero = refl
+listed-zeros i (suc n) = ap (λ (l : List ℕ). 0 ∷ l) (listed-zeros (suc i) n)
+
+pub filled-zeros : (n : ℕ) (room : List ℕ) → filled n (λ p. 0) room ≡ fill (replicate n 0) room
+unfolding filled
+filled-zeros n room = ap (λ (l : List ℕ). fill l room) (listed-zeros 0 n)
 
 -- A part that was changed as a whole.
 pub part-changed : (n : ℕ) (part room : List ℕ) → length part ≡ n → part ++ drop n room ≡ fill part room

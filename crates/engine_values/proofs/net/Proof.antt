@@ -4,9 +4,9 @@ use native.Mathlib.Omega.{arith}
 use lib.IntN.{pos, _-ℤ_}
 use mir.Syntax.{w32}
 use mir.ValLaws.{toZ-pos, toZ-ofZ}
-use Rattle.starts.specs.Differences.{mag-sub}
-use Rattle.starts.proofs.net.Statement.{statement}
-use Rattle.starts.proofs.net.Tie as tie
+use Rattle.engine_values.specs.Differences.{mag-sub}
+use Rattle.engine_values.proofs.net.Statement.{statement}
+use Rattle.engine_values.proofs.net.Tie as tie
 
 cast-result : tie.Need-cast-result
 cast-result c = search needs

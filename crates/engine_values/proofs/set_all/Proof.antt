@@ -3,10 +3,10 @@ use mathlib.Core.Path.{_≡_, refl, ap, _∙_}
 use Prim.Native.Nat.{ℕ, _-_, _≤_}
 use native.Mathlib.Omega.{arith}
 use lib.ListN.{length}
-use Rattle.starts.specs.Starts.{filled, filled-none, filled-long, filled-more, filled-all}
+use Rattle.engine_values.specs.Starts.{filled, filled-none, filled-long, filled-more, filled-all}
 use borrow.Author.Needs.{needs}
-use Rattle.starts.proofs.set_all.Statement.{statement}
-use Rattle.starts.proofs.set_all.Tie as tie
+use Rattle.engine_values.proofs.set_all.Statement.{statement}
+use Rattle.engine_values.proofs.set_all.Tie as tie
 
 abbrev Inv-loop : tie.InvT-loop
 Inv-loop room₀ v n j₀ room j = (j ≤ length room₀) × (room ≡ filled j (λ p. v) room₀)

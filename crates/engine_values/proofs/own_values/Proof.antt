@@ -7,11 +7,11 @@ use lib.ListN.{length, getD}
 use lib.Dec.{eqb}
 use Rattle.lists.specs.Lists.{bit}
 use Rattle.rules.specs.Session.{unword}
-use Rattle.pairs.specs.Words.{kindIn}
-use Rattle.starts.specs.Starts.{filled, filled-none, filled-long, filled-row, filled-bits, ownByte, row-end, row-of}
+use Rattle.words.specs.Lent.{kindIn}
+use Rattle.engine_values.specs.Starts.{filled, filled-none, filled-long, filled-row, filled-bits, ownByte, row-end, row-of}
 use borrow.Author.Needs.{needs}
-use Rattle.starts.proofs.own_values.Statement.{statement}
-use Rattle.starts.proofs.own_values.Tie as tie
+use Rattle.engine_values.proofs.own_values.Statement.{statement}
+use Rattle.engine_values.proofs.own_values.Tie as tie
 
 abbrev Inv-loop : tie.InvT-loop
 Inv-loop equations n values₀ states p₀ x₀ values p x = (p ≤ n) × (x ≤ p) × (p ≡ min n (x * states)) × (values ≡ filled p (ownByte states equations) values₀)

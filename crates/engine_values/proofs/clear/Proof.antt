@@ -4,10 +4,10 @@ use Prim.Native.Nat.{ℕ}
 use native.Mathlib.Omega.{arith}
 use lib.ListN.{replicate}
 use lib.Seq.{length-take-le}
-use Rattle.starts.specs.Starts.{part-one}
+use Rattle.engine_values.specs.Starts.{part-one}
 use borrow.Author.Needs.{needs}
-use Rattle.starts.proofs.clear.Statement.{statement}
-use Rattle.starts.proofs.clear.Tie as tie
+use Rattle.engine_values.proofs.clear.Statement.{statement}
+use Rattle.engine_values.proofs.clear.Tie as tie
 
 slice-relend-prefix-set-all : tie.Need-slice-relend-prefix-set-all
 slice-relend-prefix-set-all c = search needs

@@ -2,16 +2,22 @@
 use mathlib.Core.Path.{_≡_, refl, ap, _∙_}
 use Prim.Native.Nat.{_-_, _≤_}
 use native.Mathlib.Omega.{arith}
-use Rattle.starts.specs.BlockCount.{blocksTo, blocks-more}
+use lib.ListN.{length}
+use lib.Seq.{take-length}
+use mathlib.Core.List.{List, map}
+use Prim.Native.Nat.{ℕ}
+use Rattle.rules.specs.Model.{blocksIn}
+use Rattle.rules.specs.Session.{unword}
+use Rattle.engine_values.specs.BlockCount.{blocksTo, blocks-more}
 use borrow.Author.Needs.{needs}
-use Rattle.starts.proofs.count_blocks.Statement.{statement}
-use Rattle.starts.proofs.count_blocks.Tie as tie
+use Rattle.engine_values.proofs.count_blocks.Statement.{statement}
+use Rattle.engine_values.proofs.count_blocks.Tie as tie
 
 abbrev Inv-loop : tie.InvT-loop
-Inv-loop equations n r₀ x₀ r x = (x ≤ n) × (r ≡ blocksTo equations x)
+Inv-loop equations n r₀ x₀ r x = (x ≤ length equations) × (r ≡ blocksTo equations x)
 
 abbrev μ-loop : tie.MeasureT-loop
-μ-loop equations n r₀ x₀ r x = n - x
+μ-loop equations n r₀ x₀ r x = length equations - x
 
 -- The points of the program: from what is known at a later one to what was known at an earlier one.
 abbrev start-before-at-loop : tie.At-loop Inv-loop μ-loop → tie.Start Inv-loop μ-loop
@@ -35,7 +41,6 @@ loop-again c =
     let at-start = start-before-at-loop at-loop in
     let l = at-loop .loop in
     let t = c .before .loop-test .taken in
-    let h = at-start .pre in
     (omega arith, blocks-more (l .x) (at-start .args .equations .now) (l .r) _ (omega arith) (l .inv .1) (c .with-block .ensures))
 
 returns : tie.Need-returns Inv-loop μ-loop
@@ -44,8 +49,8 @@ returns c =
     let l = c .before .loop in
     let t = c .loop-test .left in
     let i = l .inv in
-    let e : l .x ≡ at-start .args .n = omega arith in
-    i .1 ∙ ap (blocksTo (at-start .args .equations .now)) e
+    let e : l .x ≡ length (at-start .args .equations .now) = omega arith in
+    i .1 ∙ ap (blocksTo (at-start .args .equations .now)) e ∙ ap (λ (l : List ℕ). blocksIn (map unword l)) (take-length (at-start .args .equations .now))
 
 pub count-blocks-spec : {M : Type 1} → statement M
 count-blocks-spec =
