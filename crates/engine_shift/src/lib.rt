@@ -1,0 +1,235 @@
+// Which pairs of a row seed a shift: those that a change touches, and those that lean on a pair of an earlier block that went to the
+// own value of the row's block.
+use rules::Action;
+use rules::Sizes;
+use rules::State;
+use rules::Variable;
+use words::Equation;
+ghost use mathlib.Core.Path.{_≡_};
+ghost use mathlib.Core.Bool.{true, _&&_};
+ghost use Prim.Native.Nat.{ℕ, _+_, _*_, _/_, _%_, _≤_, _<_};
+ghost use lib.ListN.{length, getD, replicate};
+ghost use lib.Dec.{eqb, ltb};
+ghost use Rattle.lists.specs.Lists.{any, someBelow};
+ghost use Rattle.rules.specs.Moves.{target};
+ghost use Rattle.rules.specs.Batch.{changesOk};
+ghost use Rattle.words.specs.Table.{changesOf};
+ghost use Rattle.engine_index.specs.Indexed.{keyOf, headsOf};
+ghost use Rattle.engine_shift.specs.Adds.{Adds};
+ghost use Rattle.engine_shift.specs.Seeds.{oddAt, goneTo, wasNot, ofKind, touches, touchesAt, leadsGone, MovesIn};
+ghost use Rattle.engine_shift.specs.Sources.{comesFrom};
+
+// A place of the index as the number of a move.
+fn wide(x: u16) -> usize
+    ensures { λ r. ⌜ r ≡ x ⌝ }
+{
+    x as usize
+}
+
+// Where the row of the variable begins.
+fn row_at(sizes: Sizes, x: Variable) -> usize
+    ensures { λ r. ⌜ r ≡ x .0 * sizes .states ⌝ }
+{
+    x.0 as usize * sizes.states as usize
+}
+
+// Each place of the row becomes 0.
+fn clear_row(bad: &mut [u8])
+    ensures { λ _. ⌜ now (bad .exit) ≡ replicate (length (now (bad .entry))) 0 ⌝ }
+{
+    let n = bad.len();
+    let mut s: usize = 0;
+    while s < n {
+        bad[s] = 0;
+        s = s + 1;
+    }
+}
+
+// Has anything turned for good in the row of n pairs that begins at `from`? No mark of it is odd where nothing has.
+fn row_odd(marks: &[u8], from: usize, n: usize) -> bool
+    requires { ⌜ from + n ≤ length (now marks) ⌝ }
+    ensures { λ r. ⌜ r ≡ someBelow n (λ s. oddAt (now (marks .entry)) (from + s)) ⌝ }
+{
+    let mut odd = false;
+    let mut s: usize = 0;
+    while s < n {
+        odd = odd | (marks[from + s] % 2 == 1);
+        s = s + 1;
+    }
+    odd
+}
+
+// Adds the places at which the row that begins at `from` went to b.
+fn row_went(values: &[u8], marks: &[u8], from: usize, b: u8, bad: &mut [u8])
+    requires { ⌜ (from + length (now bad) ≤ length (now values)) × (from + length (now bad) ≤ length (now marks)) ⌝ }
+    ensures { λ _. ⌜ Adds (λ s. goneTo (now (values .entry)) (now (marks .entry)) b (from + s)) (now (bad .entry)) (now (bad .exit)) ⌝ }
+{
+    let n = bad.len();
+    let mut s: usize = 0;
+    while s < n {
+        let q = from + s;
+        bad[s] = ((bad[s] == 1) | ((marks[q] % 2 == 1) & (values[q] == b))) as u8;
+        s = s + 1;
+    }
+}
+
+// The link of the move j: the next move of its chain.
+fn link_of(sizes: Sizes, index: &[u16], j: usize) -> usize
+    requires { ⌜ headsOf sizes + j < length (now index) ⌝ }
+    ensures { λ r. ⌜ r ≡ getD (now (index .entry)) (headsOf sizes + j) 0 ⌝ }
+{
+    let heads = sizes.actions as usize * sizes.states as usize;
+    wide(index[heads + j])
+}
+
+// Adds the sources of the moves in the chain that begins at `key`.
+fn add_sources(sizes: Sizes, moves: &[u32], index: &[u16], key: usize, bad: &mut [u8])
+    requires { ⌜ MovesIn sizes (now moves) (now index) ⌝ }
+    requires { ⌜ (key < headsOf sizes) × (length (now bad) ≡ sizes .states) ⌝ }
+    ensures { λ _. ⌜ Adds (λ s. any (comesFrom (keyOf sizes) key s) (now (moves .entry))) (now (bad .entry)) (now (bad .exit)) ⌝ }
+{
+    let mut k = wide(index[key]);
+    while 0 < k {
+        let j = k - 1;
+        let here = words::source_of(moves[j]).0;
+        bad[wide(here)] = 1;
+        k = link_of(sizes, index, j);
+    }
+}
+
+// Adds the sources of the moves with the action a to the state t, where the pair of t went to b.
+fn add_gone(
+    sizes: Sizes,
+    moves: &[u32],
+    index: &[u16],
+    values: &[u8],
+    marks: &[u8],
+    a: Action,
+    from: usize,
+    b: u8,
+    t: usize,
+    bad: &mut [u8],
+)
+    requires { ⌜ MovesIn sizes (now moves) (now index) ⌝ }
+    requires { ⌜ ((a .0 < sizes .actions) × (t < sizes .states)) × ((from + t < length (now values)) × (from + t < length (now marks))) ⌝ }
+    requires { ⌜ length (now bad) ≡ sizes .states ⌝ }
+    ensures { λ _. ⌜ Adds (λ s. goneTo (now (values .entry)) (now (marks .entry)) b (from + t) && any (comesFrom (keyOf sizes) (a .0 * sizes .states + t) s) (now (moves .entry)))
+        (now (bad .entry)) (now (bad .exit)) ⌝ }
+{
+    let q = from + t;
+    if (marks[q] % 2 == 1) & (values[q] == b) {
+        let key = a.0 as usize * sizes.states as usize + t;
+        add_sources(sizes, moves, index, key, bad);
+    }
+}
+
+// Adds the states whose moves with the action a lead to a pair, of the row that begins at `from`, that went to b.
+fn row_leads(
+    sizes: Sizes,
+    moves: &[u32],
+    index: &[u16],
+    values: &[u8],
+    marks: &[u8],
+    a: Action,
+    from: usize,
+    b: u8,
+    bad: &mut [u8],
+)
+    requires { ⌜ MovesIn sizes (now moves) (now index) ⌝ }
+    requires { ⌜ (a .0 < sizes .actions) × ((from + sizes .states ≤ length (now values)) × (from + sizes .states ≤ length (now marks))) ⌝ }
+    requires { ⌜ length (now bad) ≡ sizes .states ⌝ }
+    ensures { λ _. ⌜ Adds (leadsGone (now (moves .entry)) (now (values .entry)) (now (marks .entry)) b (a .0) from) (now (bad .entry)) (now (bad .exit)) ⌝ }
+{
+    let n = bad.len();
+    let mut t: usize = 0;
+    while t < n {
+        add_gone(sizes, moves, index, values, marks, a, from, b, t, bad);
+        t = t + 1;
+    }
+}
+
+// Whether a change is of the kind that counts, with the action a.
+fn of_kind(gaining: bool, a: Action, w: u32) -> bool
+    ensures { λ r. ⌜ r ≡ ofKind gaining (a .0) w ⌝ }
+{
+    let here = words::action_of(words::move_of(w)).0 == a.0;
+    if gaining {
+        return here & words::inserts(w);
+    }
+    here & !words::inserts(w)
+}
+
+// Is there such a change?
+fn any_of_kind(changes: &[u32], gaining: bool, a: Action) -> bool
+    ensures { λ r. ⌜ r ≡ any (ofKind gaining (a .0)) (now (changes .entry)) ⌝ }
+{
+    let n = changes.len();
+    let mut found = false;
+    let mut i: usize = 0;
+    while i < n {
+        found = found | of_kind(gaining, a, changes[i]);
+        i = i + 1;
+    }
+    found
+}
+
+// Was the old value of the pair q not b? Pairs of an earlier block have it turned round where the mark is odd.
+fn was_not(values: &[u8], marks: &[u8], earlier: bool, b: u8, q: usize) -> bool
+    requires { ⌜ (q < length (now values)) × (q < length (now marks)) ⌝ }
+    ensures { λ r. ⌜ r ≡ wasNot (now (values .entry)) (now (marks .entry)) earlier b q ⌝ }
+{
+    let has = values[q] == b;
+    if earlier & (marks[q] % 2 == 1) {
+        return has;
+    }
+    !has
+}
+
+// Does the change touch the moves that count, by an insert, or by a delete of a move to a pair of the row that begins at `from` whose old
+// value is not b?
+fn touches_row(
+    values: &[u8],
+    marks: &[u8],
+    earlier: bool,
+    gaining: bool,
+    b: u8,
+    a: Action,
+    from: usize,
+    w: u32,
+) -> bool
+    requires { ⌜ (from + target (w / 2) < length (now values)) × (from + target (w / 2) < length (now marks)) ⌝ }
+    ensures { λ r. ⌜ r ≡ touches (now (values .entry)) (now (marks .entry)) earlier gaining b (a .0) from w ⌝ }
+{
+    let t = words::target_of(words::move_of(w)).0;
+    let q = from + wide(t);
+    of_kind(gaining, a, w) & (gaining | was_not(values, marks, earlier, b, q))
+}
+
+// Adds the states whose moves a change touches so.
+fn add_changes(
+    sizes: Sizes,
+    changes: &[u32],
+    values: &[u8],
+    marks: &[u8],
+    earlier: bool,
+    gaining: bool,
+    b: u8,
+    a: Action,
+    from: usize,
+    bad: &mut [u8],
+)
+    requires { ⌜ (changesOk sizes (changesOf (now changes)) ≡ true) × (length (now bad) ≡ sizes .states) ⌝ }
+    requires { ⌜ (from + sizes .states ≤ length (now values)) × (from + sizes .states ≤ length (now marks)) ⌝ }
+    ensures { λ _. ⌜ Adds (touchesAt (now (changes .entry)) (now (values .entry)) (now (marks .entry)) earlier gaining b (a .0) from) (now (bad .entry)) (now (bad .exit)) ⌝ }
+{
+    let n = changes.len();
+    let mut i: usize = 0;
+    while i < n {
+        let w = changes[i];
+        let hit = touches_row(values, marks, earlier, gaining, b, a, from, w);
+        let here = words::source_of(words::move_of(w)).0;
+        let s = wide(here);
+        bad[s] = ((bad[s] == 1) | hit) as u8;
+        i = i + 1;
+    }
+}
