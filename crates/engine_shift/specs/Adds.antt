@@ -16,6 +16,7 @@ use Rattle.lists.specs.Tests.{tell, eqb-same, eqb-no, and-no, and-true, or-fals
 use Rattle.lists.specs.TableLaws.{bit-back}
 use Rattle.lists.specs.Entries.{set-le, zeros-at}
 use Rattle.engine_rows.specs.Rooms.{Bits}
+use Rattle.engine_shift.specs.Anys.{or-both, any-more}
 
 -- The row `new` is `old` with 1 at the places that pass the test as well.
 pub record Adds (test : ℕ → Bool) (old new : List ℕ) : Type 0 where
@@ -45,10 +46,6 @@ adds-if f b old new e = adds-same f (λ s. b && f s) old new (λ s h. ap (λ (x 
 
 pub adds-not : (f : ℕ → Bool) (b : Bool) (old : List ℕ) → b ≡ false → Adds (λ s. b && f s) old old
 adds-not f b old e = adds-none (λ s. b && f s) old (λ s h. ap (λ (x : Bool). x && f s) e)
-
-or-both : (x y z : Bool) → ((x || y) || z) ≡ (x || (y || z))
-or-both true y z = refl
-or-both false y z = refl
 
 -- First some are added, then others.
 pub adds-then : (f g : ℕ → Bool) (a b c : List ℕ) → Adds f a b → Adds g b c → Adds (λ s. f s || g s) a c
@@ -86,15 +83,6 @@ adds-one l r k h e = adds-at l r true k 1 h (sym (ap bit (last (eqb (getD l r 0)
     last : (x : Bool) → (x || true) ≡ true
     last true = refl
     last false = refl
-
--- Some entry of a list that is one longer.
-any-snoc : (f : ℕ → Bool) (w : ℕ) (l : List ℕ) → any f (l ++ (w ∷ [])) ≡ (any f l || f w)
-any-snoc f w [] = or-false (f w)
-any-snoc f w (x ∷ l) = ap (λ (b : Bool). f x || b) (any-snoc f w l) ∙ sym (or-both (f x) (any f l) (f w))
-
-pub any-more : (f : ℕ → Bool) (l : List ℕ) (k : ℕ) → k < length l → any f (take (k + 1) l) ≡ (any f (take k l) || f (getD l k 0))
-any-more f l k h =
-    ap (λ (j : ℕ). any f (take j l)) (add-one k) ∙ ap (any f) (take-suc l k 0 h) ∙ any-snoc f (getD l k 0) (take k l)
 
 -- A list that is gone through word by word: each word adds its place where it passes the test f, and the words before i have been asked.
 pub adds-word : (f : ℕ → Bool) (place : ℕ → ℕ) (l a b : List ℕ) (i : ℕ) (c : List ℕ) (x : ℕ) → i < length l → place (getD l i 0) < length a

@@ -15,31 +15,10 @@ use Rattle.rules.specs.Moves.{source, action, target}
 use Rattle.rules.specs.Model.{moveOk, movesOk}
 use Rattle.rules.specs.declared.Sizes.{Sizes}
 use Rattle.engine_index.specs.Indexed.{keyOf}
+use Rattle.engine_shift.specs.Anys.{targets-in, any-two}
 use Rattle.engine_shift.specs.Adds.{Adds, adds-same, adds-then, adds-none, below-other}
 use Rattle.engine_shift.specs.Seeds.{goneTo, leadsGone}
 use Rattle.engine_shift.specs.Sources.{comesFrom}
-
--- Each move leads to a state.
-targets-in : (z : Sizes) (least : ℕ) (l : List ℕ) → movesOk z least l ≡ true → all (λ q. ltb (target q) (z .states)) l ≡ true
-unfolding moveOk
-targets-in z least [] h = refl
-targets-in z least (q ∷ l) h = let g = simp and-is at h in and-in (g .0 .1 .1) (targets-in z (suc q) l (g .1))
-
--- Two tests in one: of each entry, and so of some entry.
-any-two : (p f g h : ℕ → Bool) (c : Bool) (l : List ℕ) → all p l ≡ true → ((q : ℕ) → p q ≡ true → (f q || (c && g q)) ≡ h q)
-    → (any f l || (c && any g l)) ≡ any h l
-any-two p f g h c [] a e = and-no c refl
-any-two p f g h c (q ∷ l) a e =
-    let k = simp and-is at a in
-    mixed (f q) (g q) (any f l) (any g l) c ∙ ap (λ (x : Bool). x || (any f l || (c && any g l))) (e q (k .0))
-    ∙ ap (λ (x : Bool). h q || x) (any-two p f g h c l (k .1) e)
-  where
-    mixed : (x y u v c : Bool) → ((x || u) || (c && (y || v))) ≡ ((x || (c && y)) || (u || (c && v)))
-    mixed true y u v c = refl
-    mixed false y u v false = refl
-    mixed false true true v true = refl
-    mixed false true false v true = refl
-    mixed false false u v true = refl
 
 -- Two moves with the same place among the heads have the same action and the same target.
 key-is : (n x y a t : ℕ) → y < n → t < n → eqb (x * n + y) (a * n + t) ≡ (eqb x a && eqb y t)

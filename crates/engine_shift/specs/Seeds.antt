@@ -39,7 +39,8 @@ touches values marks earlier gaining k a from w = ofKind gaining a w && (gaining
 abbrev pub earlierIn : List ℕ → ℕ → ℕ → Bool
 earlierIn equations x i = ltb (unword (getD equations x 0) .block) i
 
--- The pairs of the state s that an "or" or an "and" of the variables x and y, in the block i with the own value k, seeds.
+-- The states that an "or" or an "and" of the variables x and y, in the block i with the own value k, seeds: one of the two is of an
+-- earlier block, and its pair went to k.
 unfoldable pub joinSeeds : Sizes → List ℕ → List ℕ → List ℕ → ℕ → ℕ → ℕ → ℕ → ℕ → Bool
 joinSeeds z equations values marks x y i k s =
     (earlierIn equations x i && goneTo values marks k (x * z .states + s)) || (earlierIn equations y i && goneTo values marks k (y * z .states + s))
@@ -52,6 +53,13 @@ leadsGone moves values marks k a from s = any (λ q. (eqb (source q) s && eqb (a
 unfoldable pub touchesAt : List ℕ → List ℕ → List ℕ → Bool → Bool → ℕ → ℕ → ℕ → ℕ → Bool
 unfolding touches
 touchesAt changes values marks earlier gaining k a from s = any (λ w. touches values marks earlier gaining k a from w && eqb (source (w / 2)) s) changes
+
+-- The states that a diamond or a box of the action a and the variable x, in the block i with the own value k, seeds.
+unfoldable pub stepSeeds : Sizes → List ℕ → List ℕ → List ℕ → List ℕ → List ℕ → Bool → ℕ → ℕ → ℕ → ℕ → ℕ → Bool
+unfolding touchesAt leadsGone
+stepSeeds z equations moves changes values marks gaining a x i k s =
+    touchesAt changes values marks (earlierIn equations x i) gaining k a (x * z .states) s
+    || (earlierIn equations x i && leadsGone moves values marks k a (x * z .states) s)
 
 -- The moves are inside the limits, and the index holds their chains.
 pub record MovesIn (z : Sizes) (moves index : List ℕ) : Type 0 where

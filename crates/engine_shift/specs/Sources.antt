@@ -21,7 +21,8 @@ use Rattle.engine_index.specs.Chains.{lastTo}
 use Rattle.engine_index.specs.Indexed.{keyOf, headsOf}
 use Rattle.engine_index.specs.ChainWalks.{last-le, last-at, last-again, last-skips}
 use Rattle.engine_rows.specs.Rooms.{Bits}
-use Rattle.engine_shift.specs.Adds.{Adds, adds-same, adds-then, adds-none, adds-one, any-more, below-other}
+use Rattle.engine_shift.specs.Adds.{Adds, adds-same, adds-then, adds-none, adds-one, below-other}
+use Rattle.engine_shift.specs.Anys.{any-more}
 use Rattle.engine_shift.specs.Seeds.{oddAt, goneTo, leadsGone, MovesIn}
 
 -- Is the word w of the chain t one of a move from the state s?

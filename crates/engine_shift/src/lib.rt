@@ -6,17 +6,18 @@ use rules::State;
 use rules::Variable;
 use words::Equation;
 ghost use mathlib.Core.Path.{_≡_};
-ghost use mathlib.Core.Bool.{true, _&&_};
+ghost use mathlib.Core.Bool.{true, not, _&&_};
 ghost use Prim.Native.Nat.{ℕ, _+_, _*_, _/_, _%_, _≤_, _<_};
 ghost use lib.ListN.{length, getD, replicate};
 ghost use lib.Dec.{eqb, ltb};
-ghost use Rattle.lists.specs.Lists.{any, someBelow};
+ghost use Rattle.lists.specs.Lists.{is, any, someBelow};
 ghost use Rattle.rules.specs.Moves.{target};
 ghost use Rattle.rules.specs.Batch.{changesOk};
 ghost use Rattle.words.specs.Table.{changesOf};
 ghost use Rattle.engine_index.specs.Indexed.{keyOf, headsOf};
 ghost use Rattle.engine_shift.specs.Adds.{Adds};
-ghost use Rattle.engine_shift.specs.Seeds.{oddAt, goneTo, wasNot, ofKind, touches, touchesAt, leadsGone, MovesIn};
+ghost use Rattle.engine_shift.specs.Seeds.{oddAt, goneTo, wasNot, ofKind, touches, touchesAt, earlierIn, leadsGone, joinSeeds, stepSeeds, MovesIn, Shows};
+ghost use Rattle.engine_shift.specs.RowSeeds.{mayIn};
 ghost use Rattle.engine_shift.specs.Sources.{comesFrom};
 
 // A place of the index as the number of a move.
@@ -232,4 +233,162 @@ fn add_changes(
         bad[s] = ((bad[s] == 1) | hit) as u8;
         i = i + 1;
     }
+}
+
+// Is the variable of a block before this one?
+fn is_earlier(equations: &[u32], block: u8, x: Variable) -> bool
+    ensures { λ r. ⌜ r ≡ earlierIn (now (equations .entry)) (x .0) block ⌝ }
+{
+    let w = rooms::word_at(equations, x.0 as usize);
+    words::equation_in(w).block < block
+}
+
+// Is it, and has anything of its row turned for good?
+fn may_have_gone(sizes: Sizes, equations: &[u32], marks: &[u8], block: u8, x: Variable) -> bool
+    requires { ⌜ x .0 * sizes .states + sizes .states ≤ length (now marks) ⌝ }
+    ensures { λ r. ⌜ r ≡ mayIn sizes (now (equations .entry)) (now (marks .entry)) (x .0) block ⌝ }
+{
+    if is_earlier(equations, block, x) {
+        let from = row_at(sizes, x);
+        let n = sizes.states as usize;
+        return row_odd(marks, from, n);
+    }
+    false
+}
+
+// Adds the places at which the row of x went to b, where it may have.
+fn add_operand(
+    sizes: Sizes,
+    values: &[u8],
+    marks: &[u8],
+    may: bool,
+    x: Variable,
+    b: u8,
+    bad: &mut [u8],
+)
+    requires { ⌜ length (now bad) ≡ sizes .states ⌝ }
+    requires { ⌜ (x .0 * sizes .states + sizes .states ≤ length (now values)) × (x .0 * sizes .states + sizes .states ≤ length (now marks)) ⌝ }
+    ensures { λ _. ⌜ Adds (λ s. may && goneTo (now (values .entry)) (now (marks .entry)) b (x .0 * sizes .states + s)) (now (bad .entry)) (now (bad .exit)) ⌝ }
+{
+    if may {
+        let from = row_at(sizes, x);
+        row_went(values, marks, from, b, bad);
+    }
+}
+
+// Adds the states whose moves with the action a lead to a pair of the row that went to b, where one may have.
+fn add_leads(
+    sizes: Sizes,
+    moves: &[u32],
+    index: &[u16],
+    values: &[u8],
+    marks: &[u8],
+    may: bool,
+    a: Action,
+    from: usize,
+    b: u8,
+    bad: &mut [u8],
+)
+    requires { ⌜ MovesIn sizes (now moves) (now index) ⌝ }
+    requires { ⌜ (a .0 < sizes .actions) × ((from + sizes .states ≤ length (now values)) × (from + sizes .states ≤ length (now marks))) ⌝ }
+    requires { ⌜ length (now bad) ≡ sizes .states ⌝ }
+    ensures { λ _. ⌜ Adds (λ s. may && leadsGone (now (moves .entry)) (now (values .entry)) (now (marks .entry)) b (a .0) from s) (now (bad .entry)) (now (bad .exit)) ⌝ }
+{
+    if may {
+        row_leads(sizes, moves, index, values, marks, a, from, b, bad);
+    }
+}
+
+// Does a diamond or a box of this kind of block turn by what it gains?
+fn gains(operator: u8, kind: u8) -> bool
+    ensures { λ r. ⌜ r ≡ is (not (eqb kind 1)) (eqb operator 7) ⌝ }
+{
+    if kind == 1 {
+        return operator != 7;
+    }
+    operator == 7
+}
+
+// Which states an "or" or an "and" seeds: none where neither operand may have gone.
+fn shift_join(
+    sizes: Sizes,
+    equations: &[u32],
+    values: &[u8],
+    marks: &[u8],
+    e: Equation,
+    bad: &mut [u8],
+) -> bool
+    requires { ⌜ length (now bad) ≡ sizes .states ⌝ }
+    requires { ⌜ (e .first * sizes .states + sizes .states ≤ length (now values)) × (e .first * sizes .states + sizes .states ≤ length (now marks)) ⌝ }
+    requires { ⌜ (e .second * sizes .states + sizes .states ≤ length (now values)) × (e .second * sizes .states + sizes .states ≤ length (now marks)) ⌝ }
+    ensures { λ r. ⌜ Shows (sizes .states) (joinSeeds sizes (now (equations .entry)) (now (values .entry)) (now (marks .entry)) (e .first) (e .second) (e .block) (e .kind))
+        (now (bad .exit)) r ⌝ }
+{
+    let first = Variable(e.first);
+    let second = Variable(e.second);
+    let one = may_have_gone(sizes, equations, marks, e.block, first);
+    let two = may_have_gone(sizes, equations, marks, e.block, second);
+    if one | two {
+        clear_row(bad);
+        add_operand(sizes, values, marks, one, first, e.kind, bad);
+        add_operand(sizes, values, marks, two, second, e.kind, bad);
+        return true;
+    }
+    false
+}
+
+// Which states a diamond or a box seeds: none where no change is of the kind that counts and its operand may not have gone.
+fn shift_step(
+    sizes: Sizes,
+    equations: &[u32],
+    moves: &[u32],
+    index: &[u16],
+    changes: &[u32],
+    values: &[u8],
+    marks: &[u8],
+    e: Equation,
+    bad: &mut [u8],
+) -> bool
+    requires { ⌜ MovesIn sizes (now moves) (now index) ⌝ }
+    requires { ⌜ (changesOk sizes (changesOf (now changes)) ≡ true) × (length (now bad) ≡ sizes .states) ⌝ }
+    requires { ⌜ (e .first < sizes .actions) × ((e .second * sizes .states + sizes .states ≤ length (now values)) × (e .second * sizes .states + sizes .states ≤ length (now marks))) ⌝ }
+    ensures { λ r. ⌜ Shows (sizes .states) (stepSeeds sizes (now (equations .entry)) (now (moves .entry)) (now (changes .entry)) (now (values .entry)) (now (marks .entry))
+        (is (not (eqb (e .kind) 1)) (eqb (e .operator) 7)) (e .first) (e .second) (e .block) (e .kind)) (now (bad .exit)) r ⌝ }
+{
+    let a = Action(e.first);
+    let x = Variable(e.second);
+    let gaining = gains(e.operator, e.kind);
+    let found = any_of_kind(changes, gaining, a);
+    let may = may_have_gone(sizes, equations, marks, e.block, x);
+    if found | may {
+        let from = row_at(sizes, x);
+        let earlier = is_earlier(equations, e.block, x);
+        clear_row(bad);
+        add_changes(
+            sizes,
+            changes,
+            values,
+            marks,
+            earlier,
+            gaining,
+            e.kind,
+            a,
+            from,
+            bad,
+        );
+        add_leads(
+            sizes,
+            moves,
+            index,
+            values,
+            marks,
+            may,
+            a,
+            from,
+            e.kind,
+            bad,
+        );
+        return true;
+    }
+    false
 }

@@ -6,7 +6,7 @@ use native.Mathlib.Omega.{arith}
 use lib.ListN.{length, getD, take}
 use lib.Seq.{take-all}
 use Rattle.lists.specs.Lists.{any}
-use Rattle.engine_shift.specs.Adds.{any-more}
+use Rattle.engine_shift.specs.Anys.{any-more}
 use Rattle.engine_shift.specs.Seeds.{ofKind}
 use borrow.Author.Needs.{needs}
 use Rattle.engine_shift.proofs.any_of_kind.Statement.{statement}
