@@ -7,3 +7,4 @@ pub mod LeadRows
 pub mod Olds
 pub mod SeedWords
 pub mod RowSeeds
+pub mod ShiftRows

@@ -7,17 +7,21 @@ use rules::Variable;
 use words::Equation;
 ghost use mathlib.Core.Path.{_≡_};
 ghost use mathlib.Core.Bool.{true, not, _&&_};
+ghost use mathlib.Core.List.{List};
 ghost use Prim.Native.Nat.{ℕ, _+_, _*_, _/_, _%_, _≤_, _<_};
 ghost use lib.ListN.{length, getD, replicate};
 ghost use lib.Dec.{eqb, ltb};
 ghost use Rattle.lists.specs.Lists.{is, any, someBelow};
 ghost use Rattle.rules.specs.Moves.{target};
 ghost use Rattle.rules.specs.Batch.{changesOk};
-ghost use Rattle.words.specs.Table.{changesOf};
-ghost use Rattle.engine_index.specs.Indexed.{keyOf, headsOf};
+ghost use Rattle.rules.specs.Rooms.{pairsOf};
+ghost use Rattle.words.specs.Table.{tableIn, Drawn, changesOf};
+ghost use Rattle.engine_index.specs.Indexed.{keyOf, headsOf, Indexed};
+ghost use Rattle.engine_rows.specs.Rooms.{Bits, Told};
 ghost use Rattle.engine_shift.specs.Adds.{Adds};
 ghost use Rattle.engine_shift.specs.Seeds.{oddAt, goneTo, wasNot, ofKind, touches, touchesAt, earlierIn, leadsGone, joinSeeds, stepSeeds, MovesIn, Shows};
 ghost use Rattle.engine_shift.specs.RowSeeds.{mayIn};
+ghost use Rattle.engine_shift.specs.ShiftRows.{TellsShift};
 ghost use Rattle.engine_shift.specs.Sources.{comesFrom};
 
 // A place of the index as the number of a move.
@@ -391,4 +395,46 @@ fn shift_step(
         return true;
     }
     false
+}
+
+// Which pairs of the row of y seed a shift. The row is passed over where it can seed nothing.
+pub fn shift_row(
+    sizes: Sizes,
+    equations: &[u32],
+    moves: &[u32],
+    index: &[u16],
+    changes: &[u32],
+    values: &[u8],
+    marks: &[u8],
+    y: Variable,
+    bad: &mut [u8],
+) -> bool
+    requires { ⌜ ((labels : List ℕ) × (Drawn (tableIn sizes labels (now equations) (now moves)) × Indexed (tableIn sizes labels (now equations) (now moves)) (now index))) ⌝ }
+    requires { ⌜ changesOk sizes (changesOf (now changes)) ≡ true ⌝ }
+    requires { ⌜ (y .0 < sizes .variables) × ((length (now values) ≡ pairsOf sizes) × ((length (now marks) ≡ pairsOf sizes) × (length (now bad) ≡ sizes .states))) ⌝ }
+    requires { ⌜ Bits (now values) ⌝ }
+    ensures { λ r. ⌜ ((labels : List ℕ) → Drawn (tableIn sizes labels (now (equations .entry)) (now (moves .entry)))
+        → Told (tableIn sizes labels (now (equations .entry)) (now (moves .entry))) (now (values .entry)) (now (marks .entry)) (y .0)
+        → TellsShift (tableIn sizes labels (now (equations .entry)) (now (moves .entry))) (now (changes .entry)) (now (values .entry)) (now (marks .entry)) (y .0) (now (bad .exit)) r) ⌝ }
+{
+    let w = rooms::word_at(equations, y.0 as usize);
+    let e = words::equation_in(w);
+    let o = e.operator;
+    if o < 4 {
+        return false;
+    }
+    if o < 6 {
+        return shift_join(sizes, equations, values, marks, e, bad);
+    }
+    shift_step(
+        sizes,
+        equations,
+        moves,
+        index,
+        changes,
+        values,
+        marks,
+        e,
+        bad,
+    )
 }
