@@ -2,20 +2,19 @@
 use mathlib.Core.Path.{_≡_, refl, sym, ap, _∙_, subst}
 use mathlib.Core.Logic.{inl, inr}
 use mathlib.Core.Bool.{Bool, true, false, _&&_, _||_}
-use mathlib.Core.List.{List, [], _∷_, _++_}
-use Prim.Native.Nat.{ℕ, zero, suc, _+_, _≤_, _<_}
+use mathlib.Core.List.{List}
+use Prim.Native.Nat.{ℕ, _+_, _≤_, _<_}
 use native.Mathlib.Decide.{ℕ-discrete}
-use native.Mathlib.Numerals.{add-one}
 use native.Mathlib.Omega.{arith}
-use mir.Val.{boolByte}
-use lib.ListN.{length, getD, set, take, replicate, length-set, length-replicate}
-use lib.Seq.{getD-set-same, getD-set-other, take-suc}
+use lib.ListN.{length, getD, set, take, replicate, length-set}
+use lib.Seq.{getD-set-same, getD-set-other}
 use lib.Dec.{eqb, ltb}
 use Rattle.lists.specs.Lists.{any, bit}
 use Rattle.lists.specs.Tests.{tell, eqb-same, eqb-no, and-no, and-true, or-false, ltb-in, ltb-out, ltb-no}
 use Rattle.lists.specs.TableLaws.{bit-back}
 use Rattle.lists.specs.Entries.{set-le, zeros-at}
 use Rattle.engine_rows.specs.Rooms.{Bits}
+use Rattle.engine_rows.specs.Filled.{bit-small}
 use Rattle.engine_shift.specs.Anys.{or-both, any-more}
 
 -- The row `new` is `old` with 1 at the places that pass the test as well.
@@ -55,10 +54,6 @@ adds-then f g a b c p q = record {
   says = λ s h. let l = p .long in
       q .says s (omega arith) ∙ ap (λ (x : Bool). x || g s) (p .says s h) ∙ or-both (eqb (getD a s 0) 1) (f s) (g s);
 }
-
-bit-small : (b : Bool) → bit b ≤ 1
-bit-small true = omega arith
-bit-small false = omega arith
 
 -- One place is added, where b says so.
 pub adds-at : (l : List ℕ) (r : ℕ) (b : Bool) (k : List ℕ) (x : ℕ) → r < length l → x ≡ bit (eqb (getD l r 0) 1 || b) → k ≡ set l r x
@@ -139,11 +134,6 @@ adds-first f a = adds-none (λ q. ltb q 0 && f q) a (λ s h. ap (λ (x : Bool). 
 
 pub adds-all : (f : ℕ → Bool) (a b : List ℕ) (s : ℕ) → length a ≤ s → Adds (λ q. ltb q s && f q) a b → Adds f a b
 adds-all f a b s h = adds-same (λ q. ltb q s && f q) f a b (λ q g. ap (λ (x : Bool). x && f q) (ltb-in q s (omega arith)))
-
--- A truth value as a byte.
-pub byte-bit : (x : Bool) → boolByte x ≡ bit x
-byte-bit true = refl
-byte-bit false = refl
 
 -- A row of zeros.
 pub zeros-bits : (n : ℕ) → Bits (replicate n 0)

@@ -1,18 +1,16 @@
 -- A row of targets that is gone through one after the other: the states whose moves lead to those that went. Assumes nothing.
-use mathlib.Core.Path.{_≡_, refl, sym, ap, _∙_, subst}
-use mathlib.Core.Logic.{inl, inr}
+use mathlib.Core.Path.{_≡_, refl, sym, ap, _∙_}
 use mathlib.Core.Bool.{Bool, true, false, _&&_, _||_}
 use mathlib.Core.List.{List, [], _∷_}
-use Prim.Native.Nat.{ℕ, suc, _+_, _*_, _/_, _%_, _≤_, _<_}
+use Prim.Native.Nat.{ℕ, _+_, _*_, _/_, _%_, _≤_, _<_}
 use native.Mathlib.Decide.{ℕ-discrete}
 use native.Mathlib.Omega.{arith}
-use lib.ListN.{length}
 use lib.Arith.{digits-div, digits-mod}
 use lib.Dec.{eqb, ltb}
 use Rattle.lists.specs.Lists.{any, all}
-use Rattle.lists.specs.Tests.{tests, no-way, and-in, and-is, and-no, eqb-same, eqb-in, eqb-out, eqb-no, ltb-is, ltb-in, ltb-no, or-false}
+use Rattle.lists.specs.Tests.{no-way, and-in, and-is, and-no, eqb-in, eqb-out, eqb-no, ltb-is, ltb-in, ltb-no, or-false}
 use Rattle.rules.specs.Moves.{source, action, target}
-use Rattle.rules.specs.Model.{moveOk, movesOk}
+use Rattle.rules.specs.Model.{movesOk}
 use Rattle.rules.specs.declared.Sizes.{Sizes}
 use Rattle.engine_index.specs.Indexed.{keyOf}
 use Rattle.engine_shift.specs.Anys.{targets-in, any-two}

@@ -1,18 +1,17 @@
 -- Old values, told from values and marks while a block shifts. Assumes nothing.
 use mathlib.Core.Path.{_≡_, refl, sym, ap, _∙_}
 use mathlib.Core.Logic.{inl, inr}
-use mathlib.Core.Bool.{Bool, true, false, not, cond, _&&_, _||_}
+use mathlib.Core.Bool.{Bool, true, false, not, cond, _&&_}
 use mathlib.Core.List.{List}
-use Prim.Native.Nat.{ℕ, zero, suc, _+_, _*_, _/_, _%_, _≤_, _<_}
+use Prim.Native.Nat.{ℕ, zero, suc, _%_, _≤_}
 use native.Mathlib.Omega.{arith}
 use lib.ListN.{getD}
 use lib.Dec.{eqb, ltb}
 use Rattle.lists.specs.Lists.{is}
-use Rattle.lists.specs.Tests.{tell, and-no, ltb-out, ltb-no}
+use Rattle.lists.specs.Tests.{tell, ltb-out, ltb-no}
 use Rattle.systems.specs.Machine.{past}
 use Rattle.systems.specs.MarkTurns.{flip, odd}
 use Rattle.systems.specs.ListMachine.{marksIn}
-use Rattle.rules.specs.Session.{unword}
 use Rattle.rules.specs.Calls.{valueAt}
 use Rattle.rules.specs.Values.{Values, blockOf}
 use Rattle.rules.specs.Update.{went}

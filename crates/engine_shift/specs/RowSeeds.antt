@@ -1,34 +1,23 @@
 -- What a whole row shows: which of its places seed, or that none does. Assumes nothing.
 use mathlib.Core.Path.{_≡_, refl, sym, ap, _∙_, subst}
-use mathlib.Core.Logic.{inl, inr}
 use mathlib.Core.Bool.{Bool, true, false, not, _&&_, _||_, true≢false}
 use mathlib.Core.List.{List, [], _∷_}
-use Prim.Native.Nat.{ℕ, zero, suc, _+_, _*_, _/_, _≤_, _<_}
-use native.Mathlib.Decide.{ℕ-discrete}
+use Prim.Native.Nat.{ℕ, _+_, _*_, _/_, _<_}
 use native.Mathlib.Omega.{arith}
 use lib.ListN.{length, getD, replicate, length-replicate}
 use lib.Dec.{eqb, ltb}
 use Rattle.lists.specs.Lists.{is, any, all, someBelow}
-use Rattle.lists.specs.Tests.{tell, or-no, or-false, and-no, and-is, ltb-is}
+use Rattle.lists.specs.Tests.{or-no, and-no, and-is, ltb-is}
 use Rattle.lists.specs.Entries.{zeros-at}
 use Rattle.rules.specs.Moves.{source, action, target}
 use Rattle.rules.specs.Model.{movesOk}
 use Rattle.rules.specs.Calls.{valueAt}
 use Rattle.rules.specs.declared.Sizes.{Sizes}
 use Rattle.engine_rows.specs.Rooms.{Bits, Tells}
+use Rattle.engine_rows.specs.Filled.{none-below}
 use Rattle.engine_shift.specs.Anys.{targets-in}
 use Rattle.engine_shift.specs.Adds.{Adds, zeros-bits}
 use Rattle.engine_shift.specs.Seeds.{oddAt, goneTo, wasNot, ofKind, touches, touchesAt, earlierIn, leadsGone, joinSeeds, stepSeeds, Shows}
-
--- Where none passes the test, each does not.
-none-below : (n : ℕ) (g : ℕ → Bool) → someBelow n g ≡ false → (s : ℕ) → s < n → g s ≡ false
-none-below zero g e s h = absurd (omega arith)
-none-below (suc n) g e s h =
-    let o = or-no (someBelow n g) (g n) .0 e in
-    elim (ℕ-discrete s n) [
-      | yes q ↦ ap g q ∙ o .1
-      | no q ↦ none-below n g (o .0) s (omega arith)
-    ]
 
 -- What is asked of the whole row need not be asked, where it follows from what is asked of a place.
 asked-once : (e some g : Bool) → (some ≡ false → g ≡ false) → ((e && some) && g) ≡ (e && g)

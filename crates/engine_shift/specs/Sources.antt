@@ -2,28 +2,26 @@
 use mathlib.Core.Path.{_≡_, refl, sym, ap, _∙_, subst}
 use mathlib.Core.Bool.{Bool, true, false, _&&_, _||_}
 use mathlib.Core.List.{List}
-use Prim.Native.Nat.{ℕ, zero, suc, _+_, _*_, _≤_, _<_}
+use Prim.Native.Nat.{ℕ, suc, _+_, _*_, _≤_, _<_}
 use native.Mathlib.Nat.{zero-add, mul-le-mul-right}
-use native.Mathlib.Decide.{ℕ-discrete}
 use native.Mathlib.Numerals.{add-one}
 use native.Mathlib.Omega.{arith}
 use lib.ListN.{length, getD, set, take}
 use lib.Seq.{take-all}
-use lib.Arith.{digits-div, digits-mod}
-use lib.Dec.{eqb, ltb}
+use lib.Dec.{eqb}
 use Rattle.lists.specs.Lists.{any, all}
-use Rattle.lists.specs.Tests.{tests, tell, no-way, and-in, and-is, eqb-same, eqb-in, eqb-out, eqb-no, ltb-is, ltb-in, ltb-no, or-false}
+use Rattle.lists.specs.Tests.{tests, eqb-in, eqb-no, or-false}
 use Rattle.rules.specs.Moves.{source, action, target}
-use Rattle.rules.specs.Model.{moveOk, movesOk}
+use Rattle.rules.specs.Model.{moveOk}
 use Rattle.rules.specs.declared.Sizes.{Sizes}
 use Rattle.words.specs.Limits.{move-at}
 use Rattle.engine_index.specs.Chains.{lastTo}
 use Rattle.engine_index.specs.Indexed.{keyOf, headsOf}
 use Rattle.engine_index.specs.ChainWalks.{last-le, last-at, last-again, last-skips}
 use Rattle.engine_rows.specs.Rooms.{Bits}
-use Rattle.engine_shift.specs.Adds.{Adds, adds-same, adds-then, adds-none, adds-one, below-other}
+use Rattle.engine_shift.specs.Adds.{Adds, adds-one}
 use Rattle.engine_shift.specs.Anys.{any-more}
-use Rattle.engine_shift.specs.Seeds.{oddAt, goneTo, leadsGone, MovesIn}
+use Rattle.engine_shift.specs.Seeds.{MovesIn}
 
 -- Is the word w of the chain t one of a move from the state s?
 abbrev pub comesFrom : (ℕ → ℕ) → ℕ → ℕ → ℕ → Bool

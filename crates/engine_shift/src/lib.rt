@@ -9,8 +9,8 @@ ghost use mathlib.Core.Path.{_≡_};
 ghost use mathlib.Core.Bool.{true, not, _&&_};
 ghost use mathlib.Core.List.{List};
 ghost use Prim.Native.Nat.{ℕ, _+_, _*_, _/_, _%_, _≤_, _<_};
-ghost use lib.ListN.{length, getD, replicate};
-ghost use lib.Dec.{eqb, ltb};
+ghost use lib.ListN.{length, getD};
+ghost use lib.Dec.{eqb};
 ghost use Rattle.lists.specs.Lists.{is, any, someBelow};
 ghost use Rattle.rules.specs.Moves.{target};
 ghost use Rattle.rules.specs.Batch.{changesOk};
@@ -36,18 +36,6 @@ fn row_at(sizes: Sizes, x: Variable) -> usize
     ensures { λ r. ⌜ r ≡ x .0 * sizes .states ⌝ }
 {
     x.0 as usize * sizes.states as usize
-}
-
-// Each place of the row becomes 0.
-fn clear_row(bad: &mut [u8])
-    ensures { λ _. ⌜ now (bad .exit) ≡ replicate (length (now (bad .entry))) 0 ⌝ }
-{
-    let n = bad.len();
-    let mut s: usize = 0;
-    while s < n {
-        bad[s] = 0;
-        s = s + 1;
-    }
 }
 
 // Has anything turned for good in the row of n pairs that begins at `from`? No mark of it is odd where nothing has.
@@ -333,7 +321,7 @@ fn shift_join(
     let one = may_have_gone(sizes, equations, marks, e.block, first);
     let two = may_have_gone(sizes, equations, marks, e.block, second);
     if one | two {
-        clear_row(bad);
+        engine_rows::fill_row(bad, 0);
         add_operand(sizes, values, marks, one, first, e.kind, bad);
         add_operand(sizes, values, marks, two, second, e.kind, bad);
         return true;
@@ -367,7 +355,7 @@ fn shift_step(
     if found | may {
         let from = row_at(sizes, x);
         let earlier = is_earlier(equations, e.block, x);
-        clear_row(bad);
+        engine_rows::fill_row(bad, 0);
         add_changes(
             sizes,
             changes,

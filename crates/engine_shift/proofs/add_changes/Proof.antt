@@ -1,7 +1,7 @@
 -- The changes before i have been asked. Assumes nothing.
-use mathlib.Core.Path.{_≡_, refl, sym, ap, _∙_}
+use mathlib.Core.Path.{_≡_, refl, ap, _∙_}
 use mathlib.Core.Bool.{Bool, false, _&&_, _||_}
-use Prim.Native.Nat.{ℕ, _+_, _-_, _/_, _≤_}
+use Prim.Native.Nat.{ℕ, _-_, _/_, _≤_}
 use native.Mathlib.Omega.{arith}
 use mir.Val.{boolByte}
 use lib.ListN.{length, getD, set, take}
@@ -9,7 +9,8 @@ use lib.Seq.{take-all}
 use lib.Dec.{eqb}
 use Rattle.lists.specs.Lists.{any, bit}
 use Rattle.rules.specs.Moves.{source}
-use Rattle.engine_shift.specs.Adds.{Adds, adds-none, adds-word, adds-same, byte-bit}
+use Rattle.engine_rows.specs.Filled.{byte-bit}
+use Rattle.engine_shift.specs.Adds.{Adds, adds-none, adds-word, adds-same}
 use Rattle.engine_shift.specs.Seeds.{touches, touchesAt}
 use Rattle.engine_shift.specs.ChangeSeeds.{change-inside}
 use borrow.Author.Needs.{needs}

@@ -1,11 +1,12 @@
 -- The places before s have been asked. Assumes nothing.
-use mathlib.Core.Path.{_≡_, refl, ap, _∙_}
+use mathlib.Core.Path.{_≡_, refl}
 use mathlib.Core.Bool.{Bool, _&&_, _||_}
 use Prim.Native.Nat.{ℕ, _+_, _-_, _≤_}
 use native.Mathlib.Omega.{arith}
 use lib.ListN.{length, getD}
 use lib.Dec.{eqb, ltb}
-use Rattle.engine_shift.specs.Adds.{Adds, adds-first, adds-next, adds-all, byte-bit}
+use Rattle.engine_rows.specs.Filled.{byte-bit}
+use Rattle.engine_shift.specs.Adds.{Adds, adds-first, adds-next, adds-all}
 use Rattle.engine_shift.specs.Seeds.{goneTo}
 use borrow.Author.Needs.{needs}
 use Rattle.engine_shift.proofs.row_went.Statement.{statement}

@@ -13,8 +13,8 @@ may-have-gone-requires c κs = search needs
 may-have-gone-requires-2 : tie.Need-may-have-gone-requires-2
 may-have-gone-requires-2 c κs = search needs
 
-clear-row-requires : tie.Need-clear-row-requires
-clear-row-requires c κs = search needs
+fill-row-requires : tie.Need-fill-row-requires
+fill-row-requires c κs = search needs
 
 add-operand-requires : tie.Need-add-operand-requires
 add-operand-requires c κs = search needs
@@ -29,8 +29,8 @@ returns : tie.Need-returns
 returns c =
     let at-two = c .before .before in
     let at-one = at-two .before .before .before .before in
-    let at-clear = at-one .before .before .before .before in
-    let may-two = at-clear .before .before .before in
+    let at-fill = at-one .before .before .before .before in
+    let may-two = at-fill .before .before .before in
     let may-one = may-two .before in
     let s = may-one .before .before .before .before .before in
     let a = s .args in
@@ -40,7 +40,7 @@ returns c =
     let w = may-two .may-have-gone2 .result in
     shows-yes n (joinSeeds (a .sizes) (a .equations .now) (a .values .now) (a .marks .now) (e .first) (e .second) (e .block) (e .kind))
     (λ s. u && goneTo (a .values .now) (a .marks .now) (e .kind) (e .first * n + s)) (λ s. w && goneTo (a .values .now) (a .marks .now) (e .kind) (e .second * n + s))
-    (a .bad .now) _ _ _ (s .pre .0) (at-clear .clear-row .ensures) (at-one .add-operand .ensures) (at-two .add-operand2 .ensures)
+    (a .bad .now) _ _ _ (s .pre .0) (at-fill .fill-row .ensures) (at-one .add-operand .ensures) (at-two .add-operand2 .ensures)
     (λ s h. join-shown (a .sizes) (a .equations .now) (a .values .now) (a .marks .now) (e .block) (e .kind) (e .first) (e .second) s u w (may-one .may-have-gone .ensures) (may-two .may-have-gone2 .ensures) h)
 
 returns-2 : tie.Need-returns-2
@@ -59,7 +59,7 @@ shift-join-spec =
     (tie.spec
     may-have-gone-requires
     may-have-gone-requires-2
-    clear-row-requires
+    fill-row-requires
     add-operand-requires
     add-operand-requires-2
     same-length

@@ -1,7 +1,6 @@
 -- The row is cleared, and the changes and the moves are asked, where one of them may seed. Assumes nothing.
 use mathlib.Core.Path.{sym, ap, _∙_}
 use mathlib.Core.Bool.{Bool, _&&_}
-use Prim.Native.Nat.{_+_, _*_}
 use native.Mathlib.Omega.{arith}
 use Rattle.engine_shift.specs.Seeds.{touchesAt, leadsGone, stepSeeds}
 use Rattle.engine_shift.specs.RowSeeds.{shows-yes, shows-no, step-shown, step-none}
@@ -24,15 +23,15 @@ row-at-requires c κs = search needs
 is-earlier-requires : tie.Need-is-earlier-requires
 is-earlier-requires c κs = search needs
 
-clear-row-requires : tie.Need-clear-row-requires
-clear-row-requires c κs = search needs
+fill-row-requires : tie.Need-fill-row-requires
+fill-row-requires c κs = search needs
 
 add-changes-requires : tie.Need-add-changes-requires
 add-changes-requires c κs =
-    let at-clear = c .before .before .before in
-    let at-row = at-clear .before .before .before in
+    let at-fill = c .before .before .before in
+    let at-row = at-fill .before .before .before in
     let s = at-row .before .before .before .before .before .before .before .before .before .before .before .before in
-    let k = at-clear .clear-row .kept in
+    let k = at-fill .fill-row .kept in
     let e = at-row .row-at .ensures in
     let p = s .pre .1 in
     ((p .0 .0, omega arith), (omega arith, omega arith))
@@ -40,10 +39,10 @@ add-changes-requires c κs =
 add-leads-requires : tie.Need-add-leads-requires
 add-leads-requires c κs =
     let at-changes = c .before .before .before in
-    let at-clear = at-changes .before .before .before .before in
-    let at-row = at-clear .before .before .before in
+    let at-fill = at-changes .before .before .before .before in
+    let at-row = at-fill .before .before .before in
     let s = at-row .before .before .before .before .before .before .before .before .before .before .before .before in
-    let k = at-clear .clear-row .kept in
+    let k = at-fill .fill-row .kept in
     let l = at-changes .add-changes .kept in
     let e = at-row .row-at .ensures in
     let p = s .pre .1 in
@@ -56,8 +55,8 @@ returns : tie.Need-returns
 returns c =
     let at-leads = c .before .before in
     let at-changes = at-leads .before .before .before .before in
-    let at-clear = at-changes .before .before .before .before in
-    let at-earlier = at-clear .before .before in
+    let at-fill = at-changes .before .before .before .before in
+    let at-earlier = at-fill .before .before in
     let at-row = at-earlier .before in
     let at-may = at-row .before .before in
     let at-gains = at-may .before .before in
@@ -71,7 +70,7 @@ returns c =
     shows-yes (a .sizes .states)
     (stepSeeds (a .sizes) (a .equations .now) (a .moves .now) (a .changes .now) (a .values .now) (a .marks .now) _ (e .first) (e .second) (e .block) (e .kind))
     (touchesAt (a .changes .now) (a .values .now) (a .marks .now) u g (e .kind) (e .first) f) (λ s. w && leadsGone (a .moves .now) (a .values .now) (a .marks .now) (e .kind) (e .first) f s)
-    (a .bad .now) _ _ _ (s .pre .1 .0 .1) (at-clear .clear-row .ensures) (at-changes .add-changes .ensures) (at-leads .add-leads .ensures)
+    (a .bad .now) _ _ _ (s .pre .1 .0 .1) (at-fill .fill-row .ensures) (at-changes .add-changes .ensures) (at-leads .add-leads .ensures)
     (λ i h. ap (λ (b : Bool). stepSeeds (a .sizes) (a .equations .now) (a .moves .now) (a .changes .now) (a .values .now) (a .marks .now) b (e .first) (e .second) (e .block) (e .kind) i) (sym (at-gains .gains .ensures))
     ∙ step-shown (a .sizes) (a .equations .now) (a .values .now) (a .marks .now) (e .block) (e .kind) (a .moves .now) (a .changes .now) (s .pre .0 .ok) g (e .first) (e .second) i u w f
     (at-earlier .is-earlier .ensures) (at-may .may-have-gone .ensures) (at-row .row-at .ensures))
@@ -100,7 +99,7 @@ shift-step-spec =
     may-have-gone-requires
     row-at-requires
     is-earlier-requires
-    clear-row-requires
+    fill-row-requires
     add-changes-requires
     add-leads-requires
     same-length
