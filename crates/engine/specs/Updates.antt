@@ -7,7 +7,7 @@ use Prim.Native.Nat.{ℕ, _+_, _≤_, _<_}
 use native.Mathlib.Decide.{decLt}
 use native.Mathlib.Omega.{arith}
 use lib.ListN.{length, getD, take, drop, replicate, length-replicate, List·getD-eq-default}
-use lib.Seq.{ext-getD, getD-take, take-at, drop-append-seam}
+use lib.Seq.{getD-take, take-at, drop-append-seam}
 use lib.Dec.{eqb}
 use lib.IntN.{ℤ, pos, _-ℤ_}
 use Rattle.lists.specs.Lists.{bit, listed, fill}
@@ -18,8 +18,7 @@ use Rattle.lists.specs.Tests.{tell}
 use Rattle.systems.specs.System as S
 use Rattle.systems.specs.Marks.{shiftOf, settleOf}
 use Rattle.systems.specs.Machine.{own}
-use Rattle.systems.specs.MachineMoves.{unitCount}
-use Rattle.systems.specs.ListMachine.{Job}
+use Rattle.systems.specs.LoadSolves.{load-solve}
 use Rattle.rules.specs.Model.{Model, blocksOf}
 use Rattle.rules.specs.Rooms.{pairsOf}
 use Rattle.rules.specs.Batch.{Change, edited}
@@ -27,33 +26,25 @@ use Rattle.rules.specs.Values.{Values, leanings, greatestIn, greatest, solve}
 use Rattle.rules.specs.Update.{changed, Turned, turnAll, markOf, visitsOn, trues, netOf}
 use Rattle.rules.specs.Calls.{valueAt, bits, marksOf}
 use Rattle.laws.specs.Edits.{Judged}
-use Rattle.laws.specs.ModelSystem.{frame, block-past, Sound}
+use Rattle.laws.specs.ModelSystem.{frame, block-past, Sound, pairs-full, model-fits}
 use Rattle.laws.specs.Named.{variable-block}
 use Rattle.laws.specs.OneKind.{greatest-out}
 use Rattle.laws.specs.Accepted.{values-held}
+use Rattle.laws.specs.ValuesSolve.{solve-same}
 use Rattle.laws.specs.UpdateMoves.{update-values, update-shifted, update-settled, visits-agree}
-use Rattle.laws.specs.MachineRules.{Answers, machine-loads}
-use Rattle.starts.specs.Starts.{part-changed, net-counted}
-use Rattle.engine.specs.EngineRuns.{run-same, job-enough}
-use Rattle.engine.specs.Runs.{Started, Ran, Over, jobAfter, withMoves, run-ready, ran-answers}
+use Rattle.engine_values.specs.Starts.{part-changed, net-counted}
+use Rattle.engine_phase.specs.Started.{Started, withMoves}
 
--- The values, the marks and the visits that an update ends with.
-pub record Moved (m : Model) (cs : List Change) (vs values marks : List ℕ) (shift settle : ℕ) : Type 0 where
-  pub stack : List ℕ
-  pub room : pairsOf (m .sizes) ≤ length stack
-  pub job : Job
-  pub ran : Ran m cs vs stack job
-  pub values-are : job .vals ≡ values
-  pub marks-are : job .pile .marks ≡ marks
-  pub shift-is : job .shiftVisits ≡ shift
-  pub settle-is : job .settleVisits ≡ settle
-
--- The same as the rule says.
+-- The values, the marks and the visits that an update ends with, as the rule says.
 pub record Follows (m : Model) (t : Turned) (values marks : List ℕ) (shift settle : ℕ) : Type 0 where
   pub values-are : values ≡ bits (pairsOf (m .sizes)) (at (t .values))
   pub marks-are : marks ≡ marksOf (pairsOf (m .sizes)) t
   pub shift-is : shift ≡ visitsOn m (at (t .shifted))
   pub settle-is : settle ≡ visitsOn m (at (t .settled))
+
+-- The update of the table with the model m by the changes cs, from the values vs, as the rule says.
+abbrev pub Moved : Model → List Change → List ℕ → List ℕ → List ℕ → ℕ → ℕ → Type 0
+Moved m cs vs values marks shift settle = Follows m (turnAll m cs (valueAt vs)) values marks shift settle
 
 -- The same in rooms that may be longer.
 pub record MovedIn (m : Model) (cs : List Change) (values₀ marks₀ values marks : List ℕ) (shift settle : ℕ) : Type 0 where
@@ -113,48 +104,36 @@ moved-follows m cs l values marks shift settle s d = subst
     (λ (x : Model). Sound x → Follows x (turnAll x cs (valueAt part)) values marks shift settle → Follows x (turnAll x cs (valueAt l)) values marks shift settle)
     (ap (λ (k : List ℕ). withMoves k m) (s .made))
     (λ ok′. follows-same (withMoves (s .old) m) cs (s .judged) (s .was-sound) ok′ (valueAt part) (valueAt l) (λ p h. ap (λ (x : ℕ). eqb x 1) (getD-take (pairsOf (m .sizes)) l p 0 h)) values marks shift settle)
-    (s .is-sound) (record {
-      values-are = sym (d .values-are) ∙ a .values;
-      marks-are = sym (d .marks-are) ∙ a .marks;
-      shift-is = sym (d .shift-is) ∙ a .shift;
-      settle-is = sym (d .settle-is) ∙ a .settle;
-    })
+    (s .is-sound) d
   where
     part : List ℕ
     part = take (pairsOf (m .sizes)) l
-
-    a : Answers m (turnAll m cs (valueAt (take (pairsOf (m .sizes)) l))) (d .job)
-    a = ran-answers m cs (take (pairsOf (m .sizes)) l) (d .stack) s (d .room) (d .job) (d .ran)
 
 -- With no change, everything is as at the start.
 pub started-none : (m : Model) (vs : List ℕ) → Sound m → length vs ≡ pairsOf (m .sizes) → ((p : ℕ) → getD vs p 0 ≤ 1) → Started m [] vs
 unfolding edited
 started-none m vs ok long small = record { old = m .moves; made = refl; judged = (tt, tt, tt, tt); was-sound = ok; is-sound = ok; long = long; small = small }
 
--- From each block's own value, with no change, the machine ends in the values of the model.
-run-loads : (m : Model) → Sound m → (vs stack : List ℕ) → length vs ≡ pairsOf (m .sizes) → ((p : ℕ) → getD vs p 0 ≤ 1) → pairsOf (m .sizes) ≤ length stack
-    → ((p : ℕ) → valueAt vs p ≡ own (frame m) p) → (k : ℕ) → Over m k (jobAfter m [] vs stack k) → (p : ℕ) → p < pairsOf (m .sizes)
-    → getD (jobAfter m [] vs stack k .vals) p 0 ≡ bit (at (solve m) p)
-unfolding edited
-run-loads m ok vs stack long small room start k over p h =
-    let j : Judged (m .moves) [] = (tt, tt, tt, tt) in
-    ap (λ (c : Job). getD (c .vals) p 0) (run-same m [] j ok ok vs stack long small room k)
-    ∙ machine-loads m ok vs stack long small room start k
-    (subst (λ (v : Values). unitCount (frame m) (leanings m) (leanings m) v ≤ k) (fun-ext start) (job-enough m [] j ok ok vs stack long small room k over)) p h
+-- From each block's own value, with no change, the update ends in the values of the model.
+module _ (m : Model) (ok : Sound m) (vs : List ℕ) (long : length vs ≡ pairsOf (m .sizes)) (start : (p : ℕ) → valueAt vs p ≡ own (frame m) p) where
+  from-own : _≡_ {A = Values} (at (table (pairsOf (m .sizes)) (valueAt vs))) (own (frame m))
+  from-own = fun-ext (λ p. elim (decLt p (pairsOf (m .sizes))) [
+    | yes h ↦ table-at (pairsOf (m .sizes)) (valueAt vs) p h ∙ start p
+    | no h ↦
+        table-past (pairsOf (m .sizes)) (valueAt vs) p (omega arith) ∙ sym (ap (λ (x : ℕ). eqb x 1) (List·getD-eq-default vs 0 {n = p} (omega arith))) ∙ start p
+  ])
 
-pub moved-loads : (m : Model) (vs values marks : List ℕ) (shift settle : ℕ) → Started m [] vs → ((p : ℕ) → valueAt vs p ≡ own (frame m) p)
-    → Moved m [] vs values marks shift settle → values ≡ bits (pairsOf (m .sizes)) (at (solve m))
-moved-loads m vs values marks shift settle s start d =
-    sym (d .values-are) ∙ ap (λ (c : Job). c .vals) (d .ran .is)
-    ∙ ext-getD 0 _ (bits (pairsOf (m .sizes)) (at (solve m))) (long ∙ sym (listed-length 0 (pairsOf (m .sizes)) (λ p. bit (at (solve m) p)))) (λ p k. let h : p < pairsOf (m .sizes) = omega (arith, long) in found p h ∙ sym (listed-is (pairsOf (m .sizes)) (λ p. bit (at (solve m) p)) p h))
-  where
-    long : length (jobAfter m [] vs (d .stack) (d .ran .units) .vals) ≡ pairsOf (m .sizes)
-    long = run-ready m [] vs (d .stack) s (d .room) (d .ran .units) .formed .vals
+  turn-loads : (p : ℕ) → p < pairsOf (m .sizes) → at (turnAll m [] (valueAt vs) .values) p ≡ at (solve m) p
+  unfolding edited
+  turn-loads p h =
+      ap (λ (f : Values). f p) (update-values m [] (tt, tt, tt, tt) ok ok (valueAt vs))
+      ∙ ap (λ (v : Values). S.move (frame m) (leanings m) (leanings m) v p) from-own
+      ∙ load-solve (frame m) (leanings m) (model-fits m ok) p (pairs-full m ok p h) ∙ sym (ap (λ (f : Values). f p) (solve-same m))
 
-    found : (p : ℕ) → p < pairsOf (m .sizes) → getD (jobAfter m [] vs (d .stack) (d .ran .units) .vals) p 0 ≡ bit (at (solve m) p)
-    found p h =
-        run-loads m (s .is-sound) vs (d .stack) (s .long) (s .small) (d .room) start (d .ran .units)
-        (subst (Over m (d .ran .units)) (d .ran .is) (d .ran .over)) p h
+  pub moved-loads : (values marks : List ℕ) (shift settle : ℕ) → Moved m [] vs values marks shift settle → values ≡ bits (pairsOf (m .sizes)) (at (solve m))
+  moved-loads values marks shift settle d =
+      d .values-are
+      ∙ listed-same 0 (pairsOf (m .sizes)) (λ p. bit (at (turnAll m [] (valueAt vs) .values) p)) (λ p. bit (at (solve m) p)) (λ p h. ap bit (turn-loads p (omega arith)))
 
 -- The first p places of a room that was cleared so far, and the places past them.
 module _ (p : ℕ) (room cleared : List ℕ) (e : cleared ≡ fill (replicate p 0) room) where
@@ -259,7 +238,7 @@ module _ (m : Model) (ok : Sound m) (values₀ own-room : List ℕ) (room : pair
   load-leaves marks₀ values marks shift settle d =
       d .values-are
       ∙ joined N (λ p. bit (at (solve m) p)) (d .part) own-room
-      (moved-loads m (take N own-room) (d .part) (d .part-marks) shift settle load-starts (λ p. ap (λ (x : ℕ). eqb x 1) (own-at p) ∙ bit-back (own (frame m) p)) (d .moved))
+      (moved-loads m ok (take N own-room) (load-starts .long) (λ p. ap (λ (x : ℕ). eqb x 1) (own-at p) ∙ bit-back (own (frame m) p)) (d .part) (d .part-marks) shift settle (d .moved))
       ∙ fill-again N (bits N (at (solve m))) (bits N (own (frame m))) own-room values₀ (listed-length 0 N (λ p. bit (at (solve m) p)))
       (listed-length 0 N (λ p. bit (own (frame m) p))) is-own
 
@@ -271,6 +250,4 @@ module _ (m : Model) (ok : Sound m) (values₀ own-room : List ℕ) (room : pair
       ∙ fill-again N (replicate N 0) (d .part-marks) marks marks₀ (length-replicate N 0) long (d .marks-are ∙ part-changed N (d .part-marks) marks₀ long)
     where
       long : length (d .part-marks) ≡ pairsOf (m .sizes)
-      long =
-          ap length (sym (d .moved .marks-are) ∙ ap (λ (c : Job). c .pile .marks) (d .moved .ran .is))
-          ∙ run-ready m [] (take (pairsOf (m .sizes)) own-room) (d .moved .stack) load-starts (d .moved .room) (d .moved .ran .units) .formed .marks
+      long = ap length (d .moved .marks-are) ∙ listed-length 0 (pairsOf (m .sizes)) _

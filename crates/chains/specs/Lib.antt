@@ -1,4 +1,0 @@
-pub mod Chains
-pub mod ChainLaws
-pub mod ChainWalks
-pub mod Indexed

@@ -1,0 +1,10 @@
+pub mod Anys
+pub mod Adds
+pub mod Seeds
+pub mod Sources
+pub mod ChangeSeeds
+pub mod LeadRows
+pub mod Olds
+pub mod SeedWords
+pub mod RowSeeds
+pub mod ShiftRows

@@ -1,2 +1,0 @@
-pub mod LookTests
-pub mod LookWords
