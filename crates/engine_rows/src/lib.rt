@@ -4,8 +4,8 @@ use rules::Variable;
 ghost use mathlib.Core.Path.{_≡_};
 ghost use mathlib.Core.Bool.{false, cond};
 ghost use mathlib.Core.List.{map, _++_};
-ghost use Prim.Native.Nat.{ℕ, _+_, _≤_, _<_};
-ghost use lib.ListN.{length, getD, take, replicate};
+ghost use Prim.Native.Nat.{ℕ, _+_, _*_, _≤_, _<_};
+ghost use lib.ListN.{length, getD, take, drop, replicate};
 ghost use lib.Dec.{eqb};
 ghost use Rattle.lists.specs.Lists.{bit, listed};
 ghost use Rattle.systems.specs.Machine.{nextMark};
@@ -90,4 +90,14 @@ pub fn row_queue(bad: &[u8], y: Variable, queue: &mut [u16], tail: usize) -> usi
         s = s + 1;
     }
     top
+}
+
+// The row of the variable x, of what lies in a room by pairs.
+pub fn row_in(room: &[u8], x: usize, states: usize) -> &[u8]
+    requires { ⌜ x * states + states ≤ length (now room) ⌝ }
+    ensures { λ r. ⌜ now r ≡ take states (drop (x * states) (now (room .entry))) ⌝ }
+{
+    let from = x * states;
+    let end = from + states;
+    &room[from..end]
 }

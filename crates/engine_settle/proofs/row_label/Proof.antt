@@ -1,0 +1,81 @@
+-- The places before s say whether the proposition decides, those from s on are as they were. Assumes nothing.
+use mathlib.Core.Path.{_≡_, refl}
+use Prim.Native.Nat.{_-_, _≤_}
+use native.Mathlib.Omega.{arith}
+use lib.ListN.{length}
+use Rattle.rules.specs.Values.{state, holds}
+use Rattle.engine_rows.specs.Filled.{Filled, filled-none, filled-more, filled-all}
+use Rattle.engine_settle.specs.Told.{told}
+use borrow.Author.Needs.{needs}
+use Rattle.engine_settle.proofs.row_label.Statement.{statement}
+use Rattle.engine_settle.proofs.row_label.Tie as tie
+
+abbrev Inv-loop : tie.InvT-loop
+Inv-loop labels q v bad₀ n s₀ bad s = (s ≤ length bad₀) × ((length bad ≡ length bad₀) × Filled s (λ p. told v (holds labels (state p) q)) bad₀ bad)
+
+abbrev μ-loop : tie.MeasureT-loop
+μ-loop labels q v bad₀ n s₀ bad s = length bad₀ - s
+
+loop-holds : tie.Need-loop-holds Inv-loop μ-loop
+loop-holds c =
+    let a = c .before .before .args in
+    (omega arith, (refl, filled-none (λ p. told (a .v) (holds (a .labels .now) (state p) (a .q))) (a .bad .now)))
+
+mul-told-by : tie.Need-mul-told-by Inv-loop μ-loop
+mul-told-by c = search needs
+
+shared-slice-read-told-by : tie.Need-shared-slice-read-told-by Inv-loop μ-loop
+shared-slice-read-told-by c = search needs
+
+shr-told-by : tie.Need-shr-told-by Inv-loop μ-loop
+shr-told-by c = search needs
+
+told-by-requires : tie.Need-told-by-requires Inv-loop μ-loop
+told-by-requires c κs = search needs
+
+slice-write-bad : tie.Need-slice-write-bad Inv-loop μ-loop
+slice-write-bad c = search needs
+
+add-s : tie.Need-add-s Inv-loop μ-loop
+add-s c = search needs
+
+loop-less : tie.Need-loop-less Inv-loop μ-loop
+loop-less c = search needs
+
+loop-again : tie.Need-loop-again Inv-loop μ-loop
+loop-again c =
+    let at-loop = c .before .before .before in
+    let a = at-loop .before .before .before .args in
+    let l = at-loop .loop in
+    let t = c .before .before .loop-test .taken in
+    let w = filled-more (l .s) (λ p. told (a .v) (holds (a .labels .now) (state p) (a .q))) (a .bad .now) (l .bad) _ _ (omega arith) (l .inv .1 .1) (c .told-by .ensures) refl in
+    (omega arith, (w .long, w))
+
+same-length : tie.Need-same-length Inv-loop μ-loop
+same-length c = search needs
+
+returns : tie.Need-returns Inv-loop μ-loop
+returns c =
+    let l = c .before .loop in
+    let a = c .before .before .before .before .args in
+    let t = c .loop-test .left in
+    let i = l .inv .0 in
+    filled-all (l .s) (λ p. told (a .v) (holds (a .labels .now) (state p) (a .q))) (a .bad .now) (l .bad) (omega arith) (l .inv .1 .1)
+
+pub row-label-spec : {M : Type 1} → statement M
+row-label-spec =
+    tie.close
+    (tie.spec
+    Inv-loop
+    μ-loop
+    loop-holds
+    mul-told-by
+    shared-slice-read-told-by
+    shr-told-by
+    told-by-requires
+    slice-write-bad
+    add-s
+    loop-less
+    loop-again
+    same-length
+    returns)

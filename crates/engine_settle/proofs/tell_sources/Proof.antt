@@ -1,0 +1,155 @@
+-- What is left of the chain makes of the places as they are what the whole of it makes of them as they were. Assumes nothing.
+use mathlib.Core.Path.{_≡_, refl, sym, ap, _∙_}
+use Prim.Native.Nat.{ℕ, _+_, _-_, _≤_}
+use native.Mathlib.Nat.{zero-add}
+use native.Mathlib.Omega.{arith}
+use lib.ListN.{length, getD, set}
+use Rattle.engine_index.specs.ChainWalks.{step-falls}
+use Rattle.engine_settle.specs.Sources.{keyBy, Telling, telling-begins, telling-goes, telling-ends}
+use borrow.Author.Needs.{needs}
+use Rattle.engine_settle.proofs.tell_sources.Statement.{statement}
+use Rattle.engine_settle.proofs.tell_sources.Tie as tie
+
+abbrev Inv-loop : tie.InvT-loop
+Inv-loop moves index links at v bad₀ k₀ bad k = (k ≤ length moves) × ((length bad ≡ length bad₀) × Telling (keyBy (length bad₀)) moves at v bad₀ k bad)
+
+abbrev μ-loop : tie.MeasureT-loop
+μ-loop moves index links at v bad₀ k₀ bad k = k
+
+mul-k : tie.Need-mul-k Inv-loop μ-loop
+mul-k c =
+    let at-start = c .before .before .before in
+    let i = at-start .pre .0 .long in
+    record { fits = omega arith }
+
+shared-slice-read-k : tie.Need-shared-slice-read-k Inv-loop μ-loop
+shared-slice-read-k c =
+    let at-start = c .before .before .before .before in
+    let i = at-start .pre .0 .long in
+    omega arith
+
+cast-k : tie.Need-cast-k Inv-loop μ-loop
+cast-k c =
+    let h = c .shared-slice-known3 .given (c .before .before .before .before .args .at) in
+    record { fits = omega (arith, h) }
+
+loop-holds : tie.Need-loop-holds Inv-loop μ-loop
+loop-holds c =
+    let at-start = c .before .before .before .before in
+    let a = at-start .args in
+    let head = ap (λ (k : ℕ). getD (a .index .now) k 0) (sym (zero-add (a .at))) ∙ at-start .pre .0 .chained .ends (a .at) (omega arith) in
+    let w = telling-begins (keyBy (length (a .bad .now))) (a .moves .now) (a .at) (a .v) (a .bad .now) _ head in
+    (w .below, (refl, w))
+
+sub-j : tie.Need-sub-j Inv-loop μ-loop
+sub-j c = search needs
+
+mul-source-of : tie.Need-mul-source-of Inv-loop μ-loop
+mul-source-of c = search needs
+
+shared-slice-read-source-of : tie.Need-shared-slice-read-source-of Inv-loop μ-loop
+shared-slice-read-source-of c = search needs
+
+source-of-requires : tie.Need-source-of-requires Inv-loop μ-loop
+source-of-requires c κs = search needs
+
+cast-s : tie.Need-cast-s Inv-loop μ-loop
+cast-s c = search needs
+
+slice-write-bad : tie.Need-slice-write-bad Inv-loop μ-loop
+slice-write-bad c =
+    let at-loop = c .before .before .before .before in
+    let at-start = at-loop .before .before .before .before .before in
+    let t = c .before .before .before .loop-test .taken in
+    let l = at-loop .loop in
+    let i = l .inv in
+    let e = c .before .source-of .ensures in
+    let b = at-start .pre .0 .from (l .k - 1) (omega arith) in
+    omega (arith, b, e)
+
+add-k : tie.Need-add-k Inv-loop μ-loop
+add-k c =
+    let at-loop = c .before .before .before .before in
+    let at-start = at-loop .before .before .before .before .before in
+    let i = at-start .pre .0 .long in
+    record { fits = omega arith }
+
+mul-k-2 : tie.Need-mul-k-2 Inv-loop μ-loop
+mul-k-2 c =
+    let at-loop = c .before .before .before .before in
+    let at-start = at-loop .before .before .before .before .before in
+    let i = at-start .pre .0 .long in
+    record { fits = omega arith }
+
+shared-slice-read-k-2 : tie.Need-shared-slice-read-k-2 Inv-loop μ-loop
+shared-slice-read-k-2 c =
+    let at-loop = c .before .before .before .before .before in
+    let at-start = at-loop .before .before .before .before .before in
+    let t = c .before .before .before .before .loop-test .taken in
+    let i = at-start .pre .0 .long in
+    omega arith
+
+cast-k-2 : tie.Need-cast-k-2 Inv-loop μ-loop
+cast-k-2 c =
+    let at-loop = c .before .before .before .before .before in
+    let a = at-loop .before .before .before .before .before .args in
+    let h = c .shared-slice-known5 .given (a .links + (at-loop .loop .k - 1)) in
+    record { fits = omega (arith, h) }
+
+loop-less : tie.Need-loop-less Inv-loop μ-loop
+loop-less c =
+    let at-loop = c .before .before .before .before .before in
+    let at-start = at-loop .before .before .before .before .before in
+    let a = at-start .args in
+    let t = c .before .before .before .before .loop-test .taken in
+    let l = at-loop .loop in
+    step-falls (keyBy (length (a .bad .now))) 0 (a .links) (a .moves .now) (length (a .moves .now)) (a .index .now) (at-start .pre .0 .chained) (l .k) _ t (l .inv .0)
+    refl
+
+loop-again : tie.Need-loop-again Inv-loop μ-loop
+loop-again c =
+    let at-loop = c .before .before .before .before .before in
+    let at-start = at-loop .before .before .before .before .before in
+    let a = at-start .args in
+    let t = c .before .before .before .before .loop-test .taken in
+    let l = at-loop .loop in
+    let i = l .inv .0 in
+    let next = at-start .pre .0 .chained .steps (l .k - 1) (omega arith) in
+    let w = telling-goes (keyBy (length (a .bad .now))) (a .moves .now) (a .at) (a .v) (a .bad .now) (l .k) (l .k - 1) _ (l .bad) _ (l .inv .1 .1) (omega arith)
+    (ap (λ (x : ℕ). set (l .bad) x (a .v)) (c .before .before .source-of .ensures)) next in
+    (w .below, (w .long, w))
+
+same-length : tie.Need-same-length Inv-loop μ-loop
+same-length c = search needs
+
+returns : tie.Need-returns Inv-loop μ-loop
+returns c =
+    let l = c .before .loop in
+    let a = c .before .before .before .before .before .before .args in
+    let t = c .loop-test .left in
+    telling-ends (keyBy (length (a .bad .now))) (a .moves .now) (a .at) (a .v) (a .bad .now) (l .k) (l .bad) (l .inv .1 .1) (omega arith)
+
+pub tell-sources-spec : {M : Type 1} → statement M
+tell-sources-spec =
+    tie.close
+    (tie.spec
+    Inv-loop
+    μ-loop
+    mul-k
+    shared-slice-read-k
+    cast-k
+    loop-holds
+    sub-j
+    mul-source-of
+    shared-slice-read-source-of
+    source-of-requires
+    cast-s
+    slice-write-bad
+    add-k
+    mul-k-2
+    shared-slice-read-k-2
+    cast-k-2
+    loop-less
+    loop-again
+    same-length
+    returns)
