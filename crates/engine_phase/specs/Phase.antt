@@ -9,7 +9,7 @@ use native.Mathlib.Omega.{arith}
 use lib.ListN.{length, getD, set, length-map, List·getD-map}
 use lib.Seq.{set-getD}
 use Rattle.systems.specs.Machine.{own, free, nextMark, asks}
-use Rattle.systems.specs.ListMachine.{valOf, turned, marksIn, between, spreadL, nextBlock, Job}
+use Rattle.systems.specs.ListMachine.{valOf, turned, marksIn, between, spreadL, Job}
 use Rattle.systems.specs.Places.{nextPhase}
 use Rattle.systems.specs.Rows.{hits, rowMarks}
 use Rattle.rules.specs.Model.{blocksOf}
@@ -108,16 +108,21 @@ module _ {t : Table} (dr : Drawn t) (cs : List Change) (i : ℕ) (ph : Bool) (lo
       (on-row dr (at v) o y lt low refl refl own (lookTest (modelOf t) cs ph (valOf values) (marksIn marks)) (λ s h. refl) marks′ (map (waiter (t .sizes)) queue′) tail′
       (left .marks-are) (left .tail-is) (let e = length-map queue′ (waiter (t .sizes)) in omega arith) (left .waits))
 
+-- The block of the next phase: after settling, the next.
+abbrev pub blockAfter : Bool → ℕ → ℕ
+blockAfter false i = i
+blockAfter true i = i + 1
+
 -- A phase in which nothing waits any more leads to the next.
 pub leads-over : {t : Table} (dr : Drawn t) (cs : List Change) (i : ℕ) (ph : Bool) → i < blocksOf (modelOf t) → (place : ℕ) → pairsOf (t .sizes) ≤ place
     → (values marks queue : List ℕ) (from tail visits : ℕ) → tail ≤ from
     → Leads t cs (λ other. jobIn (t .sizes) i ph place values marks queue from tail visits other)
-    (λ other. jobIn (t .sizes) (nextBlock ph i) (not ph) 0 values marks queue 0 0 other visits)
+    (λ other. jobIn (t .sizes) (blockAfter ph i) (not ph) 0 values marks queue 0 0 other visits)
 leads-over {t} dr cs i ph low place past values marks queue from tail visits h vs other o =
     subst (On t cs vs) (same ph) (on-over dr (jobIn (t .sizes) i ph place values marks queue from tail visits other) o low past h)
   where
-    same : (b : Bool) → nextPhase (jobIn (t .sizes) i b place values marks queue from tail visits other) ≡ jobIn (t .sizes) (nextBlock b i) (not b) 0 values marks queue 0 0 other visits
-    same true = refl
+    same : (b : Bool) → nextPhase (jobIn (t .sizes) i b place values marks queue from tail visits other) ≡ jobIn (t .sizes) (blockAfter b i) (not b) 0 values marks queue 0 0 other visits
+    same true = ap (λ (k : ℕ). jobIn (t .sizes) k false 0 values marks queue 0 0 other visits) (let e : suc i ≡ i + 1 = omega arith in e)
     same false = refl
 
 -- All rows have been looked at, and the pair at `front` turns.

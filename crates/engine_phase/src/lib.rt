@@ -9,7 +9,7 @@ ghost use lib.ListN.{length, getD, set};
 ghost use lib.Dec.{eqb};
 ghost use Rattle.lists.specs.Lists.{bit};
 ghost use Rattle.systems.specs.Machine.{asks, free, nextMark};
-ghost use Rattle.systems.specs.ListMachine.{valOf, marksIn, turned, spreadL, nextBlock};
+ghost use Rattle.systems.specs.ListMachine.{valOf, marksIn, turned, spreadL};
 ghost use Rattle.systems.specs.Rows.{hits};
 ghost use Rattle.rules.specs.Limits.{most-states, most-variables};
 ghost use Rattle.rules.specs.Model.{blocksOf};
@@ -23,54 +23,8 @@ ghost use Rattle.laws.specs.LookTest.{lookTest};
 ghost use Rattle.words.specs.Table.{tableIn, modelOf, Drawn, ownIn, pairIn, changesOf, waiter};
 ghost use Rattle.engine_index.specs.Indexed.{Indexed};
 ghost use Rattle.engine_rows.specs.Rooms.{Bits, Packed, pileIn, Tells, Told};
-ghost use Rattle.engine_phase.specs.Phase.{RowLeft, Somewhere, Leads, jobIn};
+ghost use Rattle.engine_phase.specs.Phase.{RowLeft, Somewhere, Leads, jobIn, blockAfter};
 ghost use Rattle.engine_phase.specs.PutRow.{turnsIn, Named, turnsFrom};
-
-fn settle_row(
-    sizes: Sizes,
-    labels: &[u32],
-    equations: &[u32],
-    moves: &[u32],
-    index: &[u16],
-    values: &[u8],
-    y: Variable,
-    bad: &mut [u8],
-) -> bool
-    requires { ⌜ Drawn (tableIn sizes (now labels) (now equations) (now moves)) ⌝ }
-    requires { ⌜ Indexed (tableIn sizes (now labels) (now equations) (now moves)) (now index) ⌝ }
-    requires { ⌜ (y .0 < sizes .variables) × ((length (now values) ≡ pairsOf sizes) × (length (now bad) ≡ sizes .states)) ⌝ }
-    requires { ⌜ Bits (now values) ⌝ }
-    ensures { λ r. ⌜ Tells (sizes .states) (ownIn (tableIn sizes (now (labels .entry)) (now (equations .entry)) (now (moves .entry))) (y .0)) (now (values .entry)) (y .0 * sizes .states)
-        (λ s. asks (frame (modelOf (tableIn sizes (now (labels .entry)) (now (equations .entry)) (now (moves .entry))))) (leanings (modelOf (tableIn sizes (now (labels .entry)) (now (equations .entry)) (now (moves .entry))))) true (valueAt (now (values .entry))) (pairIn sizes (y .0) s))
-        (now (bad .exit)) r ⌝ }
-{
-    true
-}
-
-fn shift_row(
-    sizes: Sizes,
-    labels: &[u32],
-    equations: &[u32],
-    moves: &[u32],
-    index: &[u16],
-    changes: &[u32],
-    values: &[u8],
-    marks: &[u8],
-    y: Variable,
-    bad: &mut [u8],
-) -> bool
-    requires { ⌜ Drawn (tableIn sizes (now labels) (now equations) (now moves)) ⌝ }
-    requires { ⌜ Indexed (tableIn sizes (now labels) (now equations) (now moves)) (now index) ⌝ }
-    requires { ⌜ changesOk sizes (changesOf (now changes)) ≡ true ⌝ }
-    requires { ⌜ (y .0 < sizes .variables) × ((length (now values) ≡ pairsOf sizes) × ((length (now marks) ≡ pairsOf sizes) × (length (now bad) ≡ sizes .states))) ⌝ }
-    requires { ⌜ Bits (now values) × ((p : ℕ) → getD (now marks) p 0 ≤ 3) ⌝ }
-    requires { ⌜ Told (tableIn sizes (now labels) (now equations) (now moves)) (now values) (now marks) (y .0) ⌝ }
-    ensures { λ r. ⌜ Tells (sizes .states) (not (ownIn (tableIn sizes (now (labels .entry)) (now (equations .entry)) (now (moves .entry))) (y .0))) (now (values .entry)) (y .0 * sizes .states)
-        (λ s. lookTest (modelOf (tableIn sizes (now (labels .entry)) (now (equations .entry)) (now (moves .entry)))) (changesOf (now (changes .entry))) false (valueAt (now (values .entry))) (marksIn (now (marks .entry))) (pairIn sizes (y .0) s))
-        (now (bad .exit)) r ⌝ }
-{
-    true
-}
 
 pub struct Spread {
     pub tail: usize,
@@ -159,11 +113,10 @@ fn tell_row(
         (now (bad .exit)) r ⌝ }
 {
     if settling {
-        return settle_row(sizes, labels, equations, moves, index, values, y, bad);
+        return engine_settle::settle_row(sizes, labels, equations, moves, index, values, y, bad);
     }
-    shift_row(
+    engine_shift::shift_row(
         sizes,
-        labels,
         equations,
         moves,
         index,
@@ -310,7 +263,7 @@ pub fn phase(
     requires { ⌜ Somewhere {I = ℕ} (tableIn sizes (now labels) (now equations) (now moves)) (changesOf (now changes)) (λ other. jobIn sizes block settling 0 (now values) (now marks) (now queue) 0 0 visits other) ⌝ }
     ensures { λ r. ⌜ Leads {I = ℕ} (tableIn sizes (now (labels .entry)) (now (equations .entry)) (now (moves .entry))) (changesOf (now (changes .entry)))
         (λ other. jobIn sizes block settling 0 (now (values .entry)) (now (marks .entry)) (now (queue .entry)) 0 0 visits other)
-        (λ other. jobIn sizes (nextBlock settling block) (not settling) 0 (now (values .exit)) (now (marks .exit)) (now (queue .exit)) 0 0 other r) ⌝ }
+        (λ other. jobIn sizes (blockAfter settling block) (not settling) 0 (now (values .exit)) (now (marks .exit)) (now (queue .exit)) 0 0 other r) ⌝ }
 {
     let tail = look_rows(
         sizes,

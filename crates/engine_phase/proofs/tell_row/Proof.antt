@@ -6,8 +6,8 @@ use Rattle.engine_phase.proofs.tell_row.Statement.{statement}
 use Rattle.engine_phase.proofs.tell_row.Tie as tie
 use Rattle.engine_phase.proofs.tell_row.Reads as reads
 use Rattle.engine_phase.proofs.tell_row.Lts as lts
-use Rattle.engine_phase.proofs.settle_row.Reads as settle-row-reads
-use Rattle.engine_phase.proofs.shift_row.Reads as shift-row-reads
+use Rattle.engine_settle.proofs.settle_row.Reads as settle-row-reads
+use Rattle.engine_shift.proofs.shift_row.Reads as shift-row-reads
 
 settle-row-requires : tie.Need-settle-row-requires
 settle-row-requires c κs =
@@ -33,7 +33,7 @@ shift-row-requires c κs =
     let pre = at-start .pre in
     let lengths = pre .1 .1 .1 .0 in
     let small = pre .1 .1 .1 .1 .0 in
-    (pre .0, (pre .1 .0, (pre .1 .1 .0, (lengths, (small, pre .1 .1 .1 .1 .1 (c .before .if1 .left))))))
+    ((at-start .args .labels .now, (pre .0, pre .1 .0)), (pre .1 .1 .0, (lengths, small .0)))
 
 same-length-2 : tie.Need-same-length-2
 same-length-2 c = search needs
@@ -42,8 +42,9 @@ returns-2 : tie.Need-returns-2
 returns-2 c =
     let at-row = c .before .before in
     let at-if = at-row .before .before in
-    let a = at-if .before .before .before .before .before .before .before .before .before .args in
-    tells-shift (tableIn (a .sizes) (a .labels .now) (a .equations .now) (a .moves .now)) (changesOf (a .changes .now)) (a .values .now) (a .marks .now) _ (a .y .0) (a .sizes .states) _ (a .settling) (at-if .if1 .left) (at-row .shift-row .ensures)
+    let at-start = at-if .before .before .before .before .before .before .before .before .before in
+    let a = at-start .args in
+    tells-shift (tableIn (a .sizes) (a .labels .now) (a .equations .now) (a .moves .now)) (changesOf (a .changes .now)) (a .values .now) (a .marks .now) _ (a .y .0) (a .sizes .states) _ (a .settling) (at-if .if1 .left) (at-row .shift-row .ensures (a .labels .now) (at-start .pre .0) (at-start .pre .1 .1 .1 .1 .1 (at-if .if1 .left)))
 
 pub tell-row-spec : {M : Type 1} → statement M
 tell-row-spec =
