@@ -24,7 +24,8 @@ use Rattle.engine_index.specs.Chains.{lastTo}
 use Rattle.engine_index.specs.Operands.{operandAt, hasOperand, ofSlot, isSlot, nameAt, namesOf, lastNamed, isStep, slotWord, Blank, NamedUpTo, Naming, Slot}
 
 module _ (equations : List ℕ) where
-  name-at : (j : ℕ) → j < 2 * length equations → getD (namesOf equations) j 0 ≡ nameAt equations j
+  -- The name of a slot, in the list of all.
+  pub name-at : (j : ℕ) → j < 2 * length equations → getD (namesOf equations) j 0 ≡ nameAt equations j
   name-at j h = listed-is (2 * length equations) (nameAt equations) j h
 
   last-hit : (x j : ℕ) → j < 2 * length equations → nameAt equations j ≡ x → lastNamed equations x (suc j) ≡ suc j

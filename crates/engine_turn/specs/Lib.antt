@@ -1,0 +1,8 @@
+pub mod Scene
+pub mod Inside
+pub mod VisitLaws
+pub mod ChainVisits
+pub mod OperandWords
+pub mod Turns
+pub mod PileVisits
+pub mod LeanersFound
