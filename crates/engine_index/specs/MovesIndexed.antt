@@ -15,7 +15,7 @@ use Rattle.engine_index.specs.ChainLaws.{chained, linked-long}
 use Rattle.engine_index.specs.Indexed.{keyOf, headsOf, Indexed}
 
 -- Moves that an index can hold: there are not too many, and each has a head.
-pub record Leading (z : Sizes) (moves : List ℕ) : Type 0 where
+pub record Headed (z : Sizes) (moves : List ℕ) : Type 0 where
   pub few : length moves ≤ most-moves
   pub inside : (j : ℕ) → j < length moves → keyOf z (getD moves j 0) < headsOf z
 
@@ -24,14 +24,14 @@ pub key-inside : (z : Sizes) (a t : ℕ) → a < z .actions → t < z .states �
 key-inside z a t h k = let p = mul-le-mul-right (z .states) h in omega arith
 
 -- The moves of a model inside the limits are such.
-pub drawn-leads : {t : Table} → Drawn t → Leading (t .sizes) (t .moves)
-drawn-leads {t} d = record {
+pub drawn-headed : {t : Table} → Drawn t → Headed (t .sizes) (t .moves)
+drawn-headed {t} d = record {
   few = limits d .1 .1 .1;
   inside = λ j h. let i = move-inside d j h in key-inside (t .sizes) (action (getD (t .moves) j 0)) (target (getD (t .moves) j 0)) (i .1 .0) (i .1 .1);
 }
 
 -- Moves chained in a room whose heads were empty are indexed.
-pub indexed : (t : Table) (r q : List ℕ) → Leading (t .sizes) (t .moves) → headsOf (t .sizes) + length (t .moves) ≤ length r
+pub indexed : (t : Table) (r q : List ℕ) → Headed (t .sizes) (t .moves) → headsOf (t .sizes) + length (t .moves) ≤ length r
     → ((i : ℕ) → i < headsOf (t .sizes) → getD r i 0 ≡ 0)
     → q ≡ linked (keyOf (t .sizes)) 0 (headsOf (t .sizes)) (t .moves) (length (t .moves)) r → Indexed t q
 indexed t r q d long none e =

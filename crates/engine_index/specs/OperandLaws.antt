@@ -13,15 +13,18 @@ use lib.Seq.{getD-set-same, getD-set-other}
 use lib.Dec.{eqb, ltb, leb}
 use Rattle.lists.specs.Lists.{bit}
 use Rattle.lists.specs.TableLaws.{listed-is}
-use Rattle.lists.specs.Tests.{tell, and-is, and-true, eqb-in, eqb-no, ltb-is, ltb-no, leb-is}
-use Rattle.rules.specs.Limits.{most-variables}
+use Rattle.lists.specs.Tests.{tell, and-is, and-left, and-true, eqb-in, eqb-no, ltb-is, ltb-no, leb-is}
 use Rattle.rules.specs.Model.{Equation}
 use Rattle.rules.specs.Session.{unword}
-use Rattle.words.specs.Table.{Table, Drawn, ReadsAs, wordAt}
+use Rattle.words.specs.Table.{Table, Drawn, ReadsAs}
 use Rattle.words.specs.Limits.{limits}
 use Rattle.words.specs.GivesWords.{join-names, step-names}
 use Rattle.engine_index.specs.Chains.{lastTo}
-use Rattle.engine_index.specs.Operands.{operandAt, hasOperand, ofSlot, isSlot, nameAt, namesOf, lastNamed, isStep, slotWord, Blank, NamedUpTo, Naming, Slot}
+use Rattle.engine_index.specs.Operands.{operandAt, ofSlot, isSlot, nameAt, namesOf, lastNamed, isStep, slotWord, Blank, NamedUpTo, Naming, Slot}
+
+pub bit-low : (b : Bool) → bit b ≤ 1
+bit-low true = omega arith
+bit-low false = omega arith
 
 module _ (equations : List ℕ) where
   -- The name of a slot, in the list of all.
@@ -35,6 +38,15 @@ module _ (equations : List ℕ) where
   last-miss : (x j : ℕ) → j < 2 * length equations → (nameAt equations j ≡ x → ⊥) → lastNamed equations x (suc j) ≡ lastNamed equations x j
   unfolding lastTo
   last-miss x j h e = rw (eqb-no _ x .1 (λ k. e (sym (name-at j h) ∙ k))) refl
+
+  -- A slot that names a variable is of an equation that leans on others.
+  pub slot-uses : Naming equations → (j x : ℕ) → nameAt equations j ≡ x → x < length equations → 4 ≤ ofSlot equations j .operator
+  unfolding nameAt
+  slot-uses n j x e h = go (isSlot equations j) refl e
+    where
+      go : (b : Bool) → isSlot equations j ≡ b → cond b (operandAt (ofSlot equations j) (j % 2)) 256 ≡ x → 4 ≤ ofSlot equations j .operator
+      go true f k = leb-is 4 (ofSlot equations j .operator) .0 (and-left _ _ (and-left _ _ f))
+      go false f k = let b = n .few in absurd (omega arith)
 
   -- Before the first slot nothing is named.
   pub named-none : (named operand : List ℕ) → length equations ≤ length named → 2 * length equations ≤ length operand
@@ -129,10 +141,6 @@ module _ (equations : List ℕ) where
           first-low : (b : Bool) → cond b (ofSlot equations slot .first) 0 ≤ 255
           first-low true = omega arith
           first-low false = omega arith
-
-          bit-low : (b : Bool) → bit b ≤ 1
-          bit-low true = omega arith
-          bit-low false = omega arith
 
       word-link : (link : ℕ) → w + link ≡ slotWord (ofSlot equations slot) (slot / 2) link
       unfolding slotWord

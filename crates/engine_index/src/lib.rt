@@ -6,7 +6,7 @@ ghost use lib.ListN.{length};
 ghost use Rattle.rules.specs.Session.{unword};
 ghost use Rattle.engine_index.specs.Chains.{link, linked};
 ghost use Rattle.engine_index.specs.Indexed.{keyOf, headsOf};
-ghost use Rattle.engine_index.specs.MovesIndexed.{Leading};
+ghost use Rattle.engine_index.specs.MovesIndexed.{Headed};
 ghost use Rattle.engine_index.specs.Operands.{slotWord, Blank, NamedUpTo, Naming, Slot};
 
 // How many heads the index of the moves has.
@@ -25,7 +25,7 @@ fn key_of(sizes: Sizes, m: u32) -> usize
 
 // Puts the move at j at the head of its chain.
 fn put_link(sizes: Sizes, moves: &[u32], j: usize, index: &mut [u16])
-    requires { ⌜ Leading sizes (now moves) ⌝ }
+    requires { ⌜ Headed sizes (now moves) ⌝ }
     requires { ⌜ (j < length (now moves)) × (headsOf sizes + length (now moves) ≤ length (now index)) ⌝ }
     ensures { λ _. ⌜ now (index .exit) ≡ link (keyOf sizes) 0 (headsOf sizes) (now (moves .entry)) j (now (index .entry)) ⌝ }
 {
@@ -38,7 +38,7 @@ fn put_link(sizes: Sizes, moves: &[u32], j: usize, index: &mut [u16])
 
 // Chains the moves by action and target.
 pub fn index_moves(sizes: Sizes, moves: &[u32], index: &mut [u16])
-    requires { ⌜ Leading sizes (now moves) ⌝ }
+    requires { ⌜ Headed sizes (now moves) ⌝ }
     requires { ⌜ headsOf sizes + length (now moves) ≤ length (now index) ⌝ }
     ensures { λ _. ⌜ now (index .exit) ≡ linked (keyOf sizes) 0 (headsOf sizes) (now (moves .entry)) (length (now (moves .entry))) (now (index .entry)) ⌝ }
 {

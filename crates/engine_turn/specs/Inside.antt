@@ -1,19 +1,13 @@
 -- What stays inside the rooms. Assumes nothing.
-use mathlib.Core.Path.{_≡_, refl, ap, _∙_, subst}
-use mathlib.Core.Logic.{inl, inr}
-use mathlib.Core.Bool.{Bool, true}
-use mathlib.Core.List.{List}
-use Prim.Native.Nat.{ℕ, _+_, _*_, _≤_, _<_}
+use Prim.Native.Nat.{ℕ, _≤_, _<_}
 use native.Mathlib.Nat.{mul-le-mul-right}
 use native.Mathlib.Omega.{arith}
-use lib.Dec.{ltb}
 use lib.ListN.{length, getD}
-use Rattle.rules.specs.Moves.{source, target}
-use Rattle.rules.specs.Model.{Equation}
+use Rattle.rules.specs.Moves.{source}
 use Rattle.rules.specs.Rooms.{pairsOf}
 use Rattle.rules.specs.declared.Sizes.{Sizes}
-use Rattle.words.specs.Table.{tableIn, pairIn, ReadsAs}
-use Rattle.words.specs.Limits.{limits, move-inside}
+use Rattle.words.specs.Table.{pairIn, ReadsAs}
+use Rattle.words.specs.Limits.{move-inside}
 use Rattle.words.specs.GivesWords.{join-names, step-names}
 use Rattle.engine_turn.specs.Scene.{Scene, Standing, equationOf, Targets, Leaner}
 

@@ -1,29 +1,28 @@
 -- Who leans on a pair, found along the chains, is who leans on it by the model: in the same order, and whatever the labels.
 -- Assumes nothing.
-use mathlib.Core.Path.{_≡_, refl, sym, ap, ap₂, _∙_, subst}
+use mathlib.Core.Path.{_≡_, refl, sym, ap, ap₂, _∙_}
 use mathlib.Core.Logic.{inl, inr}
 use mathlib.Core.Bool.{Bool, true, false, not, cond, _&&_}
 use mathlib.Core.List.{List, [], _∷_, _++_, map, append-nil, append-assoc}
 use Prim.Native.Nat.{ℕ, zero, suc, _+_, _*_, _/_, _%_, _≤_, _<_}
-use native.Mathlib.Nat.{mul-suc}
 use native.Mathlib.Omega.{arith}
 use lib.ListN.{length, getD, take}
 use lib.Seq.{take-suc, take-length}
 use lib.Arith.{digits-div, digits-mod}
 use lib.Dec.{eqb, ltb, leb}
-use Rattle.lists.specs.Tests.{tell, clash, and-in, and-is, and-no, eqb-in, eqb-out, eqb-no, ltb-in, ltb-no, ltb-is, leb-is}
+use Rattle.lists.specs.Tests.{tell, clash, and-in, and-is, eqb-in, eqb-out, eqb-no}
+use Rattle.rules.specs.Limits.{most-states}
 use Rattle.rules.specs.Moves.{source, action, target}
-use Rattle.rules.specs.Model.{Equation, Model}
-use Rattle.rules.specs.Session.{unword}
+use Rattle.rules.specs.Model.{Equation}
 use Rattle.rules.specs.Values.{pair, state, variable, terms, termOf, constant}
 use Rattle.rules.specs.declared.Sizes.{Sizes}
 use Rattle.laws.specs.ModelLeaners.{sources, leanersVia, leanersOn, leanersTo, leanersOf, map-append}
-use Rattle.words.specs.Table.{Table, tableIn, modelOf, Drawn, wordAt, pairIn, waitingOf, waiter}
+use Rattle.words.specs.Table.{Table, modelOf, Drawn, wordAt, pairIn, waitingOf, waiter}
 use Rattle.words.specs.EquationWords.{formula-word, variable-of, state-of}
 use Rattle.words.specs.Limits.{limits, move-inside}
 use Rattle.words.specs.GivesWords.{operator-below}
 use Rattle.engine_index.specs.Indexed.{keyOf}
-use Rattle.engine_index.specs.Operands.{operandAt, hasOperand, ofSlot, nameAt, namesOf, isStep}
+use Rattle.engine_index.specs.Operands.{nameAt, namesOf}
 use Rattle.engine_index.specs.OperandLaws.{name-at}
 use Rattle.engine_turn.specs.Scene.{along, sourceOf, sourcesIn, pairsBy, leanersIn}
 
@@ -79,7 +78,7 @@ module _ {t : Table} (d : Drawn t) where
   abbrev z : Sizes
   z = t .sizes
 
-  small : z .states ≤ 256
+  small : z .states ≤ most-states
   small = limits d .0 .1
 
   -- The pairs at the sources of a chain.

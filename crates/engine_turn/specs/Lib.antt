@@ -6,3 +6,6 @@ pub mod OperandWords
 pub mod Turns
 pub mod PileVisits
 pub mod LeanersFound
+pub mod LeanersAsk
+pub mod LeanersInside
+pub mod TurnRuns

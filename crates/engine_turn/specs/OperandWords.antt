@@ -1,22 +1,20 @@
 -- What the word of an operand holds. Assumes nothing.
 use mathlib.Core.Path.{_≡_, refl, sym, ap, _∙_, subst}
-use mathlib.Core.Logic.{inl, inr}
-use mathlib.Core.Bool.{Bool, true, false, not, cond, _&&_}
+use mathlib.Core.Bool.{Bool, true, false, not, cond}
 use mathlib.Core.List.{List, [], _∷_}
-use Prim.Native.Nat.{ℕ, suc, _+_, _*_, _/_, _%_, _≤_, _<_}
+use Prim.Native.Nat.{ℕ, _+_, _*_, _/_, _%_, _≤_, _<_}
 use native.Mathlib.Omega.{arith}
 use lib.ListN.{length, getD}
-use lib.Dec.{eqb, ltb, leb}
+use lib.Dec.{eqb, ltb}
 use Rattle.lists.specs.Lists.{bit}
-use Rattle.lists.specs.Tests.{tell, and-left, not-not, ltb-no, leb-is}
+use Rattle.lists.specs.Tests.{not-not, ltb-no}
 use Rattle.rules.specs.Model.{Equation}
-use Rattle.rules.specs.Session.{unword}
 use Rattle.words.specs.Table.{ReadsAs, waitingOf}
-use Rattle.words.specs.Limits.{limits}
 use Rattle.engine_index.specs.Indexed.{headsOf}
 use Rattle.engine_index.specs.MovesIndexed.{key-inside}
 use Rattle.engine_index.specs.ChainWalks.{last-le}
-use Rattle.engine_index.specs.Operands.{operandAt, hasOperand, ofSlot, isSlot, nameAt, namesOf, lastNamed, isStep, easyBit, slotWord, Named}
+use Rattle.engine_index.specs.Operands.{ofSlot, nameAt, namesOf, lastNamed, isStep, easyBit, slotWord, Named}
+use Rattle.engine_index.specs.OperandLaws.{bit-low, slot-uses, drawn-names}
 use Rattle.engine_turn.specs.Scene.{Scene, Standing, sketch, equationOf, sourcesIn, pairsBy, Leaner, Leans, OperandOf}
 use Rattle.engine_turn.specs.Inside.{step-inside}
 
@@ -32,10 +30,6 @@ digits o k a f y hk ha hf e =
     let one : o / 256 ≡ a + 256 * (f + 256 * y) = omega arith in
     let two : o / 256 / 256 ≡ f + 256 * y = omega arith in
     record { lowest = omega arith; second = omega arith; third = omega arith; rest = omega arith }
-
-bit-low : (b : Bool) → bit b ≤ 1
-bit-low true = omega arith
-bit-low false = omega arith
 
 -- The numbers of a slot's word.
 slot-digits : (e : Equation) (y link : ℕ) → e .first < 256 → link < 256
@@ -115,25 +109,11 @@ module _ {c : Scene} {o : ℕ} (p : OperandOf c o) where
 -- The word at a slot that names x.
 module _ {c : Scene} (g : Standing c) {named operand : List ℕ} (d : Named (sketch (c .sizes) (c .equations) (c .moves)) named operand)
     (j x : ℕ) (h : j < 2 * length (c .equations)) (is : nameAt (c .equations) j ≡ x) (l : x < length (c .equations)) where
-  abbrev n : ℕ
-  n = length (c .equations)
-
-  few : n ≤ 32
-  few = let b = limits (g .drawn) in let k = g .drawn .long-equations in omega arith
-
   link-low : lastNamed (c .equations) x j < 256
-  link-low = let k = last-le (λ w. w) (namesOf (c .equations)) x j in omega (arith, few)
+  link-low = let k = last-le (λ w. w) (namesOf (c .equations)) x j in let f = drawn-names (g .drawn) .few in omega arith
 
   word-is : getD operand j 0 ≡ slotWord (ofSlot (c .equations) j) (j / 2) (lastNamed (c .equations) x j)
   word-is = d .slots j h (let e = is in omega arith) ∙ ap (λ (v : ℕ). slotWord (ofSlot (c .equations) j) (j / 2) (lastNamed (c .equations) v j)) is
-
-  has-it : hasOperand (ofSlot (c .equations) j) (j % 2) ≡ true
-  unfolding nameAt
-  has-it = go (isSlot (c .equations) j) refl is
-    where
-      go : (b : Bool) → isSlot (c .equations) j ≡ b → cond b (operandAt (ofSlot (c .equations) j) (j % 2)) 256 ≡ x → hasOperand (ofSlot (c .equations) j) (j % 2) ≡ true
-      go true f k = and-left _ _ f
-      go false f k = let q = few in absurd (omega arith)
 
   slot-read : Digits (getD operand j 0) (lastNamed (c .equations) x j) (cond (isStep (ofSlot (c .equations) j)) (ofSlot (c .equations) j .first) 0)
       (bit (isStep (ofSlot (c .equations) j)) + 2 * easyBit (ofSlot (c .equations) j)) (j / 2)
@@ -152,7 +132,7 @@ module _ {c : Scene} (g : Standing c) {named operand : List ℕ} (d : Named (ske
   pub slot-operand : OperandOf c (getD operand j 0)
   slot-operand = record {
     variable = let e = slot-owner in let k = g .drawn .long-equations in omega arith;
-    uses = subst (λ (v : ℕ). 4 ≤ equationOf c v .operator) (sym slot-owner) (leb-is 4 (ofSlot (c .equations) j .operator) .0 (and-left _ _ has-it));
+    uses = subst (λ (v : ℕ). 4 ≤ equationOf c v .operator) (sym slot-owner) (slot-uses (c .equations) (drawn-names (g .drawn)) j x is l);
     word = word-is ∙ ap (λ (v : ℕ). slotWord (equationOf c v) v (lastNamed (c .equations) x j)) (sym slot-owner)
         ∙ ap (slotWord (equationOf c (getD operand j 0 / 256 / 256 / 256)) (getD operand j 0 / 256 / 256 / 256)) (sym slot-link);
   }

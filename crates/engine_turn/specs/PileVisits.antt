@@ -1,9 +1,9 @@
 -- Visits as code makes them are visits as the machine makes them, where both ask the same; and what waits stays packed. Assumes nothing.
-use mathlib.Core.Path.{_≡_, refl, sym, ap, ap₂, _∙_, subst}
+use mathlib.Core.Path.{_≡_, refl, sym, ap, ap₂, _∙_}
 use mathlib.Core.Logic.{inl, inr}
 use mathlib.Core.Bool.{Bool, true, false, cond, _&&_}
 use mathlib.Core.List.{List, [], _∷_, map, List·Memᴰ·head, List·Memᴰ·tail}
-use Prim.Native.Nat.{ℕ, zero, suc, _+_, _/_, _%_, _≤_, _<_}
+use Prim.Native.Nat.{ℕ, zero, suc, _+_, _/_, _%_, _<_}
 use native.Mathlib.Nat.{le-of-suc-le-suc, eq-or-lt-of-le}
 use native.Mathlib.Decide.{decLt}
 use native.Mathlib.Omega.{arith}
@@ -13,7 +13,6 @@ use Rattle.lists.specs.Tests.{_∈_}
 use Rattle.systems.specs.Machine.{free, nextMark}
 use Rattle.systems.specs.ListMachine.{Pile, waitL, pushL, spreadL}
 use Rattle.rules.specs.Model.{Model}
-use Rattle.rules.specs.declared.Sizes.{Sizes}
 use Rattle.words.specs.Table.{waiter}
 use Rattle.engine_rows.specs.Rooms.{Packed, pileIn}
 use Rattle.engine_turn.specs.Scene.{Scene, asksFor, Line, waited, passed, visitOne, visitAll}

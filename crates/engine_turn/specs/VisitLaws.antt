@@ -2,18 +2,16 @@
 use mathlib.Core.Path.{_≡_, refl, sym, ap, _∙_}
 use mathlib.Core.Bool.{Bool, true, false, not, cond, _&&_}
 use mathlib.Core.List.{List, [], _∷_, _++_}
-use Prim.Native.Nat.{ℕ, zero, suc, _+_, _*_, _/_, _%_, _≤_, _<_}
+use Prim.Native.Nat.{ℕ, suc, _+_, _*_, _/_, _%_, _≤_, _<_}
 use native.Mathlib.Numerals.{add-one}
 use native.Mathlib.Omega.{arith}
 use lib.ListN.{length, getD, set, length-set}
-use lib.Dec.{eqb, ltb}
 use Rattle.lists.specs.Lists.{any}
 use Rattle.lists.specs.Tests.{and-in, and-no, ltb-in, ltb-no}
 use Rattle.systems.specs.Machine.{free, nextMark}
 use Rattle.rules.specs.Moves.{target}
 use Rattle.words.specs.Table.{ReadsAs, pairIn, waitingOf}
 use Rattle.words.specs.Part.{ownMoves}
-use Rattle.engine_index.specs.Operands.{easyBit}
 use Rattle.engine_turn.specs.Scene.{Scene, equationOf, hasFrom, fails, asksFor, Line, lineOf, waited, passed, visitOne, visitAll, Leaning}
 
 module _ (c : Scene) where

@@ -5,17 +5,20 @@ use rules::State;
 use rules::Variable;
 ghost use mathlib.Core.Path.{_≡_};
 ghost use mathlib.Core.List.{[], _∷_};
-ghost use Prim.Native.Nat.{ℕ, suc, _+_, _*_, _/_, _%_, _≤_, _<_};
-ghost use lib.ListN.{length, getD, set};
+ghost use Prim.Native.Nat.{_+_, _*_, _/_, _%_, _≤_, _<_};
+ghost use lib.ListN.{length, getD};
 ghost use lib.Seq.{slice};
 ghost use lib.Dec.{eqb};
 ghost use Rattle.lists.specs.Lists.{any};
 ghost use Rattle.systems.specs.Machine.{free, nextMark};
 ghost use Rattle.rules.specs.Moves.{target};
 ghost use Rattle.rules.specs.Rooms.{pairsOf};
-ghost use Rattle.words.specs.Table.{pairIn, waitingOf};
+ghost use Rattle.laws.specs.ModelLeaners.{leanersOf};
+ghost use Rattle.words.specs.Table.{modelOf, pairIn, waitingOf, waiter};
+ghost use Rattle.engine_rows.specs.Rooms.{Bits, Packed};
 ghost use Rattle.engine_index.specs.Indexed.{headsOf, Indexed};
 ghost use Rattle.engine_index.specs.Operands.{Named};
+ghost use Rattle.engine_turn.specs.Turns.{Sketched, FromValue, roundOf, Turned};
 ghost use Rattle.engine_turn.specs.Scene.{sceneOf, Standing, fails, asksFor, lineOf, visitAll, Targets, Leaner, Leaning, Leans, OperandOf, Bounded, sourcesIn, pairsBy, leanersIn, sketch};
 
 // Where a run of visits stands: the end of the queue, and the number of visits so far.
@@ -358,4 +361,54 @@ fn visit_leaners(
         k = (o % 256) as usize;
     }
     r
+}
+
+// The pair in front of the queue turns, and the pairs that lean on it inside its block are visited.
+pub fn turn(
+    sizes: Sizes,
+    equations: &[u32],
+    moves: &[u32],
+    index: &[u16],
+    named: &[u8],
+    operand: &[u32],
+    values: &mut [u8],
+    marks: &mut [u8],
+    queue: &mut [u16],
+    front: usize,
+    at: Spread,
+    settling: bool,
+) -> Spread
+    requires { ⌜ Sketched sizes (now equations) (now moves) ⌝ }
+    requires { ⌜ Indexed (sketch sizes (now equations) (now moves)) (now index) ⌝ }
+    requires { ⌜ Named (sketch sizes (now equations) (now moves)) (now named) (now operand) ⌝ }
+    requires { ⌜ (length (now values) ≡ pairsOf sizes) × (length (now marks) ≡ pairsOf sizes) ⌝ }
+    requires { ⌜ Bits (now values) × (Packed sizes (now queue) (at .tail) × (front < at .tail)) ⌝ }
+    requires { ⌜ FromValue (sketch sizes (now equations) (now moves)) settling (now values) (getD (now queue) front 0) ⌝ }
+    requires { ⌜ Bounded (at .tail) (at .visits) (leanersOf (modelOf (sketch sizes (now equations) (now moves))) (waiter sizes (getD (now queue) front 0))) ⌝ }
+    ensures { λ r. ⌜ Turned sizes (now (equations .entry)) (now (moves .entry)) settling front (getD (now (queue .entry)) front 0)
+        (roundOf (now (values .entry)) (now (marks .entry)) (now (queue .entry)) (at .tail) (at .visits))
+        (roundOf (now (values .exit)) (now (marks .exit)) (now (queue .exit)) (r .tail) (r .visits)) ⌝ }
+{
+    let w = rooms::half_at(queue, front);
+    let x = words::variable_of(w);
+    let s = words::state_of(w);
+    let p = limits::pair_of(sizes, s, x);
+    let from = values[p];
+    values[p] = 1 - from;
+    visit_leaners(
+        sizes,
+        equations,
+        moves,
+        index,
+        named,
+        operand,
+        values,
+        marks,
+        queue,
+        at,
+        settling,
+        from,
+        x,
+        s,
+    )
 }

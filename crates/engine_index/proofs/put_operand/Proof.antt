@@ -1,5 +1,5 @@
 -- The slot becomes the head of its chain, or is left out. Assumes nothing.
-use mathlib.Core.Path.{_≡_, sym, ap, _∙_}
+use mathlib.Core.Path.{sym, _∙_}
 use native.Mathlib.Omega.{arith}
 use Rattle.engine_index.specs.OperandLaws.{names-other, names-none, slot-inside, word-room, slot-put, slot-left}
 use borrow.Author.Needs.{needs}

@@ -1,6 +1,6 @@
 -- The second operand, then the first. Assumes nothing.
-use mathlib.Core.Path.{_≡_, sym, ap, _∙_, subst}
-use Prim.Native.Nat.{ℕ, suc, _+_, _*_}
+use mathlib.Core.Path.{sym, ap}
+use Prim.Native.Nat.{suc, _*_}
 use native.Mathlib.Numerals.{add-one}
 use native.Mathlib.Omega.{arith}
 use Rattle.engine_index.specs.OperandLaws.{named-same, first-slot, second-slot}

@@ -2,7 +2,6 @@
 use mathlib.Core.Path.{sym}
 use native.Mathlib.Omega.{arith}
 use Rattle.lists.specs.Tests.{ltb-in, ltb-no}
-use Rattle.rules.specs.Session.{unword}
 use Rattle.engine_index.specs.Operands.{slotWord}
 use borrow.Author.Needs.{needs}
 use Rattle.engine_index.proofs.slot_word.Statement.{statement}

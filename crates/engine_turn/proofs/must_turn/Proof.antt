@@ -1,8 +1,7 @@
 -- By the value, the phase and whether the pair is easy. Assumes nothing.
-use mathlib.Core.Path.{_≡_, sym, _∙_}
+use mathlib.Core.Path.{sym, _∙_}
 use Rattle.engine_turn.specs.Scene.{sceneOf}
 use Rattle.engine_turn.specs.VisitLaws.{asks-not, asks-hard, asks-easy}
-use borrow.Author.Needs.{needs}
 use Rattle.engine_turn.proofs.must_turn.Statement.{statement}
 use Rattle.engine_turn.proofs.must_turn.Tie as tie
 

@@ -1,5 +1,5 @@
 -- The pair waits where it is free and must turn. Assumes nothing.
-use mathlib.Core.Path.{_≡_, refl}
+use mathlib.Core.Path.{refl}
 use Prim.Native.Nat.{_<_}
 use native.Mathlib.Omega.{arith}
 use Rattle.words.specs.Limits.{limits}

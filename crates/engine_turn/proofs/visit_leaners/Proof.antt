@@ -1,12 +1,10 @@
 -- The chain of a variable, walked to its end. Assumes nothing.
 use mathlib.Core.Path.{_≡_, sym, ap, _∙_, subst}
-use mathlib.Core.List.{List}
 use Prim.Native.Nat.{ℕ, suc, _*_, _/_, _-_, _<_}
 use native.Mathlib.Omega.{arith}
-use lib.ListN.{length, getD}
+use lib.ListN.{length}
 use Rattle.words.specs.Limits.{limits}
-use Rattle.engine_index.specs.Chains.{lastTo}
-use Rattle.engine_index.specs.Operands.{nameAt, namesOf, lastNamed}
+use Rattle.engine_index.specs.Operands.{namesOf, lastNamed}
 use Rattle.engine_index.specs.OperandLaws.{name-at}
 use Rattle.engine_turn.specs.Scene.{sceneOf, lineOf, visitAll, pairsBy, leanersIn, Bounded}
 use Rattle.engine_turn.specs.ChainVisits.{OnChain, falls, chain-begins, chain-at, chain-room, chain-goes, chain-ends}

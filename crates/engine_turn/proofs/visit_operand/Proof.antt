@@ -1,10 +1,9 @@
 -- A join visits one pair, a step those of a chain. Assumes nothing.
 use mathlib.Core.Path.{_≡_, sym, ap, _∙_, subst}
-use mathlib.Core.List.{List, [], _∷_}
-use Prim.Native.Nat.{ℕ, _*_, _/_, _%_, _+_, _<_}
+use mathlib.Core.List.{List}
+use Prim.Native.Nat.{ℕ, _/_, _<_}
 use native.Mathlib.Omega.{arith}
 use lib.ListN.{length}
-use Rattle.words.specs.Table.{waitingOf}
 use Rattle.engine_index.specs.Indexed.{headsOf}
 use Rattle.engine_turn.specs.Scene.{sceneOf, lineOf, visitAll, sourcesIn, pairsBy, Leaning, Bounded}
 use Rattle.engine_turn.specs.OperandWords.{operand-leans, pairs-join, pairs-step, head-inside}

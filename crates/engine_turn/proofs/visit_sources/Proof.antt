@@ -1,10 +1,9 @@
 -- The chain of a head, walked to its end. Assumes nothing.
-use mathlib.Core.Path.{_≡_, sym, ap, _∙_}
+use mathlib.Core.Path.{_≡_, ap, _∙_}
 use mathlib.Core.List.{[], _∷_}
 use Prim.Native.Nat.{ℕ, suc, _+_, _-_, _<_}
 use native.Mathlib.Omega.{arith}
 use lib.ListN.{length, getD}
-use Rattle.rules.specs.Moves.{source}
 use Rattle.words.specs.Limits.{limits}
 use Rattle.words.specs.Table.{waitingOf}
 use Rattle.engine_index.specs.Indexed.{keyOf}
