@@ -1,0 +1,134 @@
+-- The pair waits where it is free and must turn. Assumes nothing.
+use mathlib.Core.Path.{refl}
+use Prim.Native.Nat.{_<_}
+use native.Mathlib.Omega.{arith}
+use Rattle.words.specs.Limits.{limits}
+use Rattle.engine_turn.specs.Scene.{sceneOf}
+use Rattle.engine_turn.specs.Inside.{pair-low}
+use Rattle.engine_turn.specs.VisitLaws.{visit-shut, visit-stays, visit-waits}
+use borrow.Author.Needs.{needs}
+use Rattle.engine_turn.proofs.visit.Statement.{statement}
+use Rattle.engine_turn.proofs.visit.Tie as tie
+
+add-count : tie.Need-add-count
+add-count c = search needs
+
+pair-of-requires : tie.Need-pair-of-requires
+pair-of-requires c κs = search needs
+
+slice-read-mark : tie.Need-slice-read-mark
+slice-read-mark c =
+    let at-start = c .before .before .before .before .before .before .before .before in
+    let at-pair-of = c .before in
+    let a = at-start .args in
+    let l = at-start .pre .1 .0 .leaner in
+    let p = pair-low (a .sizes) (a .y .0) (a .s .0) (l .variable) (l .state) in
+    let e = at-pair-of .pair-of .ensures in
+    let n = at-start .pre .1 .1 .0 in
+    omega arith
+
+is-free-requires : tie.Need-is-free-requires
+is-free-requires c κs = search needs
+
+must-turn-requires : tie.Need-must-turn-requires
+must-turn-requires c κs = search needs
+
+next-mark-requires : tie.Need-next-mark-requires
+next-mark-requires c κs = search needs
+
+slice-write-marks : tie.Need-slice-write-marks
+slice-write-marks c =
+    let at-start = c .before .before .before .before .before .before .before .before .before .before .before .before .before in
+    let at-pair-of = c .before .before .before .before .before .before in
+    let a = at-start .args in
+    let l = at-start .pre .1 .0 .leaner in
+    let p = pair-low (a .sizes) (a .y .0) (a .s .0) (l .variable) (l .state) in
+    let e = at-pair-of .pair-of .ensures in
+    let n = at-start .pre .1 .1 .0 in
+    omega arith
+
+waiting-requires : tie.Need-waiting-requires
+waiting-requires c κs =
+    let at-start = c .before .before .before .before .before .before .before .before .before .before .before .before .before .before in
+    let l = at-start .pre .1 .0 .leaner in
+    let z = limits (at-start .pre .0 .drawn) in
+    (omega (arith, l .variable), omega (arith, l .state))
+
+set-half-requires : tie.Need-set-half-requires
+set-half-requires c κs = search needs
+
+add-t27 : tie.Need-add-t27
+add-t27 c = search needs
+
+same-length : tie.Need-same-length
+same-length c = search needs
+
+same-length-2 : tie.Need-same-length-2
+same-length-2 c = search needs
+
+returns : tie.Need-returns
+returns c =
+    let at-start = c .before .before .before .before .before .before .before .before .before .before .before .before .before .before .before .before .before .before in
+    let at-pair-of = c .before .before .before .before .before .before .before .before .before .before .before in
+    let at-is-free = c .before .before .before .before .before .before .before .before .before in
+    let at-if1 = c .before .before .before .before .before .before .before .before in
+    let at-must-turn = c .before .before .before .before .before .before .before in
+    let at-if2 = c .before .before .before .before .before .before in
+    let at-next-mark = c .before .before .before .before .before in
+    let at-waiting = c .before .before .before in
+    let at-set-half = c .before .before in
+    let a = at-start .args in
+    let c = sceneOf (a .sizes) (a .equations .now) (a .moves .now) (a .values .now) (a .from) in
+    let l = at-start .pre .1 .0 .leaner in
+    let z = limits (at-start .pre .0 .drawn) in
+    let s : a .s .0 < 1024 = omega (arith, l .state) in
+    visit-waits c (a .settling) (a .y .0) (a .s .0) s (a .marks .now) (a .queue .now) (a .at .tail) (a .at .visits) (at-pair-of .pair-of .result) _ (at-is-free .is-free .result) (at-pair-of .pair-of .ensures) refl (at-is-free .is-free .ensures) (at-if1 .if1 .taken)
+    (at-must-turn .must-turn .result) (at-must-turn .must-turn .ensures) (at-if2 .if2 .taken) (at-next-mark .next-mark .result) (at-waiting .waiting .result) _ (at-next-mark .next-mark .ensures) (at-waiting .waiting .ensures) (at-set-half .set-half .ensures)
+
+returns-2 : tie.Need-returns-2
+returns-2 c =
+    let at-start = c .before .before .before .before .before .before .before .before .before .before .before .before in
+    let at-pair-of = c .before .before .before .before .before in
+    let at-is-free = c .before .before .before in
+    let at-must-turn = c .before in
+    let at-if2 = c in
+    let a = at-start .args in
+    let c = sceneOf (a .sizes) (a .equations .now) (a .moves .now) (a .values .now) (a .from) in
+    let l = at-start .pre .1 .0 .leaner in
+    let z = limits (at-start .pre .0 .drawn) in
+    let s : a .s .0 < 1024 = omega (arith, l .state) in
+    visit-stays c (a .settling) (a .y .0) (a .s .0) s (a .marks .now) (a .queue .now) (a .at .tail) (a .at .visits) (at-pair-of .pair-of .result) _ (at-is-free .is-free .result) (at-pair-of .pair-of .ensures) refl (at-is-free .is-free .ensures)
+    (at-must-turn .must-turn .result) (at-must-turn .must-turn .ensures) (at-if2 .if2 .left)
+
+returns-3 : tie.Need-returns-3
+returns-3 c =
+    let at-start = c .before .before .before .before .before .before .before .before .before .before in
+    let at-pair-of = c .before .before .before in
+    let at-is-free = c .before in
+    let at-if1 = c in
+    let a = at-start .args in
+    let c = sceneOf (a .sizes) (a .equations .now) (a .moves .now) (a .values .now) (a .from) in
+    let l = at-start .pre .1 .0 .leaner in
+    let z = limits (at-start .pre .0 .drawn) in
+    let s : a .s .0 < 1024 = omega (arith, l .state) in
+    visit-shut c (a .settling) (a .y .0) (a .s .0) s (a .marks .now) (a .queue .now) (a .at .tail) (a .at .visits) (at-pair-of .pair-of .result) _ (at-is-free .is-free .result) (at-pair-of .pair-of .ensures) refl (at-is-free .is-free .ensures) (at-if1 .if1 .left)
+
+pub visit-spec : {M : Type 1} → statement M
+visit-spec =
+    tie.close
+    (tie.spec
+    add-count
+    pair-of-requires
+    slice-read-mark
+    is-free-requires
+    must-turn-requires
+    next-mark-requires
+    slice-write-marks
+    waiting-requires
+    set-half-requires
+    add-t27
+    same-length
+    same-length-2
+    returns
+    returns-2
+    returns-3)

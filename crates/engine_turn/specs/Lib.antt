@@ -1,0 +1,11 @@
+pub mod Scene
+pub mod Inside
+pub mod VisitLaws
+pub mod ChainVisits
+pub mod OperandWords
+pub mod Turns
+pub mod PileVisits
+pub mod LeanersFound
+pub mod LeanersAsk
+pub mod LeanersInside
+pub mod TurnRuns

@@ -1,0 +1,152 @@
+-- What a turn works on, and its steps as code makes them: a pair that is visited waits where its mark leaves it free and it must turn
+-- too. Labels play no part in it. Pairs stand as numbers of the queue: 1,024 times the variable, and the state. Definitions only.
+use mathlib.Core.Path.{_≡_}
+use mathlib.Core.Bool.{Bool, true, not, cond, _&&_}
+use mathlib.Core.List.{List, [], _∷_, _++_}
+use Prim.Native.Nat.{ℕ, zero, suc, _+_, _*_, _/_, _%_, _≤_, _<_}
+use lib.ListN.{length, getD, set}
+use lib.Dec.{eqb, ltb}
+use Rattle.lists.specs.Lists.{any}
+use Rattle.systems.specs.Machine.{free, nextMark}
+use Rattle.rules.specs.Moves.{source, target}
+use Rattle.rules.specs.Model.{Equation}
+use Rattle.rules.specs.Rooms.{pairsOf}
+use Rattle.rules.specs.Session.{unword}
+use Rattle.rules.specs.declared.Sizes.{Sizes}
+use Rattle.words.specs.Table.{Table, tableIn, Drawn, pairIn, waitingOf, waiter}
+use Rattle.words.specs.Part.{ownMoves}
+use Rattle.engine_index.specs.Indexed.{keyOf}
+use Rattle.engine_index.specs.Operands.{isStep, easyBit, namesOf, slotWord}
+
+-- A table without labels.
+abbrev pub sketch : Sizes → List ℕ → List ℕ → Table
+sketch z equations moves = tableIn z [] equations moves
+
+-- The table, the values, and the value that pairs turn from.
+pub record Scene : Type 0 where
+  pub sizes : Sizes
+  pub equations : List ℕ
+  pub moves : List ℕ
+  pub values : List ℕ
+  pub from : ℕ
+
+abbrev pub sceneOf : Sizes → List ℕ → List ℕ → List ℕ → ℕ → Scene
+sceneOf z equations moves values from = record { sizes = z; equations = equations; moves = moves; values = values; from = from }
+
+-- The table is, with some labels, a model inside the limits, and there is a value for each pair.
+pub record Standing (c : Scene) : Type 0 where
+  pub labels : List ℕ
+  pub drawn : Drawn (tableIn (c .sizes) labels (c .equations) (c .moves))
+  pub long : length (c .values) ≡ pairsOf (c .sizes)
+
+-- The equation of the variable y.
+abbrev pub equationOf : Scene → ℕ → Equation
+equationOf c y = unword (getD (c .equations) y 0)
+
+-- Has the pair of x and s the value that pairs turn from?
+abbrev pub hasFrom : Scene → ℕ → ℕ → Bool
+hasFrom c x s = eqb (getD (c .values) (pairIn (c .sizes) x s) 0) (c .from)
+
+-- Has no operand of y at s, whose equation is easy, that value? The operands of a join are two, those of a step the targets.
+unfoldable pub fails : Scene → ℕ → ℕ → Bool
+fails c y s =
+    let e = equationOf c y in
+    cond (ltb (e .operator) 6)
+    (not (hasFrom c (e .first) s) && not (hasFrom c (e .second) s))
+    (not (any (λ q. hasFrom c (e .second) (target q)) (ownMoves s (e .first) (c .moves))))
+
+-- Must the pair of y and s turn, where one that it leans on has turned? It must have the value that pairs turn from; and while
+-- settling, an easy pair turns only if no operand has that value any more.
+unfoldable pub asksFor : Scene → Bool → ℕ → ℕ → Bool
+unfolding fails
+asksFor c ph y s = hasFrom c y s && cond (ph && eqb (easyBit (equationOf c y)) 1) (fails c y s) true
+
+-- Marks, queue, the end of the queue, and how many visits there were.
+pub record Line : Type 0 where
+  pub marks : List ℕ
+  pub queue : List ℕ
+  pub tail : ℕ
+  pub visits : ℕ
+
+abbrev pub lineOf : List ℕ → List ℕ → ℕ → ℕ → Line
+lineOf marks queue tail visits = record { marks = marks; queue = queue; tail = tail; visits = visits }
+
+-- The pair waits, and does not.
+abbrev pub waited : Sizes → Bool → ℕ → Line → Line
+waited z ph w v = record {
+  marks = set (v .marks) (waiter z w) (nextMark ph (getD (v .marks) (waiter z w) 0));
+  queue = set (v .queue) (v .tail) w;
+  tail = suc (v .tail);
+  visits = suc (v .visits);
+}
+
+abbrev pub passed : Line → Line
+passed v = record { marks = v .marks; queue = v .queue; tail = v .tail; visits = suc (v .visits) }
+
+-- The pair is visited.
+unfoldable pub visitOne : Scene → Bool → ℕ → Line → Line
+unfolding asksFor
+visitOne c ph w v =
+    cond (free ph (getD (v .marks) (waiter (c .sizes) w) 0) && asksFor c ph (w / 1024) (w % 1024)) (waited (c .sizes) ph w v) (passed v)
+
+-- The pairs of a list are visited, one after the other.
+unfoldable pub visitAll : Scene → Bool → List ℕ → Line → Line
+unfolding visitOne
+visitAll c ph [] v = v
+visitAll c ph (w ∷ l) v = visitAll c ph l (visitOne c ph w v)
+
+-- What a walk along a chain meets: `here j` at each of the first k words that has the number t, the last first.
+unfoldable pub along : (ℕ → ℕ) → List ℕ → ℕ → (ℕ → List ℕ) → ℕ → List ℕ
+along key ws t here zero = []
+along key ws t here (suc j) = cond (eqb (key (getD ws j 0)) t) (here j) [] ++ along key ws t here j
+
+-- The pair of y at the source of the move at j.
+abbrev pub sourceOf : List ℕ → ℕ → ℕ → List ℕ
+sourceOf moves y j = waitingOf y (source (getD moves j 0)) ∷ []
+
+-- The pairs of y at the sources of the moves in the chain of the key.
+abbrev pub sourcesIn : Sizes → List ℕ → ℕ → ℕ → List ℕ
+sourcesIn z moves y key = along (keyOf z) moves key (sourceOf moves y) (length moves)
+
+-- The pairs of y that lean on the state s of the variable that one of its operands names.
+unfoldable pub pairsBy : Sizes → List ℕ → List ℕ → ℕ → ℕ → List ℕ
+unfolding along
+pairsBy z equations moves s y =
+    let e = unword (getD equations y 0) in
+    cond (isStep e) (sourcesIn z moves y (e .first * z .states + s)) (waitingOf y s ∷ [])
+
+-- Who leans on the pair of x and s inside its block.
+unfoldable pub leanersIn : Sizes → List ℕ → List ℕ → ℕ → ℕ → List ℕ
+unfolding along pairsBy
+leanersIn z equations moves x s = along (λ w. w) (namesOf equations) x (λ j. pairsBy z equations moves s (j / 2)) (2 * length equations)
+
+-- Each move leads to a state.
+abbrev pub Targets : Sizes → List ℕ → Type 0
+Targets z moves = (j : ℕ) → j < length moves → target (getD moves j 0) < z .states
+
+-- y is a variable that leans on others, and s a state.
+pub record Leaner (c : Scene) (y s : ℕ) : Type 0 where
+  pub variable : y < c .sizes .variables
+  pub state : s < c .sizes .states
+  pub uses : 4 ≤ equationOf c y .operator
+
+-- The same, and `easy` says whether y is easy.
+pub record Leaning (c : Scene) (easy : Bool) (y s : ℕ) : Type 0 where
+  pub leaner : Leaner c y s
+  pub told : easy ≡ eqb (easyBit (equationOf c y)) 1
+
+-- y is a variable that leans on others, and `easy` says whether it is easy.
+pub record Leans (c : Scene) (easy : Bool) (y : ℕ) : Type 0 where
+  pub variable : y < c .sizes .variables
+  pub uses : 4 ≤ equationOf c y .operator
+  pub told : easy ≡ eqb (easyBit (equationOf c y)) 1
+
+-- The word of an operand: it is that of a slot of the variable that it holds, which leans on others.
+pub record OperandOf (c : Scene) (o : ℕ) : Type 0 where
+  pub variable : o / 256 / 256 / 256 < c .sizes .variables
+  pub uses : 4 ≤ equationOf c (o / 256 / 256 / 256) .operator
+  pub word : o ≡ slotWord (equationOf c (o / 256 / 256 / 256)) (o / 256 / 256 / 256) (o % 256)
+
+-- A run of visits of the pairs in a list stays inside numbers of 32 bits.
+abbrev pub Bounded : ℕ → ℕ → List ℕ → Type 0
+Bounded tail visits l = (tail + length l < 4294967296) × (visits + length l < 4294967296)

@@ -1,0 +1,414 @@
+// A turn: the pair in front of the queue gets its other value, and the pairs that lean on it inside its block are visited: those
+// that must turn too wait behind the others.
+use rules::Sizes;
+use rules::State;
+use rules::Variable;
+ghost use mathlib.Core.Path.{_≡_};
+ghost use mathlib.Core.List.{[], _∷_};
+ghost use Prim.Native.Nat.{_+_, _*_, _/_, _%_, _≤_, _<_};
+ghost use lib.ListN.{length, getD};
+ghost use lib.Seq.{slice};
+ghost use lib.Dec.{eqb};
+ghost use Rattle.lists.specs.Lists.{any};
+ghost use Rattle.systems.specs.Machine.{free, nextMark};
+ghost use Rattle.rules.specs.Moves.{target};
+ghost use Rattle.rules.specs.Rooms.{pairsOf};
+ghost use Rattle.laws.specs.ModelLeaners.{leanersOf};
+ghost use Rattle.words.specs.Table.{modelOf, pairIn, waitingOf, waiter};
+ghost use Rattle.engine_rows.specs.Rooms.{Bits, Packed};
+ghost use Rattle.engine_index.specs.Indexed.{headsOf, Indexed};
+ghost use Rattle.engine_index.specs.Operands.{Named};
+ghost use Rattle.engine_turn.specs.Turns.{Sketched, FromValue, roundOf, Turned};
+ghost use Rattle.engine_turn.specs.Scene.{sceneOf, Standing, fails, asksFor, lineOf, visitAll, Targets, Leaner, Leaning, Leans, OperandOf, Bounded, sourcesIn, pairsBy, leanersIn, sketch};
+
+// Where a run of visits stands: the end of the queue, and the number of visits so far.
+pub struct Spread {
+    pub tail: usize,
+    pub visits: usize,
+}
+
+// Does the mark leave a pair free to wait?
+fn is_free(settling: bool, mark: u8) -> bool
+    ensures { λ r. ⌜ r ≡ free settling mark ⌝ }
+{
+    if settling {
+        return mark < 2;
+    }
+    mark == 0
+}
+
+// The mark by which a pair waits.
+fn next_mark(settling: bool, mark: u8) -> u8
+    ensures { λ r. ⌜ r ≡ nextMark settling mark ⌝ }
+{
+    if settling {
+        if mark == 0 {
+            return 3;
+        }
+        return 2;
+    }
+    1
+}
+
+// Has the pair of x and s the value `from`?
+fn has(sizes: Sizes, values: &[u8], from: u8, x: Variable, s: State) -> bool
+    requires { ⌜ (x .0 < sizes .variables) × ((s .0 < sizes .states) × (length (now values) ≡ pairsOf sizes)) ⌝ }
+    ensures { λ r. ⌜ r ≡ eqb (getD (now (values .entry)) (pairIn sizes (x .0) (s .0)) 0) from ⌝ }
+{
+    let p = limits::pair_of(sizes, s, x);
+    values[p] == from
+}
+
+// Does a move of the part lead to a pair of x that has the value `from`?
+fn leads(
+    sizes: Sizes,
+    moves: &[u32],
+    values: &[u8],
+    from: u8,
+    x: Variable,
+    first: usize,
+    end: usize,
+) -> bool
+    requires { ⌜ (x .0 < sizes .variables) × ((end ≤ length (now moves)) × (length (now values) ≡ pairsOf sizes)) ⌝ }
+    requires { ⌜ Targets sizes (now moves) ⌝ }
+    ensures { λ r. ⌜ r ≡ any (λ q. eqb (getD (now (values .entry)) (pairIn sizes (x .0) (target q)) 0) from) (slice first end (now (moves .entry))) ⌝ }
+{
+    let mut i = first;
+    while i < end {
+        if has(sizes, values, from, x, words::target_of(moves[i])) {
+            return true;
+        }
+        i = i + 1;
+    }
+    false
+}
+
+// Has no operand of y at s, whose equation is easy, the value `from`?
+fn easy_fails(
+    sizes: Sizes,
+    equations: &[u32],
+    moves: &[u32],
+    values: &[u8],
+    from: u8,
+    y: Variable,
+    s: State,
+) -> bool
+    requires { ⌜ Standing (sceneOf sizes (now equations) (now moves) (now values) from) ⌝ }
+    requires { ⌜ Leaner (sceneOf sizes (now equations) (now moves) (now values) from) (y .0) (s .0) ⌝ }
+    ensures { λ r. ⌜ r ≡ fails (sceneOf sizes (now (equations .entry)) (now (moves .entry)) (now (values .entry)) from) (y .0) (s .0) ⌝ }
+{
+    let at = y.0 as usize;
+    let e = words::equation_in(equations[at]);
+    if e.operator < 6 {
+        let first = has(sizes, values, from, Variable(e.first), s);
+        let second = has(sizes, values, from, Variable(e.second), s);
+        return !first & !second;
+    }
+    let part = table::part_of(moves, moves.len(), s.0 as u32, e.first as u32);
+    let found = leads(
+        sizes,
+        moves,
+        values,
+        from,
+        Variable(e.second),
+        part.from,
+        part.end,
+    );
+    !found
+}
+
+// Must the pair of y and s turn, where one that it leans on has turned?
+fn must_turn(
+    sizes: Sizes,
+    equations: &[u32],
+    moves: &[u32],
+    values: &[u8],
+    settling: bool,
+    from: u8,
+    easy: bool,
+    y: Variable,
+    s: State,
+) -> bool
+    requires { ⌜ Standing (sceneOf sizes (now equations) (now moves) (now values) from) ⌝ }
+    requires { ⌜ Leaning (sceneOf sizes (now equations) (now moves) (now values) from) easy (y .0) (s .0) ⌝ }
+    ensures { λ r. ⌜ r ≡ asksFor (sceneOf sizes (now (equations .entry)) (now (moves .entry)) (now (values .entry)) from) settling (y .0) (s .0) ⌝ }
+{
+    if has(sizes, values, from, y, s) {
+        if settling & easy {
+            return easy_fails(sizes, equations, moves, values, from, y, s);
+        }
+        return true;
+    }
+    false
+}
+
+// The pair of y and s is visited: it waits if its mark leaves it free and it must turn.
+fn visit(
+    sizes: Sizes,
+    equations: &[u32],
+    moves: &[u32],
+    values: &[u8],
+    marks: &mut [u8],
+    queue: &mut [u16],
+    at: Spread,
+    settling: bool,
+    from: u8,
+    easy: bool,
+    y: Variable,
+    s: State,
+) -> Spread
+    requires { ⌜ Standing (sceneOf sizes (now equations) (now moves) (now values) from) ⌝ }
+    requires { ⌜ Leaning (sceneOf sizes (now equations) (now moves) (now values) from) easy (y .0) (s .0) ⌝ }
+    requires { ⌜ (length (now marks) ≡ pairsOf sizes) × ((at .tail < 4294967296) × (at .visits < 4294967296)) ⌝ }
+    ensures { λ r. ⌜ lineOf (now (marks .exit)) (now (queue .exit)) (r .tail) (r .visits)
+        ≡ visitAll (sceneOf sizes (now (equations .entry)) (now (moves .entry)) (now (values .entry)) from) settling (waitingOf (y .0) (s .0) ∷ [])
+        (lineOf (now (marks .entry)) (now (queue .entry)) (at .tail) (at .visits)) ⌝ }
+{
+    let tail = at.tail;
+    let count = at.visits + 1;
+    let p = limits::pair_of(sizes, s, y);
+    let mark = marks[p];
+    if is_free(settling, mark) {
+        if must_turn(sizes, equations, moves, values, settling, from, easy, y, s) {
+            marks[p] = next_mark(settling, mark);
+            rooms::set_half(queue, tail, words::waiting(y, s));
+            return Spread {
+                tail: tail + 1,
+                visits: count,
+            };
+        }
+    }
+    Spread {
+        tail: tail,
+        visits: count,
+    }
+}
+
+// A byte and a number of two bytes as places.
+fn place_in_byte(x: u8) -> usize
+    ensures { λ r. ⌜ (r ≡ x) × (r < 256) ⌝ }
+{
+    x as usize
+}
+
+fn place_in_half(x: u16) -> usize
+    ensures { λ r. ⌜ (r ≡ x) × (r < 65536) ⌝ }
+{
+    x as usize
+}
+
+// The head of the chain of the moves by the action a into s.
+fn head_of(sizes: Sizes, a: u8, s: State) -> usize
+    ensures { λ r. ⌜ r ≡ a * sizes .states + s .0 ⌝ }
+{
+    a as usize * sizes.states as usize + s.0 as usize
+}
+
+// The pairs of y at the sources of the moves in the chain of the head are visited.
+fn visit_sources(
+    sizes: Sizes,
+    equations: &[u32],
+    moves: &[u32],
+    index: &[u16],
+    values: &[u8],
+    marks: &mut [u8],
+    queue: &mut [u16],
+    at: Spread,
+    settling: bool,
+    from: u8,
+    easy: bool,
+    y: Variable,
+    head: usize,
+) -> Spread
+    requires { ⌜ Standing (sceneOf sizes (now equations) (now moves) (now values) from) ⌝ }
+    requires { ⌜ Indexed (sketch sizes (now equations) (now moves)) (now index) ⌝ }
+    requires { ⌜ Leans (sceneOf sizes (now equations) (now moves) (now values) from) easy (y .0) ⌝ }
+    requires { ⌜ (head < headsOf sizes) × ((length (now marks) ≡ pairsOf sizes) × Bounded (at .tail) (at .visits) (sourcesIn sizes (now moves) (y .0) head)) ⌝ }
+    ensures { λ r. ⌜ lineOf (now (marks .exit)) (now (queue .exit)) (r .tail) (r .visits)
+        ≡ visitAll (sceneOf sizes (now (equations .entry)) (now (moves .entry)) (now (values .entry)) from) settling (sourcesIn sizes (now (moves .entry)) (y .0) head)
+        (lineOf (now (marks .entry)) (now (queue .entry)) (at .tail) (at .visits)) ⌝ }
+{
+    let links = engine_index::heads_of(sizes);
+    let mut s = at;
+    let mut k = place_in_half(index[head]);
+    while 0 < k {
+        let j = k - 1;
+        let here = words::source_of(moves[j]);
+        s = visit(
+            sizes,
+            equations,
+            moves,
+            values,
+            marks,
+            queue,
+            s,
+            settling,
+            from,
+            easy,
+            y,
+            here,
+        );
+        k = place_in_half(index[links + j]);
+    }
+    s
+}
+
+// The pairs that lean on the state s of the variable that the operand names are visited.
+fn visit_operand(
+    sizes: Sizes,
+    equations: &[u32],
+    moves: &[u32],
+    index: &[u16],
+    values: &[u8],
+    marks: &mut [u8],
+    queue: &mut [u16],
+    at: Spread,
+    settling: bool,
+    from: u8,
+    o: u32,
+    s: State,
+) -> Spread
+    requires { ⌜ Standing (sceneOf sizes (now equations) (now moves) (now values) from) ⌝ }
+    requires { ⌜ Indexed (sketch sizes (now equations) (now moves)) (now index) ⌝ }
+    requires { ⌜ OperandOf (sceneOf sizes (now equations) (now moves) (now values) from) o ⌝ }
+    requires { ⌜ (s .0 < sizes .states) × ((length (now marks) ≡ pairsOf sizes) × Bounded (at .tail) (at .visits) (pairsBy sizes (now equations) (now moves) (s .0) (o / 256 / 256 / 256))) ⌝ }
+    ensures { λ r. ⌜ lineOf (now (marks .exit)) (now (queue .exit)) (r .tail) (r .visits)
+        ≡ visitAll (sceneOf sizes (now (equations .entry)) (now (moves .entry)) (now (values .entry)) from) settling (pairsBy sizes (now (equations .entry)) (now (moves .entry)) (s .0) (o / 256 / 256 / 256))
+        (lineOf (now (marks .entry)) (now (queue .entry)) (at .tail) (at .visits)) ⌝ }
+{
+    let y = (o / 256 / 256 / 256) as u8;
+    let flags = o / 256 / 256 % 256;
+    let easy = flags / 2 == 1;
+    if flags % 2 == 0 {
+        return visit(
+            sizes,
+            equations,
+            moves,
+            values,
+            marks,
+            queue,
+            at,
+            settling,
+            from,
+            easy,
+            Variable(y),
+            s,
+        );
+    }
+    let head = head_of(sizes, (o / 256 % 256) as u8, s);
+    visit_sources(
+        sizes,
+        equations,
+        moves,
+        index,
+        values,
+        marks,
+        queue,
+        at,
+        settling,
+        from,
+        easy,
+        Variable(y),
+        head,
+    )
+}
+
+// The pairs that lean on the pair of x and s inside its block are visited.
+fn visit_leaners(
+    sizes: Sizes,
+    equations: &[u32],
+    moves: &[u32],
+    index: &[u16],
+    named: &[u8],
+    operand: &[u32],
+    values: &[u8],
+    marks: &mut [u8],
+    queue: &mut [u16],
+    at: Spread,
+    settling: bool,
+    from: u8,
+    x: Variable,
+    s: State,
+) -> Spread
+    requires { ⌜ Standing (sceneOf sizes (now equations) (now moves) (now values) from) ⌝ }
+    requires { ⌜ Indexed (sketch sizes (now equations) (now moves)) (now index) ⌝ }
+    requires { ⌜ Named (sketch sizes (now equations) (now moves)) (now named) (now operand) ⌝ }
+    requires { ⌜ (x .0 < sizes .variables) × ((s .0 < sizes .states) × ((length (now marks) ≡ pairsOf sizes) × Bounded (at .tail) (at .visits) (leanersIn sizes (now equations) (now moves) (x .0) (s .0)))) ⌝ }
+    ensures { λ r. ⌜ lineOf (now (marks .exit)) (now (queue .exit)) (r .tail) (r .visits)
+        ≡ visitAll (sceneOf sizes (now (equations .entry)) (now (moves .entry)) (now (values .entry)) from) settling (leanersIn sizes (now (equations .entry)) (now (moves .entry)) (x .0) (s .0))
+        (lineOf (now (marks .entry)) (now (queue .entry)) (at .tail) (at .visits)) ⌝ }
+{
+    let to = x.0 as usize;
+    let mut r = at;
+    let mut k = place_in_byte(named[to]);
+    while 0 < k {
+        let j = k - 1;
+        let o = operand[j];
+        r = visit_operand(
+            sizes,
+            equations,
+            moves,
+            index,
+            values,
+            marks,
+            queue,
+            r,
+            settling,
+            from,
+            o,
+            s,
+        );
+        k = (o % 256) as usize;
+    }
+    r
+}
+
+// The pair in front of the queue turns, and the pairs that lean on it inside its block are visited.
+pub fn turn(
+    sizes: Sizes,
+    equations: &[u32],
+    moves: &[u32],
+    index: &[u16],
+    named: &[u8],
+    operand: &[u32],
+    values: &mut [u8],
+    marks: &mut [u8],
+    queue: &mut [u16],
+    front: usize,
+    at: Spread,
+    settling: bool,
+) -> Spread
+    requires { ⌜ Sketched sizes (now equations) (now moves) ⌝ }
+    requires { ⌜ Indexed (sketch sizes (now equations) (now moves)) (now index) ⌝ }
+    requires { ⌜ Named (sketch sizes (now equations) (now moves)) (now named) (now operand) ⌝ }
+    requires { ⌜ (length (now values) ≡ pairsOf sizes) × (length (now marks) ≡ pairsOf sizes) ⌝ }
+    requires { ⌜ Bits (now values) × (Packed sizes (now queue) (at .tail) × (front < at .tail)) ⌝ }
+    requires { ⌜ FromValue (sketch sizes (now equations) (now moves)) settling (now values) (getD (now queue) front 0) ⌝ }
+    requires { ⌜ Bounded (at .tail) (at .visits) (leanersOf (modelOf (sketch sizes (now equations) (now moves))) (waiter sizes (getD (now queue) front 0))) ⌝ }
+    ensures { λ r. ⌜ Turned sizes (now (equations .entry)) (now (moves .entry)) settling front (getD (now (queue .entry)) front 0)
+        (roundOf (now (values .entry)) (now (marks .entry)) (now (queue .entry)) (at .tail) (at .visits))
+        (roundOf (now (values .exit)) (now (marks .exit)) (now (queue .exit)) (r .tail) (r .visits)) ⌝ }
+{
+    let w = rooms::half_at(queue, front);
+    let x = words::variable_of(w);
+    let s = words::state_of(w);
+    let p = limits::pair_of(sizes, s, x);
+    let from = values[p];
+    values[p] = 1 - from;
+    visit_leaners(
+        sizes,
+        equations,
+        moves,
+        index,
+        named,
+        operand,
+        values,
+        marks,
+        queue,
+        at,
+        settling,
+        from,
+        x,
+        s,
+    )
+}
