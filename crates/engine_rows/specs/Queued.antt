@@ -8,19 +8,19 @@ use native.Mathlib.Nat.{add-zero, zero-add}
 use native.Mathlib.Numerals.{add-one}
 use native.Mathlib.Decide.{decLt}
 use native.Mathlib.Omega.{arith}
-use lib.ListN.{length, getD, set, take, drop, length-set, length-append, length-map, length-drop, length-take, List·getD-append, List·getD-map}
+use lib.ListN.{length, getD, set, take, drop, length-set, length-append, length-map, length-drop, List·getD-append}
 use lib.Seq.{take-suc-set, take-set-le, length-take-le, drop-drop, getD-take, getD-drop, getD-append-add, ext-getD}
 use lib.Dec.{eqb}
 use Rattle.lists.specs.Lists.{listed}
 use Rattle.lists.specs.TableLaws.{listed-is, listed-length}
-use Rattle.lists.specs.Tests.{tell, cond-yes, cond-no, eqb-is, eqb-no, eqb-off}
+use Rattle.lists.specs.Tests.{tell, eqb-is, eqb-no}
 use Rattle.systems.specs.Machine.{nextMark}
 use Rattle.systems.specs.Rows.{hits, rowMarks}
 use Rattle.systems.specs.RowLaws.{row-marks-long, row-marks-past, row-marks-before, row-marks-at}
 use Rattle.rules.specs.declared.Sizes.{Sizes}
 use Rattle.laws.specs.ModelLeaners.{map-append}
 use Rattle.words.specs.Table.{pairIn, waitingOf, waiter}
-use Rattle.engine_rows.specs.Rooms.{Bits, Packed, hitsIn}
+use Rattle.engine_rows.specs.Rooms.{Packed}
 use Rattle.engine_rows.specs.RowLoops.{markAt}
 
 -- One place more, that must turn or not.
@@ -113,6 +113,19 @@ waiting-hits z y f g (suc n) l e =
           ap (λ (k : List ℕ). map (waiter z) (map (waitingOf y) k)) (hits-no g 0 n (ap g (zero-add n) ∙ t)) ∙ ih
           ∙ sym (hits-no f (y * z .states) n (sym (e n (omega arith)) ∙ t))
     ]
+
+take-map : (f : ℕ → ℕ) (k : ℕ) (l : List ℕ) → take k (map f l) ≡ map f (take k l)
+take-map f zero l = refl
+take-map f (suc k) [] = refl
+take-map f (suc k) (q ∷ l) = ap (λ (m : List ℕ). f q ∷ m) (take-map f k l)
+
+-- As pairs, the queue holds what it held, and then the pairs of the row that must turn.
+pub row-waits : (z : Sizes) (y : ℕ) (f g : ℕ → Bool) (n tail r : ℕ) (before queue : List ℕ) → n ≤ 1024 → ((s : ℕ) → s < n → g s ≡ f (y * z .states + s))
+    → take r queue ≡ take tail before ++ map (waitingOf y) (hits g 0 n) → take r (map (waiter z) queue) ≡ take tail (map (waiter z) before) ++ hits f (y * z .states) n
+row-waits z y f g n tail r before queue l e front =
+    take-map (waiter z) r queue ∙ ap (map (waiter z)) front ∙ map-append (waiter z) (take tail before) (map (waitingOf y) (hits g 0 n))
+    ∙ ap (λ (m : List ℕ). m ++ map (waiter z) (map (waitingOf y) (hits g 0 n))) (sym (take-map (waiter z) tail before))
+    ∙ ap (λ (m : List ℕ). take tail (map (waiter z) before) ++ m) (waiting-hits z y f g n l e)
 
 -- Each hit is a place of the row.
 hit-below : (g : ℕ → Bool) (n i : ℕ) → i < length (hits g 0 n) → getD (hits g 0 n) i 0 < n

@@ -73,15 +73,17 @@ module _ {t : Table} {index values : List ℕ} {y o a b i k n : ℕ} (q : Asked 
       ]
 
   -- The index links the moves of as many states as there are places, and has heads for the action that is named.
-  pub asked-linked : Linked n (headsOf (t .sizes)) (t .moves) index
-  asked-linked = rw (q .places) (linked (q .drawn) index (q .indexed))
+  pub asked-linked : (l : ℕ) → l ≡ headsOf (t .sizes) → Linked n (t .moves) (take l index) (take (length index - l) (drop l index))
+  asked-linked l e = rw (q .places) (linked (q .drawn) l index e (q .indexed))
 
-  pub asked-heads : 6 ≤ o → a * n + n ≤ headsOf (t .sizes)
-  asked-heads f =
+  pub asked-heads : (l : ℕ) → l ≡ headsOf (t .sizes) → 6 ≤ o → a * n + n ≤ length (take l index)
+  asked-heads l e f =
       let s = step-names (q .drawn) y 0 (q .below) some-state o a b i k (q .reads) f .0 in
       let m = mul-le-mul-right {m = suc a} {n = t .sizes .actions} (t .sizes .states) s in
       let p = q .places in
       let g : a * n ≡ a * t .sizes .states = ap (λ (s : ℕ). a * s) p in
+      let r = q .indexed .long in
+      let h = length-take-le l index (omega arith) in
       omega arith
 
   -- The three kinds of row.

@@ -1,30 +1,27 @@
 -- The row says which pairs must turn while settling. Assumes nothing.
-use mathlib.Core.Path.{_≡_, refl, sym, ap, _∙_, subst}
+use mathlib.Core.Path.{_≡_, refl, sym, ap, _∙_}
 use mathlib.Core.Bool.{Bool, true, false, not, cond, _&&_, _||_, true≢false, false≢true}
 use mathlib.Core.List.{List, [], _∷_, map}
 use Prim.Native.Nat.{ℕ, zero, suc, _+_, _-_, _*_, _%_, _≤_, _<_}
 use native.Mathlib.Decide.{decLt}
-use native.Mathlib.Nat.{mul-le-mul-right}
 use native.Mathlib.Omega.{arith}
 use lib.ListN.{length, getD, take, drop, replicate, length-replicate, getD-replicate, List·getD-eq-default}
 use lib.Seq.{ext-getD}
-use lib.Dec.{eqb, ltb}
+use lib.Dec.{eqb}
 use mir.Val.{boolByte}
 use Rattle.lists.specs.Lists.{is, any, bit, listed, someBelow}
 use Rattle.lists.specs.TableLaws.{listed-is, listed-length}
-use Rattle.lists.specs.Tests.{tests, and-is, and-no, ltb-is, ltb-no, eqb-no, eqb-in}
+use Rattle.lists.specs.Tests.{tests, and-is, and-no, ltb-is, ltb-no}
 use Rattle.rules.specs.Limits.{most-propositions}
 use Rattle.rules.specs.Moves.{target}
 use Rattle.rules.specs.Model.{operandsOk, wellFormed}
-use Rattle.rules.specs.Rooms.{pairsOf}
 use Rattle.rules.specs.Calls.{valueAt}
 use Rattle.rules.specs.Values.{state, holds, own, targets, gives}
-use Rattle.rules.specs.declared.Sizes.{Sizes}
 use Rattle.laws.specs.Walks.{small}
 use Rattle.words.specs.Table.{Table, modelOf, Drawn, ReadsAs, wordAt, ownIn, pairIn, leadsTo}
 use Rattle.words.specs.Part.{ownMoves}
 use Rattle.words.specs.Limits.{move-inside}
-use Rattle.words.specs.GivesWords.{two, operands-read, operator-below, join-names, step-names, targets-read, gives-constant, gives-proposition, gives-join, gives-step}
+use Rattle.words.specs.GivesWords.{two, operands-read, operator-below, targets-read, gives-constant, gives-proposition, gives-join, gives-step}
 use Rattle.words.specs.AsksWords.{asks-settle}
 use Rattle.engine_rows.specs.Rooms.{Bits, Tells}
 use Rattle.engine_rows.specs.Filled.{none-below}

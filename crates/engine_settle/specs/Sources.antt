@@ -2,19 +2,19 @@
 use mathlib.Core.Path.{_≡_, refl, sym, ap, _∙_, subst}
 use mathlib.Core.Bool.{Bool, true, false, cond, _&&_, _||_}
 use mathlib.Core.List.{List, [], _∷_, _++_}
-use Prim.Native.Nat.{ℕ, zero, suc, _+_, _-_, _*_, _≤_, _<_}
+use Prim.Native.Nat.{ℕ, suc, _+_, _-_, _*_, _≤_, _<_}
+use native.Mathlib.Nat.{zero-add}
 use native.Mathlib.Decide.{ℕ-discrete}
 use native.Mathlib.Omega.{arith}
-use lib.ListN.{length, getD, set, take, length-set}
-use lib.Seq.{take-suc, take-length, getD-set-same, getD-set-other}
+use lib.ListN.{length, getD, set, take, drop, length-set, length-drop}
+use lib.Seq.{take-suc, take-length, take-all, length-take-le, getD-take, getD-drop, getD-set-same, getD-set-other}
 use lib.Dec.{eqb}
 use Rattle.lists.specs.Lists.{any}
-use Rattle.lists.specs.Tests.{tell, no-way, and-left, eqb-is, eqb-no, eqb-out, eqb-in, eqb-same}
+use Rattle.lists.specs.Tests.{no-way, and-left, eqb-no, eqb-out, eqb-in}
 use Rattle.rules.specs.Moves.{source, action, target}
 use Rattle.words.specs.Table.{Table, Drawn}
 use Rattle.words.specs.Limits.{move-inside}
 use Rattle.engine_index.specs.Chains.{lastTo}
-use Rattle.engine_index.specs.ChainLaws.{Chained}
 use Rattle.engine_index.specs.Indexed.{Indexed, headsOf}
 use Rattle.engine_index.specs.ChainWalks.{last-le, last-at, last-again, last-skips}
 use Rattle.engine_settle.specs.Told.{SetWhere}
@@ -31,21 +31,30 @@ oneComes key t ws s = any (comes key t s) ws
 abbrev pub keyBy : ℕ → ℕ → ℕ
 keyBy n w = action w * n + target w
 
--- The moves lead from and to n states, and the index holds their chains, its links after so many heads.
-pub record Linked (n links : ℕ) (moves index : List ℕ) : Type 0 where
+-- The moves lead from and to n states, and chains of them by this number have these heads and links.
+pub record Linked (n : ℕ) (moves heads links : List ℕ) : Type 0 where
   pub from : (j : ℕ) → j < length moves → source (getD moves j 0) < n
   pub into : (j : ℕ) → j < length moves → target (getD moves j 0) < n
-  pub long : links + length moves ≤ length index
-  pub chained : Chained (keyBy n) 0 links moves (length moves) index
+  pub long : length moves ≤ length links
+  pub ends : (t : ℕ) → t < length heads → getD heads t 0 ≡ lastTo (keyBy n) moves t (length moves)
+  pub steps : (j : ℕ) → j < length moves → getD links j 0 ≡ lastTo (keyBy n) moves (keyBy n (getD moves j 0)) j
 
--- The index of a table's moves is one.
-pub linked : {t : Table} → Drawn t → (index : List ℕ) → Indexed t index → Linked (t .sizes .states) (headsOf (t .sizes)) (t .moves) index
-linked d index i = record {
-  from = λ j h. move-inside d j h .0;
-  into = λ j h. move-inside d j h .1 .1;
-  long = i .long;
-  chained = i .chained;
-}
+-- The index of a table's moves, cut into its heads and its links.
+pub linked : {t : Table} → Drawn t → (k : ℕ) (index : List ℕ) → k ≡ headsOf (t .sizes) → Indexed t index
+    → Linked (t .sizes .states) (t .moves) (take k index) (take (length index - k) (drop k index))
+linked {t} d k index e i =
+    let room = i .long in
+    let cut = length-drop k index in
+    let rest : take (length index - k) (drop k index) ≡ drop k index = take-all (length index - k) (drop k index) (omega arith) in
+    let h = length-take-le k index (omega arith) in
+    record {
+      from = λ j h. move-inside d j h .0;
+      into = λ j h. move-inside d j h .1 .1;
+      long = rw rest (omega arith);
+      ends = λ u l.
+          getD-take k index u 0 (omega arith) ∙ ap (λ (x : ℕ). getD index x 0) (sym (zero-add u)) ∙ i .chained .ends u (omega arith);
+      steps = λ j l. rw rest (getD-drop k index j 0 ∙ ap (λ (x : ℕ). getD index (x + j) 0) e ∙ i .chained .steps j l);
+    }
 
 any-last : (f : ℕ → Bool) (w : ℕ) (l : List ℕ) → any f (l ++ (w ∷ [])) ≡ (f w || any f l)
 any-last f w [] = refl

@@ -1,10 +1,10 @@
 -- All targets one after the other: the places of the states that have a move with the action to a target at which the row has c.
 -- Assumes nothing.
-use mathlib.Core.Path.{_≡_, refl, sym, ap, _∙_, subst}
+use mathlib.Core.Path.{_≡_, refl, sym, ap, _∙_}
 use mathlib.Core.Logic.{inl, inr}
 use mathlib.Core.Bool.{Bool, true, false, cond, _&&_, _||_}
 use mathlib.Core.List.{List, [], _∷_}
-use Prim.Native.Nat.{ℕ, zero, suc, _+_, _*_, _/_, _%_, _≤_, _<_}
+use Prim.Native.Nat.{ℕ, suc, _+_, _*_, _/_, _%_, _<_}
 use native.Mathlib.Decide.{ℕ-discrete}
 use native.Mathlib.Numerals.{add-one}
 use native.Mathlib.Omega.{arith}
@@ -12,7 +12,7 @@ use lib.ListN.{length, getD}
 use lib.Arith.{digits-div, digits-mod}
 use lib.Dec.{eqb, ltb}
 use Rattle.lists.specs.Lists.{any}
-use Rattle.lists.specs.Tests.{tell, no-way, and-left, and-right, and-no, eqb-is, eqb-no, eqb-out, eqb-in, eqb-same, ltb-is, ltb-no, ltb-in}
+use Rattle.lists.specs.Tests.{tell, no-way, and-left, and-right, and-no, eqb-no, eqb-out, eqb-in, ltb-is, ltb-no, ltb-in}
 use Rattle.rules.specs.Moves.{source, action, target}
 use Rattle.rules.specs.Values.{state, own}
 use Rattle.engine_settle.specs.Told.{leadsOne, SetWhere}
