@@ -39,6 +39,7 @@ value-is (suc (suc w)) c h k = absurd (omega arith)
 value-is zero (suc (suc c)) h k = absurd (omega arith)
 value-is (suc zero) (suc (suc c)) h k = absurd (omega arith)
 
+-- Whether a truth value is a, asked of whether it is b.
 is-is : (a b x : Bool) → is a (is b x) ≡ is (is a b) x
 is-is true b x = refl
 is-is false true x = refl
@@ -55,6 +56,7 @@ gives-other (suc (suc c)) k h l = absurd (omega arith)
 gives-other zero (suc (suc k)) h l = absurd (omega arith)
 gives-other (suc zero) (suc (suc k)) h l = absurd (omega arith)
 
+-- What a place says that was told, and that it is 0 or 1.
 told-is : (b x : Bool) → eqb (told (bit b) x) 1 ≡ is b x
 told-is true true = refl
 told-is true false = refl
@@ -88,6 +90,7 @@ any-own s a g (q ∷ l) = one (own (state s) (record { 0 = a }) q) (any-own s a 
     one true e = ap (λ (x : Bool). g (target q) || x) e
     one false e = e
 
+-- What is asked of targets, asked of the moves that have them.
 any-map : (g : ℕ → Bool) (l : List ℕ) → any g (map target l) ≡ any (λ q. g (target q)) l
 any-map g [] = refl
 any-map g (q ∷ l) = ap (λ (x : Bool). g (target q) || x) (any-map g l)

@@ -16,7 +16,7 @@ use Rattle.words.specs.Table.{Table, Drawn}
 use Rattle.words.specs.Limits.{move-inside}
 use Rattle.engine_index.specs.Chains.{lastTo}
 use Rattle.engine_index.specs.Indexed.{Indexed, headsOf}
-use Rattle.engine_index.specs.ChainWalks.{last-le, last-at, last-again, last-skips}
+use Rattle.engine_index.specs.ChainWalks.{any-snoc, last-le, last-at, last-again, last-skips}
 use Rattle.engine_settle.specs.Told.{SetWhere}
 
 -- Has the word q the number t, and does it come from the state s?
@@ -56,16 +56,6 @@ linked {t} d k index e i =
       steps = λ j l. rw rest (getD-drop k index j 0 ∙ ap (λ (x : ℕ). getD index (x + j) 0) e ∙ i .chained .steps j l);
     }
 
-any-last : (f : ℕ → Bool) (w : ℕ) (l : List ℕ) → any f (l ++ (w ∷ [])) ≡ (f w || any f l)
-any-last f w [] = refl
-any-last f w (q ∷ l) = ap (λ (b : Bool). f q || b) (any-last f w l) ∙ swap (f q) (f w) (any f l)
-  where
-    swap : (a b c : Bool) → (a || (b || c)) ≡ (b || (a || c))
-    swap true true c = refl
-    swap true false c = refl
-    swap false true c = refl
-    swap false false c = refl
-
 -- The walk stands at k: what is left of it makes of the places as they are what the whole of it makes of them as they were.
 pub record Telling (key : ℕ → ℕ) (ws : List ℕ) (t x : ℕ) (before : List ℕ) (k : ℕ) (bad : List ℕ) : Type 0 where
   pub stands : lastTo key ws t k ≡ k
@@ -74,8 +64,9 @@ pub record Telling (key : ℕ → ℕ) (ws : List ℕ) (t x : ℕ) (before : Lis
   pub same : (s : ℕ) → s < length before → cond (oneComes key t (take k ws) s) x (getD bad s 0) ≡ cond (oneComes key t ws s) x (getD before s 0)
 
 module _ (key : ℕ → ℕ) (ws : List ℕ) (t x : ℕ) (before : List ℕ) where
+  -- One word more.
   one-more : (s j : ℕ) → j < length ws → any (comes key t s) (take (suc j) ws) ≡ (comes key t s (getD ws j 0) || any (comes key t s) (take j ws))
-  one-more s j h = ap (any (comes key t s)) (take-suc ws j 0 h) ∙ any-last (comes key t s) (getD ws j 0) (take j ws)
+  one-more s j h = ap (any (comes key t s)) (take-suc ws j 0 h) ∙ any-snoc (comes key t s) (getD ws j 0) (take j ws)
 
   -- Words with other numbers set nothing.
   skipped : (s k : ℕ) → k ≤ length ws → any (comes key t s) (take (lastTo key ws t k) ws) ≡ any (comes key t s) (take k ws)
@@ -84,6 +75,7 @@ module _ (key : ℕ → ℕ) (ws : List ℕ) (t x : ℕ) (before : List ℕ) whe
       (λ j l e. sym (one-more s j l ∙ ap (λ (b : Bool). b || any (comes key t s) (take j ws))
       (no-way (comes key t s (getD ws j 0)) (λ y. e (eqb-out _ _ (and-left (eqb (key (getD ws j 0)) t) (eqb (source (getD ws j 0)) s) y)))))) k h
 
+  -- It begins at the head.
   pub telling-begins : (k : ℕ) → k ≡ lastTo key ws t (length ws) → Telling key ws t x before k before
   telling-begins k e = subst (λ (i : ℕ). Telling key ws t x before i before) (sym e) (record {
     stands = last-again key ws t (length ws);
@@ -107,6 +99,7 @@ module _ (key : ℕ → ℕ) (ws : List ℕ) (t x : ℕ) (before : List ℕ) whe
       both true = refl
       both false = refl
 
+  -- It goes on along the link, once the place of the word's source is set.
   pub telling-goes : (k j next : ℕ) (bad after : List ℕ) → Telling key ws t x before k bad → k ≡ suc j → after ≡ set bad (source (getD ws j 0)) x
       → next ≡ lastTo key ws (key (getD ws j 0)) j → Telling key ws t x before next after
   telling-goes k j next bad after o e a g =
@@ -128,5 +121,6 @@ module _ (key : ℕ → ℕ) (ws : List ℕ) (t x : ℕ) (before : List ℕ) whe
             ∙ ap (λ (i : ℕ). cond (any (comes key t s) (take i ws)) x (getD bad s 0)) (sym e) ∙ o .same s h;
       })
 
+  -- Where it ends, each source of a word with the number has its place set.
   pub telling-ends : (k : ℕ) (bad : List ℕ) → Telling key ws t x before k bad → k ≡ 0 → SetWhere (oneComes key t ws) x before bad
   telling-ends k bad o e s h = ap (λ (i : ℕ). cond (any (comes key t s) (take i ws)) x (getD bad s 0)) (sym e) ∙ o .same s h
