@@ -64,7 +64,8 @@ step-falls key heads links ws n r c k next h l e =
     let f = last-le key ws (key (getD ws (k - 1) 0)) (k - 1) in
     omega arith
 
-any-snoc : (f : ℕ → Bool) (w : ℕ) (l : List ℕ) → any f (l ++ (w ∷ [])) ≡ (f w || any f l)
+-- Some entry of a list passes a test, by its last entry first.
+pub any-snoc : (f : ℕ → Bool) (w : ℕ) (l : List ℕ) → any f (l ++ (w ∷ [])) ≡ (f w || any f l)
 any-snoc f w [] = refl
 any-snoc f w (x ∷ l) = ap (λ (b : Bool). f x || b) (any-snoc f w l) ∙ swap (f x) (f w) (any f l)
   where

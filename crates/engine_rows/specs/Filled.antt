@@ -60,7 +60,7 @@ listed-replicate n x =
     let b = length-replicate n x in
     ext-getD 0 (listed 0 n (λ s. x)) (replicate n x) (omega arith) (λ i h. listed-is n (λ s. x) i (omega arith) ∙ sym (getD-replicate n i x 0 (omega arith)))
 
--- Truth values as bits.
+-- The bit of a truth value is at most 1, and so are those of a list of them.
 pub bit-small : (b : Bool) → bit b ≤ 1
 bit-small true = omega arith
 bit-small false = omega arith

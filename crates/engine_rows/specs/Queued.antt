@@ -8,19 +8,21 @@ use native.Mathlib.Nat.{add-zero, zero-add}
 use native.Mathlib.Numerals.{add-one}
 use native.Mathlib.Decide.{decLt}
 use native.Mathlib.Omega.{arith}
-use lib.ListN.{length, getD, set, take, drop, length-set, length-append, length-map, length-drop, length-take, List·getD-append, List·getD-map}
-use lib.Seq.{take-suc-set, take-set-le, length-take-le, drop-drop, getD-take, getD-drop, getD-append-add, ext-getD}
+use lib.ListN.{length, getD, set, take, drop, length-set, length-append, length-map, length-drop, List·getD-append}
+use lib.Seq.{take-suc, take-suc-set, take-set-le, length-take-le, drop-drop, getD-take, getD-drop, getD-append-add, ext-getD}
 use lib.Dec.{eqb}
 use Rattle.lists.specs.Lists.{listed}
 use Rattle.lists.specs.TableLaws.{listed-is, listed-length}
-use Rattle.lists.specs.Tests.{tell, cond-yes, cond-no, eqb-is, eqb-no, eqb-off}
+use Rattle.lists.specs.Tests.{tell, eqb-is, eqb-no}
 use Rattle.systems.specs.Machine.{nextMark}
+use Rattle.systems.specs.ListMachine.{between}
+use Rattle.systems.specs.Fair.{between-split}
 use Rattle.systems.specs.Rows.{hits, rowMarks}
 use Rattle.systems.specs.RowLaws.{row-marks-long, row-marks-past, row-marks-before, row-marks-at}
 use Rattle.rules.specs.declared.Sizes.{Sizes}
 use Rattle.laws.specs.ModelLeaners.{map-append}
 use Rattle.words.specs.Table.{pairIn, waitingOf, waiter}
-use Rattle.engine_rows.specs.Rooms.{Bits, Packed, hitsIn}
+use Rattle.engine_rows.specs.Rooms.{Packed}
 use Rattle.engine_rows.specs.RowLoops.{markAt}
 
 -- One place more, that must turn or not.
@@ -113,6 +115,20 @@ waiting-hits z y f g (suc n) l e =
           ap (λ (k : List ℕ). map (waiter z) (map (waitingOf y) k)) (hits-no g 0 n (ap g (zero-add n) ∙ t)) ∙ ih
           ∙ sym (hits-no f (y * z .states) n (sym (e n (omega arith)) ∙ t))
     ]
+
+-- The first entries of a list that was mapped.
+take-map : (f : ℕ → ℕ) (k : ℕ) (l : List ℕ) → take k (map f l) ≡ map f (take k l)
+take-map f zero l = refl
+take-map f (suc k) [] = refl
+take-map f (suc k) (q ∷ l) = ap (λ (m : List ℕ). f q ∷ m) (take-map f k l)
+
+-- As pairs, the queue holds what it held, and then the pairs of the row that must turn.
+pub row-waits : (z : Sizes) (y : ℕ) (f g : ℕ → Bool) (n tail r : ℕ) (before queue : List ℕ) → n ≤ 1024 → ((s : ℕ) → s < n → g s ≡ f (y * z .states + s))
+    → take r queue ≡ take tail before ++ map (waitingOf y) (hits g 0 n) → take r (map (waiter z) queue) ≡ take tail (map (waiter z) before) ++ hits f (y * z .states) n
+row-waits z y f g n tail r before queue l e front =
+    take-map (waiter z) r queue ∙ ap (map (waiter z)) front ∙ map-append (waiter z) (take tail before) (map (waitingOf y) (hits g 0 n))
+    ∙ ap (λ (m : List ℕ). m ++ map (waiter z) (map (waitingOf y) (hits g 0 n))) (sym (take-map (waiter z) tail before))
+    ∙ ap (λ (m : List ℕ). take tail (map (waiter z) before) ++ m) (waiting-hits z y f g n l e)
 
 -- Each hit is a place of the row.
 hit-below : (g : ℕ → Bool) (n i : ℕ) → i < length (hits g 0 n) → getD (hits g 0 n) i 0 < n
@@ -210,3 +226,21 @@ marked-back f settling p n bad marks row h e r =
     ap (λ (x : List ℕ). getD x s 0) r ∙ listed-is (length part) (markAt bad settling part) s (omega arith)
     ∙ ap (λ (b : Bool). cond b (nextMark settling (getD part s 0)) (getD part s 0)) (e s l)
     ∙ ap (λ (m : ℕ). cond (f (p + s)) (nextMark settling m) m) (part-at p n marks s l))
+
+-- The first entries of a list.
+between-front : (l : List ℕ) (k : ℕ) → k ≤ length l → between l 0 k ≡ take k l
+between-front l zero h = refl
+between-front l (suc k) h =
+    let one : k + 1 ≡ suc k = add-one k in
+    ap (between l 0) (sym one) ∙ between-split l k 1 0 ∙ ap (λ (i : ℕ). between l 0 k ++ (getD l i 0 ∷ [])) (zero-add k)
+    ∙ ap (λ (m : List ℕ). m ++ (getD l k 0 ∷ [])) (between-front l k (omega arith)) ∙ sym (take-suc l k 0 h)
+
+-- The same for what waits from the front on, as the machine says it.
+pub row-between : (z : Sizes) (y : ℕ) (f g : ℕ → Bool) (n tail r : ℕ) (before queue : List ℕ) → n ≤ 1024 → ((s : ℕ) → s < n → g s ≡ f (y * z .states + s))
+    → tail ≤ length before → r ≤ length queue → take r queue ≡ take tail before ++ map (waitingOf y) (hits g 0 n)
+    → between (map (waiter z) queue) 0 r ≡ between (map (waiter z) before) 0 tail ++ hits f (y * z .states) n
+row-between z y f g n tail r before queue l e ht hr front =
+    let a = length-map before (waiter z) in
+    let b = length-map queue (waiter z) in
+    between-front (map (waiter z) queue) r (omega arith) ∙ row-waits z y f g n tail r before queue l e front
+    ∙ ap (λ (m : List ℕ). m ++ hits f (y * z .states) n) (sym (between-front (map (waiter z) before) tail (omega arith)))

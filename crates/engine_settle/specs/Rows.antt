@@ -22,6 +22,7 @@ use Rattle.engine_settle.specs.Told.{told, oneHas, leadsOne, Asked, Fail
 use Rattle.engine_settle.specs.Sources.{Linked, linked}
 use Rattle.engine_settle.specs.Settles.{tells-fails, tells-none, tells-constant, fails-constant, label-names, fails-label, fails-join, fails-step}
 
+-- A truth value as a byte is at most 1.
 pub byte-small : (x : Bool) → boolByte x ≤ 1
 byte-small true = omega arith
 byte-small false = omega arith
@@ -38,6 +39,7 @@ pub row-long : (x n : ℕ) (row values : List ℕ) → x * n + n ≤ length valu
 row-long x n row values h e = let d = length-drop (x * n) values in ap length e ∙ length-take-le n (drop (x * n) values) (omega arith)
 
 module _ {t : Table} {index values : List ℕ} {y o a b i k n : ℕ} (q : Asked t index values y o a b i k n) where
+  -- The kind is 0 or 1, and there is a state.
   kind-small : k ≤ 1
   kind-small = let e = q .reads .is-kind in omega arith
 
@@ -73,15 +75,17 @@ module _ {t : Table} {index values : List ℕ} {y o a b i k n : ℕ} (q : Asked 
       ]
 
   -- The index links the moves of as many states as there are places, and has heads for the action that is named.
-  pub asked-linked : Linked n (headsOf (t .sizes)) (t .moves) index
-  asked-linked = rw (q .places) (linked (q .drawn) index (q .indexed))
+  pub asked-linked : (l : ℕ) → l ≡ headsOf (t .sizes) → Linked n (t .moves) (take l index) (take (length index - l) (drop l index))
+  asked-linked l e = rw (q .places) (linked (q .drawn) l index e (q .indexed))
 
-  pub asked-heads : 6 ≤ o → a * n + n ≤ headsOf (t .sizes)
-  asked-heads f =
+  pub asked-heads : (l : ℕ) → l ≡ headsOf (t .sizes) → 6 ≤ o → a * n + n ≤ length (take l index)
+  asked-heads l e f =
       let s = step-names (q .drawn) y 0 (q .below) some-state o a b i k (q .reads) f .0 in
       let m = mul-le-mul-right {m = suc a} {n = t .sizes .actions} (t .sizes .states) s in
       let p = q .places in
       let g : a * n ≡ a * t .sizes .states = ap (λ (s : ℕ). a * s) p in
+      let r = q .indexed .long in
+      let h = length-take-le l index (omega arith) in
       omega arith
 
   -- The three kinds of row.
@@ -100,17 +104,20 @@ module _ {t : Table} {index values : List ℕ} {y o a b i k n : ℕ} (q : Asked 
       fails-step y values (q .drawn) (q .below) o a b i k (q .reads) (becomes o k) n w bad f kind-small refl (q .places) (q .bits)
       (ew ∙ ap (λ (m : ℕ). take n (drop (b * m) values)) (q .places)) e
 
-  -- What the row tells of the pairs: by what its equation gives, where it is a constant, and where no pair has the own value.
+  -- What the row tells of the pairs, by what its equation gives.
   pub tells-row : (bad : List ℕ) → Fails t values y bad → Tells (t .sizes .states) (ownIn t y) values (y * t .sizes .states) (settleTest t values y) bad true
   tells-row bad f = tells-fails y values (q .drawn) (q .below) bad f
 
+  -- A constant that is the own value.
   pub tells-own : (bad : List ℕ) → length bad ≡ n → o < 2 → o ≡ k → Tells (t .sizes .states) (ownIn t y) values (y * t .sizes .states) (settleTest t values y) bad false
   tells-own bad l f e = tells-constant y values (q .drawn) (q .below) o a b i k (q .reads) bad f e (l ∙ q .places)
 
+  -- The other constant.
   pub tells-other : (bad : List ℕ) → o < 2 → (o ≡ k → ⊥) → bad ≡ replicate n 1
       → Tells (t .sizes .states) (ownIn t y) values (y * t .sizes .states) (settleTest t values y) bad true
   tells-other bad f off e = tells-row bad (fails-constant y values (q .drawn) (q .below) o a b i k (q .reads) n bad f kind-small off (q .places) e)
 
+  -- No pair of the row has the own value.
   pub tells-nothing : (bad row : List ℕ) → length bad ≡ n → row ≡ take n (drop (y * n) values) → someBelow (length row) (λ s. eqb (getD row s 0) k) ≡ false
       → Tells (t .sizes .states) (ownIn t y) values (y * t .sizes .states) (settleTest t values y) bad false
   tells-nothing bad row l e none =

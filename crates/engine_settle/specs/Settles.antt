@@ -1,30 +1,27 @@
 -- The row says which pairs must turn while settling. Assumes nothing.
-use mathlib.Core.Path.{_≡_, refl, sym, ap, _∙_, subst}
+use mathlib.Core.Path.{_≡_, refl, sym, ap, _∙_}
 use mathlib.Core.Bool.{Bool, true, false, not, cond, _&&_, _||_, true≢false, false≢true}
 use mathlib.Core.List.{List, [], _∷_, map}
 use Prim.Native.Nat.{ℕ, zero, suc, _+_, _-_, _*_, _%_, _≤_, _<_}
 use native.Mathlib.Decide.{decLt}
-use native.Mathlib.Nat.{mul-le-mul-right}
 use native.Mathlib.Omega.{arith}
 use lib.ListN.{length, getD, take, drop, replicate, length-replicate, getD-replicate, List·getD-eq-default}
 use lib.Seq.{ext-getD}
-use lib.Dec.{eqb, ltb}
+use lib.Dec.{eqb}
 use mir.Val.{boolByte}
 use Rattle.lists.specs.Lists.{is, any, bit, listed, someBelow}
 use Rattle.lists.specs.TableLaws.{listed-is, listed-length}
-use Rattle.lists.specs.Tests.{tests, and-is, and-no, ltb-is, ltb-no, eqb-no, eqb-in}
+use Rattle.lists.specs.Tests.{tests, and-is, and-no, ltb-is, ltb-no}
 use Rattle.rules.specs.Limits.{most-propositions}
 use Rattle.rules.specs.Moves.{target}
 use Rattle.rules.specs.Model.{operandsOk, wellFormed}
-use Rattle.rules.specs.Rooms.{pairsOf}
 use Rattle.rules.specs.Calls.{valueAt}
 use Rattle.rules.specs.Values.{state, holds, own, targets, gives}
-use Rattle.rules.specs.declared.Sizes.{Sizes}
 use Rattle.laws.specs.Walks.{small}
 use Rattle.words.specs.Table.{Table, modelOf, Drawn, ReadsAs, wordAt, ownIn, pairIn, leadsTo}
 use Rattle.words.specs.Part.{ownMoves}
 use Rattle.words.specs.Limits.{move-inside}
-use Rattle.words.specs.GivesWords.{two, operands-read, operator-below, join-names, step-names, targets-read, gives-constant, gives-proposition, gives-join, gives-step}
+use Rattle.words.specs.GivesWords.{two, operands-read, operator-below, targets-read, gives-constant, gives-proposition, gives-join, gives-step}
 use Rattle.words.specs.AsksWords.{asks-settle}
 use Rattle.engine_rows.specs.Rooms.{Bits, Tells}
 use Rattle.engine_rows.specs.Filled.{none-below}
@@ -42,6 +39,7 @@ value-is (suc (suc w)) c h k = absurd (omega arith)
 value-is zero (suc (suc c)) h k = absurd (omega arith)
 value-is (suc zero) (suc (suc c)) h k = absurd (omega arith)
 
+-- Whether a truth value is a, asked of whether it is b.
 is-is : (a b x : Bool) → is a (is b x) ≡ is (is a b) x
 is-is true b x = refl
 is-is false true x = refl
@@ -58,6 +56,7 @@ gives-other (suc (suc c)) k h l = absurd (omega arith)
 gives-other zero (suc (suc k)) h l = absurd (omega arith)
 gives-other (suc zero) (suc (suc k)) h l = absurd (omega arith)
 
+-- What a place says that was told, and that it is 0 or 1.
 told-is : (b x : Bool) → eqb (told (bit b) x) 1 ≡ is b x
 told-is true true = refl
 told-is true false = refl
@@ -91,6 +90,7 @@ any-own s a g (q ∷ l) = one (own (state s) (record { 0 = a }) q) (any-own s a 
     one true e = ap (λ (x : Bool). g (target q) || x) e
     one false e = e
 
+-- What is asked of targets, asked of the moves that have them.
 any-map : (g : ℕ → Bool) (l : List ℕ) → any g (map target l) ≡ any (λ q. g (target q)) l
 any-map g [] = refl
 any-map g (q ∷ l) = ap (λ (x : Bool). g (target q) || x) (any-map g l)

@@ -1,10 +1,10 @@
 -- All targets one after the other: the places of the states that have a move with the action to a target at which the row has c.
 -- Assumes nothing.
-use mathlib.Core.Path.{_≡_, refl, sym, ap, _∙_, subst}
+use mathlib.Core.Path.{_≡_, refl, sym, ap, _∙_}
 use mathlib.Core.Logic.{inl, inr}
 use mathlib.Core.Bool.{Bool, true, false, cond, _&&_, _||_}
 use mathlib.Core.List.{List, [], _∷_}
-use Prim.Native.Nat.{ℕ, zero, suc, _+_, _*_, _/_, _%_, _≤_, _<_}
+use Prim.Native.Nat.{ℕ, suc, _+_, _*_, _/_, _%_, _<_}
 use native.Mathlib.Decide.{ℕ-discrete}
 use native.Mathlib.Numerals.{add-one}
 use native.Mathlib.Omega.{arith}
@@ -12,7 +12,7 @@ use lib.ListN.{length, getD}
 use lib.Arith.{digits-div, digits-mod}
 use lib.Dec.{eqb, ltb}
 use Rattle.lists.specs.Lists.{any}
-use Rattle.lists.specs.Tests.{tell, no-way, and-left, and-right, and-no, eqb-is, eqb-no, eqb-out, eqb-in, eqb-same, ltb-is, ltb-no, ltb-in}
+use Rattle.lists.specs.Tests.{tell, no-way, and-left, and-right, and-no, eqb-no, eqb-out, eqb-in, ltb-is, ltb-no, ltb-in}
 use Rattle.rules.specs.Moves.{source, action, target}
 use Rattle.rules.specs.Values.{state, own}
 use Rattle.engine_settle.specs.Told.{leadsOne, SetWhere}
@@ -28,6 +28,7 @@ any-same f g [] h = refl
 any-same f g (q ∷ l) h =
     ap (λ (b : Bool). b || any f l) (h 0 (omega arith)) ∙ ap (λ (b : Bool). g q || b) (any-same f g l (λ j k. h (suc j) (omega arith)))
 
+-- One of two tests, or a test under a condition, asked of a list.
 any-or : (f g : ℕ → Bool) (l : List ℕ) → any (λ q. f q || g q) l ≡ (any f l || any g l)
 any-or f g [] = refl
 any-or f g (q ∷ l) = ap (λ (b : Bool). (f q || g q) || b) (any-or f g l) ∙ mix (f q) (g q) (any f l) (any g l)
@@ -106,12 +107,14 @@ pub record Reached (moves : List ℕ) (a : ℕ) (row : List ℕ) (c v : ℕ) (be
   pub tells : SetWhere (leadsBelow moves a row c t) v before bad
 
 module _ (n : ℕ) (moves : List ℕ) (inside : (j : ℕ) → j < length moves → target (getD moves j 0) < n) (a : ℕ) (row : List ℕ) (c v : ℕ) (before : List ℕ) where
+  -- No target lies below 0.
   none-yet : (s : ℕ) (l : List ℕ) → leadsBelow l a row c 0 s ≡ false
   none-yet s [] = refl
   none-yet s (q ∷ l) =
       ap (λ (b : Bool). (own (state s) (record { 0 = a }) q && (b && eqb (getD row (target q) 0) c)) || leadsBelow l a row c 0 s) (ltb-no (target q) 0 .1 (omega arith))
       ∙ ap (λ (b : Bool). b || leadsBelow l a row c 0 s) (and-no (own (state s) (record { 0 = a }) q) refl) ∙ none-yet s l
 
+  -- At the start.
   pub reached-none : Reached moves a row c v before 0 before
   reached-none = record { long = refl; tells = λ s h. sym (ap (λ (b : Bool). cond b v (getD before s 0)) (none-yet s moves)) }
 
@@ -129,6 +132,7 @@ module _ (n : ℕ) (moves : List ℕ) (inside : (j : ℕ) → j < length moves �
       ∙ any-or (λ q. own (state s) (record { 0 = a }) q && (ltb (target q) t && eqb (getD row (target q) 0) c)) (λ q. eqb (getD row t 0) c && comes (keyBy n) (a * n + t) s q) moves
       ∙ ap (λ (b : Bool). leadsBelow moves a row c t s || b) (any-with (eqb (getD row t 0) c) (comes (keyBy n) (a * n + t) s) moves)
 
+  -- Once the chain of the target t has been gone through, if the row has c at t.
   pub reached-more : (t m : ℕ) (bad after : List ℕ) → t < n → m ≡ n → Reached moves a row c v before t bad → length after ≡ length bad
       → SetWhere (λ s. eqb (getD row t 0) c && oneComes (keyBy m) (a * n + t) moves s) v bad after → Reached moves a row c v before (t + 1) after
   reached-more t m bad after h o r e f =

@@ -75,59 +75,59 @@ fn heads_of(sizes: Sizes) -> usize
 }
 
 // The places of the sources of a chain's moves become v. The chain begins at the head `at`.
-fn tell_sources(moves: &[u32], index: &[u16], links: usize, at: usize, v: u8, bad: &mut [u8])
-    requires { ⌜ Linked (length (now bad)) links (now moves) (now index) ⌝ }
-    requires { ⌜ at < links ⌝ }
+fn tell_sources(moves: &[u32], heads: &[u16], links: &[u16], at: usize, v: u8, bad: &mut [u8])
+    requires { ⌜ Linked (length (now bad)) (now moves) (now heads) (now links) ⌝ }
+    requires { ⌜ at < length (now heads) ⌝ }
     ensures { λ _. ⌜ SetWhere (oneComes (keyBy (length (now (bad .entry)))) at (now (moves .entry))) v (now (bad .entry)) (now (bad .exit)) ⌝ }
 {
-    let mut k = index[at] as usize;
+    let mut k = heads[at] as usize;
     while 0 < k {
         let j = k - 1;
         let from = words::source_of(moves[j]);
         let s = from.0 as usize;
         bad[s] = v;
-        k = index[links + j] as usize;
+        k = links[j] as usize;
     }
 }
 
 // The same where the target is one that decides.
 fn tell_target(
     moves: &[u32],
-    index: &[u16],
-    links: usize,
+    heads: &[u16],
+    links: &[u16],
     at: usize,
     decides: bool,
     v: u8,
     bad: &mut [u8],
 )
-    requires { ⌜ Linked (length (now bad)) links (now moves) (now index) ⌝ }
-    requires { ⌜ at < links ⌝ }
+    requires { ⌜ Linked (length (now bad)) (now moves) (now heads) (now links) ⌝ }
+    requires { ⌜ at < length (now heads) ⌝ }
     ensures { λ _. ⌜ SetWhere (λ s. decides && oneComes (keyBy (length (now (bad .entry)))) at (now (moves .entry)) s) v (now (bad .entry)) (now (bad .exit)) ⌝ }
 {
     if decides {
-        tell_sources(moves, index, links, at, v, bad);
+        tell_sources(moves, heads, links, at, v, bad);
     }
 }
 
 // The places of the states that a move with the action a leads from, to a target at which the row has c, become v.
 fn tell_targets(
     moves: &[u32],
-    index: &[u16],
-    links: usize,
+    heads: &[u16],
+    links: &[u16],
     a: usize,
     row: &[u8],
     c: u8,
     v: u8,
     bad: &mut [u8],
 )
-    requires { ⌜ Linked (length (now bad)) links (now moves) (now index) ⌝ }
-    requires { ⌜ (a * length (now bad) + length (now bad) ≤ links) × (length (now row) ≡ length (now bad)) ⌝ }
+    requires { ⌜ Linked (length (now bad)) (now moves) (now heads) (now links) ⌝ }
+    requires { ⌜ (a * length (now bad) + length (now bad) ≤ length (now heads)) × (length (now row) ≡ length (now bad)) ⌝ }
     ensures { λ _. ⌜ SetWhere (leadsOne (now (moves .entry)) a (now (row .entry)) c) v (now (bad .entry)) (now (bad .exit)) ⌝ }
 {
     let n = bad.len();
     let mut t: usize = 0;
     while t < n {
-        tell_target(moves, index, links, a * n + t, row[t] == c, v, bad);
+        tell_target(moves, heads, links, a * n + t, row[t] == c, v, bad);
         t = t + 1;
     }
 }
@@ -135,20 +135,20 @@ fn tell_targets(
 // The row of a diamond or a box with the action a, from the row of what it names: a move to a state with the value c decides it.
 fn row_step(
     moves: &[u32],
-    index: &[u16],
-    links: usize,
+    heads: &[u16],
+    links: &[u16],
     a: usize,
     row: &[u8],
     c: u8,
     v: u8,
     bad: &mut [u8],
 )
-    requires { ⌜ Linked (length (now bad)) links (now moves) (now index) ⌝ }
-    requires { ⌜ (a * length (now bad) + length (now bad) ≤ links) × ((length (now row) ≡ length (now bad)) × (v ≤ 1)) ⌝ }
+    requires { ⌜ Linked (length (now bad)) (now moves) (now heads) (now links) ⌝ }
+    requires { ⌜ (a * length (now bad) + length (now bad) ≤ length (now heads)) × ((length (now row) ≡ length (now bad)) × (v ≤ 1)) ⌝ }
     ensures { λ _. ⌜ now (bad .exit) ≡ listed 0 (length (now (bad .entry))) (λ s. told v (leadsOne (now (moves .entry)) a (now (row .entry)) c s)) ⌝ }
 {
     engine_rows::fill_row(bad, 1 - v);
-    tell_targets(moves, index, links, a, row, c, v, bad);
+    tell_targets(moves, heads, links, a, row, c, v, bad);
 }
 
 // The row of an equation that is no constant.
@@ -182,10 +182,11 @@ fn row_told(
         return;
     }
     let row = engine_rows::row_in(values, e.second as usize, n);
+    let links = heads_of(sizes);
     row_step(
         moves,
-        index,
-        heads_of(sizes),
+        &index[..links],
+        &index[links..],
         e.first as usize,
         row,
         c,

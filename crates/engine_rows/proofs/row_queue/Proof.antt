@@ -4,7 +4,6 @@ use Prim.Native.Nat.{ℕ, _+_, _-_, _≤_, _<_}
 use native.Mathlib.Omega.{arith}
 use lib.ListN.{length, getD}
 use lib.Dec.{eqb}
-use Rattle.systems.specs.Rows.{hits}
 use Rattle.engine_rows.specs.Queued.{Queued, queued-none, queued-more, hits-few}
 use borrow.Author.Needs.{needs}
 use Rattle.engine_rows.proofs.row_queue.Statement.{statement}

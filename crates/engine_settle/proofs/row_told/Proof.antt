@@ -1,11 +1,10 @@
 -- The three kinds of row. Assumes nothing.
-use mathlib.Core.Path.{_≡_, refl, sym, ap, _∙_, subst}
+use mathlib.Core.Path.{sym}
 use mathlib.Core.Bool.{not}
-use Prim.Native.Nat.{ℕ, _+_, _*_, _≤_}
 use native.Mathlib.Omega.{arith}
 use lib.ListN.{length}
+use lib.Seq.{length-take-le}
 use lib.Dec.{eqb}
-use Rattle.engine_settle.specs.Sources.{Linked}
 use Rattle.engine_settle.specs.Rows.{byte-small, decides, asked-labels, asked-proposition, asked-first, asked-second, asked-linked, asked-heads, told-label, told-join, told-step, row-long}
 use borrow.Author.Needs.{needs}
 use Rattle.engine_settle.proofs.row_told.Statement.{statement}
@@ -98,22 +97,42 @@ row-in-requires-3 c κs =
 heads-of-requires : tie.Need-heads-of-requires
 heads-of-requires c κs = search needs
 
+slice-aggregate-row-step : tie.Need-slice-aggregate-row-step
+slice-aggregate-row-step c =
+    let at-heads = c .before in
+    let at-start = at-heads .before .before .before .before .before .before .before .before .before .before .before .before .before .before .before in
+    let e = at-heads .heads-of .ensures .0 in
+    let l = at-start .pre .0 .indexed .long in
+    sym (length-take-le (at-heads .heads-of .result) (at-start .args .index .now) (omega arith))
+
+mul-row-step : tie.Need-mul-row-step
+mul-row-step c = search needs
+
+sub-row-step : tie.Need-sub-row-step
+sub-row-step c = search needs
+
+part-row-step-start : tie.Need-part-row-step-start
+part-row-step-start c = search needs
+
+part-row-step-end : tie.Need-part-row-step-end
+part-row-step-end c = search needs
+
 cast-row-step : tie.Need-cast-row-step
 cast-row-step c = search needs
 
 row-step-requires : tie.Need-row-step-requires
 row-step-requires c κs =
-    let at-heads = c .before .before in
+    let at-heads = c .before .before .before .before in
     let at-row = at-heads .before in
     let at-if = at-row .before .before in
     let at-left = at-if .before .before in
     let at-start = at-left .before .before .before .before .before .before .before .before .before .before in
     let a = at-start .args in
     let q = at-start .pre .0 in
-    let e = sym (at-heads .heads-of .ensures .0) in (
-      subst (λ (l : ℕ). Linked (length (a .bad .now)) l (a .moves .now) (a .index .now)) e (asked-linked q),
+    let e = at-heads .heads-of .ensures .0 in (
+      asked-linked q (at-heads .heads-of .result) e,
       (
-        subst (λ (l : ℕ). a .e .first * length (a .bad .now) + length (a .bad .now) ≤ l) e (asked-heads q (at-if .if2 .left)),
+        asked-heads q (at-heads .heads-of .result) e (at-if .if2 .left),
         (
           row-long (a .e .second) (length (a .bad .now)) _ (a .values .now) (asked-second q (at-left .if1 .left)) (at-row .row-in3 .ensures),
           byte-small (not (eqb (decides (a .e .operator)) (a .e .kind))),
@@ -127,8 +146,7 @@ same-length-3 c = search needs
 returns-3 : tie.Need-returns-3
 returns-3 c =
     let at-call = c .before .before in
-    let at-heads = at-call .before .before .before in
-    let at-row = at-heads .before in
+    let at-row = at-call .before .before .before .before .before .before in
     let at-if = at-row .before .before in
     let at-left = at-if .before .before in
     let at-start = at-left .before .before .before .before .before .before .before .before .before .before in
@@ -154,6 +172,11 @@ row-told-spec =
     cast-row-in-3
     row-in-requires-3
     heads-of-requires
+    slice-aggregate-row-step
+    mul-row-step
+    sub-row-step
+    part-row-step-start
+    part-row-step-end
     cast-row-step
     row-step-requires
     same-length-3

@@ -1,43 +1,37 @@
 -- What is left of the chain makes of the places as they are what the whole of it makes of them as they were. Assumes nothing.
-use mathlib.Core.Path.{_≡_, refl, sym, ap, _∙_}
-use Prim.Native.Nat.{ℕ, _+_, _-_, _≤_}
-use native.Mathlib.Nat.{zero-add}
+use mathlib.Core.Path.{_≡_, refl, ap}
+use Prim.Native.Nat.{ℕ, _-_, _≤_}
 use native.Mathlib.Omega.{arith}
 use lib.ListN.{length, getD, set}
-use Rattle.engine_index.specs.ChainWalks.{step-falls}
+use Rattle.engine_index.specs.ChainWalks.{last-le}
 use Rattle.engine_settle.specs.Sources.{keyBy, Telling, telling-begins, telling-goes, telling-ends}
 use borrow.Author.Needs.{needs}
 use Rattle.engine_settle.proofs.tell_sources.Statement.{statement}
 use Rattle.engine_settle.proofs.tell_sources.Tie as tie
 
 abbrev Inv-loop : tie.InvT-loop
-Inv-loop moves index links at v bad₀ k₀ bad k = (k ≤ length moves) × ((length bad ≡ length bad₀) × Telling (keyBy (length bad₀)) moves at v bad₀ k bad)
+Inv-loop moves heads links at v bad₀ k₀ bad k =
+    (k ≤ length moves) × ((length bad ≡ length bad₀) × Telling (keyBy (length bad₀)) moves at v bad₀ k bad)
 
 abbrev μ-loop : tie.MeasureT-loop
-μ-loop moves index links at v bad₀ k₀ bad k = k
+μ-loop moves heads links at v bad₀ k₀ bad k = k
 
 mul-k : tie.Need-mul-k Inv-loop μ-loop
-mul-k c =
-    let at-start = c .before .before .before in
-    let i = at-start .pre .0 .long in
-    record { fits = omega arith }
+mul-k c = search needs
 
 shared-slice-read-k : tie.Need-shared-slice-read-k Inv-loop μ-loop
-shared-slice-read-k c =
-    let at-start = c .before .before .before .before in
-    let i = at-start .pre .0 .long in
-    omega arith
+shared-slice-read-k c = search needs
 
 cast-k : tie.Need-cast-k Inv-loop μ-loop
 cast-k c =
-    let h = c .shared-slice-known3 .given (c .before .before .before .before .args .at) in
+    let h = c .shared-slice-known4 .given (c .before .before .before .before .before .args .at) in
     record { fits = omega (arith, h) }
 
 loop-holds : tie.Need-loop-holds Inv-loop μ-loop
 loop-holds c =
-    let at-start = c .before .before .before .before in
+    let at-start = c .before .before .before .before .before in
     let a = at-start .args in
-    let head = ap (λ (k : ℕ). getD (a .index .now) k 0) (sym (zero-add (a .at))) ∙ at-start .pre .0 .chained .ends (a .at) (omega arith) in
+    let head = at-start .pre .0 .ends (a .at) (at-start .pre .1) in
     let w = telling-begins (keyBy (length (a .bad .now))) (a .moves .now) (a .at) (a .v) (a .bad .now) _ head in
     (w .below, (refl, w))
 
@@ -59,7 +53,7 @@ cast-s c = search needs
 slice-write-bad : tie.Need-slice-write-bad Inv-loop μ-loop
 slice-write-bad c =
     let at-loop = c .before .before .before .before in
-    let at-start = at-loop .before .before .before .before .before in
+    let at-start = at-loop .before .before .before .before .before .before in
     let t = c .before .before .before .loop-test .taken in
     let l = at-loop .loop in
     let i = l .inv in
@@ -67,24 +61,13 @@ slice-write-bad c =
     let b = at-start .pre .0 .from (l .k - 1) (omega arith) in
     omega (arith, b, e)
 
-add-k : tie.Need-add-k Inv-loop μ-loop
-add-k c =
-    let at-loop = c .before .before .before .before in
-    let at-start = at-loop .before .before .before .before .before in
-    let i = at-start .pre .0 .long in
-    record { fits = omega arith }
-
 mul-k-2 : tie.Need-mul-k-2 Inv-loop μ-loop
-mul-k-2 c =
-    let at-loop = c .before .before .before .before in
-    let at-start = at-loop .before .before .before .before .before in
-    let i = at-start .pre .0 .long in
-    record { fits = omega arith }
+mul-k-2 c = search needs
 
 shared-slice-read-k-2 : tie.Need-shared-slice-read-k-2 Inv-loop μ-loop
 shared-slice-read-k-2 c =
     let at-loop = c .before .before .before .before .before in
-    let at-start = at-loop .before .before .before .before .before in
+    let at-start = at-loop .before .before .before .before .before .before in
     let t = c .before .before .before .before .loop-test .taken in
     let i = at-start .pre .0 .long in
     omega arith
@@ -92,29 +75,30 @@ shared-slice-read-k-2 c =
 cast-k-2 : tie.Need-cast-k-2 Inv-loop μ-loop
 cast-k-2 c =
     let at-loop = c .before .before .before .before .before in
-    let a = at-loop .before .before .before .before .before .args in
-    let h = c .shared-slice-known5 .given (a .links + (at-loop .loop .k - 1)) in
+    let h = c .shared-slice-known6 .given (at-loop .loop .k - 1) in
     record { fits = omega (arith, h) }
 
 loop-less : tie.Need-loop-less Inv-loop μ-loop
 loop-less c =
     let at-loop = c .before .before .before .before .before in
-    let at-start = at-loop .before .before .before .before .before in
-    let a = at-start .args in
-    let t = c .before .before .before .before .loop-test .taken in
-    let l = at-loop .loop in
-    step-falls (keyBy (length (a .bad .now))) 0 (a .links) (a .moves .now) (length (a .moves .now)) (a .index .now) (at-start .pre .0 .chained) (l .k) _ t (l .inv .0)
-    refl
-
-loop-again : tie.Need-loop-again Inv-loop μ-loop
-loop-again c =
-    let at-loop = c .before .before .before .before .before in
-    let at-start = at-loop .before .before .before .before .before in
+    let at-start = at-loop .before .before .before .before .before .before in
     let a = at-start .args in
     let t = c .before .before .before .before .loop-test .taken in
     let l = at-loop .loop in
     let i = l .inv .0 in
-    let next = at-start .pre .0 .chained .steps (l .k - 1) (omega arith) in
+    let next = at-start .pre .0 .steps (l .k - 1) (omega arith) in
+    let low = last-le (keyBy (length (a .bad .now))) (a .moves .now) (keyBy (length (a .bad .now)) (getD (a .moves .now) (l .k - 1) 0)) (l .k - 1) in
+    omega (arith, next, low)
+
+loop-again : tie.Need-loop-again Inv-loop μ-loop
+loop-again c =
+    let at-loop = c .before .before .before .before .before in
+    let at-start = at-loop .before .before .before .before .before .before in
+    let a = at-start .args in
+    let t = c .before .before .before .before .loop-test .taken in
+    let l = at-loop .loop in
+    let i = l .inv .0 in
+    let next = at-start .pre .0 .steps (l .k - 1) (omega arith) in
     let w = telling-goes (keyBy (length (a .bad .now))) (a .moves .now) (a .at) (a .v) (a .bad .now) (l .k) (l .k - 1) _ (l .bad) _ (l .inv .1 .1) (omega arith)
     (ap (λ (x : ℕ). set (l .bad) x (a .v)) (c .before .before .source-of .ensures)) next in
     (w .below, (w .long, w))
@@ -125,7 +109,7 @@ same-length c = search needs
 returns : tie.Need-returns Inv-loop μ-loop
 returns c =
     let l = c .before .loop in
-    let a = c .before .before .before .before .before .before .args in
+    let a = c .before .before .before .before .before .before .before .args in
     let t = c .loop-test .left in
     telling-ends (keyBy (length (a .bad .now))) (a .moves .now) (a .at) (a .v) (a .bad .now) (l .k) (l .bad) (l .inv .1 .1) (omega arith)
 
@@ -145,7 +129,6 @@ tell-sources-spec =
     source-of-requires
     cast-s
     slice-write-bad
-    add-k
     mul-k-2
     shared-slice-read-k-2
     cast-k-2

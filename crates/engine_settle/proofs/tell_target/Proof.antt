@@ -1,5 +1,5 @@
 -- Where the target does not decide, nothing changes. Assumes nothing.
-use mathlib.Core.Path.{_≡_, sym, ap, _∙_}
+use mathlib.Core.Path.{sym, ap, _∙_}
 use mathlib.Core.Bool.{Bool, cond, _&&_}
 use lib.ListN.{length, getD}
 use Rattle.engine_settle.specs.Sources.{keyBy, oneComes}
@@ -9,7 +9,7 @@ use Rattle.engine_settle.proofs.tell_target.Tie as tie
 
 tell-sources-requires : tie.Need-tell-sources-requires
 tell-sources-requires c κs =
-    let at-start = c .before .before .before .before .before in
+    let at-start = c .before .before .before .before .before .before in
     at-start .pre
 
 same-length : tie.Need-same-length
@@ -17,13 +17,13 @@ same-length c = search needs
 
 returns : tie.Need-returns
 returns c =
-    let a = c .before .before .before .before .before .before .before .before .args in
+    let a = c .before .before .before .before .before .before .before .before .before .args in
     λ s h. c .before .before .tell-sources .ensures s h
     ∙ ap (λ (b : Bool). cond (b && oneComes (keyBy (length (a .bad .now))) (a .at) (a .moves .now) s) (a .v) (getD (a .bad .now) s 0)) (sym (c .before .before .before .before .if1 .taken))
 
 returns-2 : tie.Need-returns-2
 returns-2 c =
-    let a = c .before .before .before .before .args in
+    let a = c .before .before .before .before .before .args in
     λ s h. sym (ap (λ (b : Bool). cond (b && oneComes (keyBy (length (a .bad .now))) (a .at) (a .moves .now) s) (a .v) (getD (a .bad .now) s 0)) (c .if1 .left))
 
 pub tell-target-spec : {M : Type 1} → statement M

@@ -1,38 +1,35 @@
 -- The targets below t have been gone through. Assumes nothing.
-use mathlib.Core.Path.{_≡_, refl, sym, ap, _∙_, subst}
-use mathlib.Core.Bool.{_&&_}
-use Prim.Native.Nat.{ℕ, _+_, _-_, _*_, _≤_}
+use mathlib.Core.Path.{_≡_, refl, sym, subst}
+use Prim.Native.Nat.{ℕ, _-_, _≤_}
 use native.Mathlib.Omega.{arith}
-use lib.ListN.{length, getD}
-use lib.Dec.{eqb}
-use Rattle.engine_settle.specs.Told.{SetWhere}
-use Rattle.engine_settle.specs.Sources.{keyBy, oneComes, Linked}
+use lib.ListN.{length}
+use Rattle.engine_settle.specs.Sources.{Linked}
 use Rattle.engine_settle.specs.Targets.{Reached, reached-none, reached-more, reached-all}
 use borrow.Author.Needs.{needs}
 use Rattle.engine_settle.proofs.tell_targets.Statement.{statement}
 use Rattle.engine_settle.proofs.tell_targets.Tie as tie
 
 abbrev Inv-loop : tie.InvT-loop
-Inv-loop moves index links a row c v bad₀ n t₀ bad t = (t ≤ length bad₀) × ((length bad ≡ length bad₀) × Reached moves a row c v bad₀ t bad)
+Inv-loop moves heads links a row c v bad₀ n t₀ bad t = (t ≤ length bad₀) × ((length bad ≡ length bad₀) × Reached moves a row c v bad₀ t bad)
 
 abbrev μ-loop : tie.MeasureT-loop
-μ-loop moves index links a row c v bad₀ n t₀ bad t = length bad₀ - t
+μ-loop moves heads links a row c v bad₀ n t₀ bad t = length bad₀ - t
 
 loop-holds : tie.Need-loop-holds Inv-loop μ-loop
 loop-holds c =
-    let at-start = c .before .before .before .before in
+    let at-start = c .before .before .before .before .before in
     let a = at-start .args in
     (omega arith, (refl, reached-none (length (a .bad .now)) (a .moves .now) (at-start .pre .0 .into) (a .a) (a .row .now) (a .c) (a .v) (a .bad .now)))
 
 mul-tell-target : tie.Need-mul-tell-target Inv-loop μ-loop
 mul-tell-target c =
-    let at-start = c .before .before .before .before .before .before in
+    let at-start = c .before .before .before .before .before .before .before in
     let l = at-start .pre .1 .0 in
     record { fits = omega arith }
 
 add-tell-target : tie.Need-add-tell-target Inv-loop μ-loop
 add-tell-target c =
-    let at-start = c .before .before .before .before .before .before in
+    let at-start = c .before .before .before .before .before .before .before in
     let l = at-start .pre .1 .0 in
     let t = c .loop-test .taken in
     record { fits = omega arith }
@@ -43,11 +40,11 @@ shared-slice-read-tell-target c = search needs
 tell-target-requires : tie.Need-tell-target-requires Inv-loop μ-loop
 tell-target-requires c κs =
     let at-loop = c .before .before .before in
-    let at-start = at-loop .before .before .before .before .before in
+    let at-start = at-loop .before .before .before .before .before .before in
     let a = at-start .args in
     let t = c .before .before .loop-test .taken in
     let l = at-start .pre .1 .0 in
-    (subst (λ (n : ℕ). Linked n (a .links) (a .moves .now) (a .index .now)) (sym (at-loop .loop .inv .1 .0)) (at-start .pre .0), omega arith)
+    (subst (λ (n : ℕ). Linked n (a .moves .now) (a .heads .now) (a .links .now)) (sym (at-loop .loop .inv .1 .0)) (at-start .pre .0), omega arith)
 
 add-t : tie.Need-add-t Inv-loop μ-loop
 add-t c = search needs
@@ -59,7 +56,7 @@ loop-again : tie.Need-loop-again Inv-loop μ-loop
 loop-again c =
     let at-call = c .before .before in
     let at-loop = at-call .before .before .before .before in
-    let at-start = at-loop .before .before .before .before .before in
+    let at-start = at-loop .before .before .before .before .before .before in
     let a = at-start .args in
     let l = at-loop .loop in
     let t = at-call .before .before .before .loop-test .taken in
@@ -73,7 +70,7 @@ same-length c = search needs
 returns : tie.Need-returns Inv-loop μ-loop
 returns c =
     let l = c .before .loop in
-    let at-start = c .before .before .before .before .before .before in
+    let at-start = c .before .before .before .before .before .before .before in
     let a = at-start .args in
     let t = c .loop-test .left in
     let i = l .inv .0 in
