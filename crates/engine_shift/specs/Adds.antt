@@ -6,6 +6,7 @@ use mathlib.Core.List.{List}
 use Prim.Native.Nat.{ℕ, _+_, _≤_, _<_}
 use native.Mathlib.Decide.{ℕ-discrete}
 use native.Mathlib.Omega.{arith}
+use mir.Val.{boolByte}
 use lib.ListN.{length, getD, set, take, replicate, length-set}
 use lib.Seq.{getD-set-same, getD-set-other}
 use lib.Dec.{eqb, ltb}
@@ -14,7 +15,7 @@ use Rattle.lists.specs.Tests.{tell, eqb-same, eqb-no, and-no, and-true, or-fals
 use Rattle.lists.specs.TableLaws.{bit-back}
 use Rattle.lists.specs.Entries.{set-le, zeros-at}
 use Rattle.engine_rows.specs.Rooms.{Bits}
-use Rattle.engine_rows.specs.Filled.{bit-small}
+use Rattle.engine_rows.specs.Filled.{byte-bit, bit-small}
 use Rattle.engine_shift.specs.Anys.{or-both, any-more}
 
 -- The row `new` is `old` with 1 at the places that pass the test as well.
@@ -78,6 +79,11 @@ adds-one l r k h e = adds-at l r true k 1 h (sym (ap bit (last (eqb (getD l r 0)
     last : (x : Bool) → (x || true) ≡ true
     last true = refl
     last false = refl
+
+-- What a place becomes, where its number and what is asked were found so.
+pub byte-found : (l : List ℕ) (r p : ℕ) (x y : Bool) → r ≡ p → x ≡ y → boolByte (eqb (getD l r 0) 1 || x) ≡ bit (eqb (getD l p 0) 1 || y)
+byte-found l r p x y e f =
+    byte-bit (eqb (getD l r 0) 1 || x) ∙ ap (λ (n : ℕ). bit (eqb (getD l n 0) 1 || x)) e ∙ ap (λ (z : Bool). bit (eqb (getD l p 0) 1 || z)) f
 
 -- A list that is gone through word by word: each word adds its place where it passes the test f, and the words before i have been asked.
 pub adds-word : (f : ℕ → Bool) (place : ℕ → ℕ) (l a b : List ℕ) (i : ℕ) (c : List ℕ) (x : ℕ) → i < length l → place (getD l i 0) < length a

@@ -7,10 +7,9 @@ use mir.Val.{boolByte}
 use lib.ListN.{length, getD, set, take}
 use lib.Seq.{take-all}
 use lib.Dec.{eqb}
-use Rattle.lists.specs.Lists.{any, bit}
+use Rattle.lists.specs.Lists.{any}
 use Rattle.rules.specs.Moves.{source}
-use Rattle.engine_rows.specs.Filled.{byte-bit}
-use Rattle.engine_shift.specs.Adds.{Adds, adds-none, adds-word, adds-same}
+use Rattle.engine_shift.specs.Adds.{Adds, adds-none, adds-word, adds-same, byte-found}
 use Rattle.engine_shift.specs.Seeds.{touches, touchesAt}
 use Rattle.engine_shift.specs.ChangeSeeds.{change-inside}
 use borrow.Author.Needs.{needs}
@@ -98,7 +97,7 @@ loop-again c =
     let x : Bool = at-touches .touches-row .result in
     let r = c .before .wide .result in
     let w = adds-word f (λ (w : ℕ). source (w / 2)) (a .changes .now) (a .bad .now) (l .bad) (l .i) _ (boolByte (eqb (getD (l .bad) r 0) 1 || x)) (omega arith) (omega arith) (l .inv .1 .1)
-    (byte-bit (eqb (getD (l .bad) r 0) 1 || x) ∙ ap (λ (n : ℕ). bit (eqb (getD (l .bad) n 0) 1 || x)) e ∙ ap (λ (y : Bool). bit (eqb (getD (l .bad) (source (getD (a .changes .now) (l .i) 0 / 2)) 0) 1 || y)) (at-touches .touches-row .ensures))
+    (byte-found (l .bad) r (source (getD (a .changes .now) (l .i) 0 / 2)) x (f (getD (a .changes .now) (l .i) 0)) e (at-touches .touches-row .ensures))
     (ap (λ (n : ℕ). set (l .bad) n (boolByte (eqb (getD (l .bad) r 0) 1 || x))) e) in
     (omega arith, (w .long, w))
 
