@@ -25,6 +25,9 @@ use Rattle.words.specs.Table.{Table, modelOf, Drawn, wordAt, ownIn, waiter}
 use Rattle.words.specs.EquationWords.{own-word}
 use Rattle.words.specs.Limits.{limits, pairs-few}
 use Rattle.engine_rows.specs.Rooms.{Packed, pileIn}
+use Rattle.engine_turn.specs.Scene.{sketch, Bounded}
+use Rattle.engine_turn.specs.Turns.{Visit, visited, Turned, roundOf}
+use Rattle.engine_turn.specs.TurnRuns.{leaners-same}
 use Rattle.engine_phase.specs.LeanersFew.{most-leaners, leaners-few}
 use Rattle.engine_phase.specs.Course.{On, on-room, on-row, on-pass, on-over, on-turning, on-turn, on-few}
 
@@ -186,3 +189,16 @@ module _ {t : Table} (dr : Drawn t) (cs : List Change) (i : ℕ) (ph : Bool) (lo
       few : (other : ℕ) (b : Bool) → (cond b other visits + most-leaners < 4294967296) × (cond b visits other + most-leaners < 4294967296) → visits + most-leaners < 4294967296
       few other true h = h .1
       few other false h = h .0
+
+  -- The same, as a turn asks for it: whatever the labels.
+  pub front-bounded : Somewhere t cs turning → Bounded tail visits (leanersOf (modelOf (sketch (t .sizes) (t .equations) (t .moves))) pairOf)
+  front-bounded s = subst (Bounded tail visits) (leaners-same (t .sizes) (t .labels) [] (t .equations) (t .moves) pairOf) (front-few s)
+
+  -- What a turn leaves is on the course.
+  pub leads-turned : (values′ marks′ queue′ : List ℕ) (tail′ visits′ : ℕ)
+      → Turned (t .sizes) (t .equations) (t .moves) ph front word (roundOf values marks queue tail visits) (roundOf values′ marks′ queue′ tail′ visits′)
+      → Leads t cs turning (λ other. jobIn (t .sizes) i ph place values′ marks′ queue′ (front + 1) tail′ visits′ other)
+  unfolding visited
+  leads-turned values′ marks′ queue′ tail′ visits′ made =
+      let e = made .visits (t .labels) dr in
+      leads-turn values′ marks′ queue′ tail′ visits′ (made .values) (ap (λ (v : Visit). v .pile) e) (ap (λ (v : Visit). v .visits) e)

@@ -125,7 +125,3 @@ module _ (z : Sizes) (y : ℕ) (values bad turns : List ℕ) (from p n : ℕ) (i
       packed = packed-more z y (λ s. eqb (getD turns s 0) 1) queue queue′ tail n tail′ lt within few (omega arith) (is-tail ∙ ap (λ (k : ℕ). tail + length (hits (λ s. eqb (getD turns s 0) 1) 0 k)) turns-long)
           (front ∙ ap (λ (k : ℕ). take tail queue ++ map (waitingOf y) (hits (λ s. eqb (getD turns s 0) 1) 0 k)) turns-long) packed;
     }
-
--- STUB
-pub record Named (equations named operand : List ℕ) : Type 0 where
-  pub x : ℕ

@@ -1,4 +1,5 @@
 // One phase of one block: all its rows are looked at, then the pairs that wait turn, first come first served.
+use engine_turn::Spread;
 use rules::Sizes;
 use rules::Variable;
 ghost use mathlib.Core.Path.{_≡_};
@@ -22,43 +23,10 @@ ghost use Rattle.laws.specs.ModelLeaners.{leanersOf};
 ghost use Rattle.laws.specs.LookTest.{lookTest};
 ghost use Rattle.words.specs.Table.{tableIn, modelOf, Drawn, ownIn, pairIn, changesOf, waiter};
 ghost use Rattle.engine_index.specs.Indexed.{Indexed};
+ghost use Rattle.engine_index.specs.Operands.{Named};
 ghost use Rattle.engine_rows.specs.Rooms.{Bits, Packed, pileIn, Tells, Told};
 ghost use Rattle.engine_phase.specs.Phase.{RowLeft, Somewhere, Leads, jobIn, blockAfter};
-ghost use Rattle.engine_phase.specs.PutRow.{turnsIn, Named, turnsFrom};
-
-pub struct Spread {
-    pub tail: usize,
-    pub visits: usize,
-}
-
-fn turn(
-    sizes: Sizes,
-    labels: &[u32],
-    equations: &[u32],
-    moves: &[u32],
-    index: &[u16],
-    named: &[u8],
-    operand: &[u32],
-    values: &mut [u8],
-    marks: &mut [u8],
-    queue: &mut [u16],
-    front: usize,
-    at: Spread,
-    settling: bool,
-) -> Spread
-    requires { ⌜ Drawn (tableIn sizes (now labels) (now equations) (now moves)) ⌝ }
-    requires { ⌜ Indexed (tableIn sizes (now labels) (now equations) (now moves)) (now index) × Named (now equations) (now named) (now operand) ⌝ }
-    requires { ⌜ (length (now values) ≡ pairsOf sizes) × ((length (now marks) ≡ pairsOf sizes) × Bits (now values)) ⌝ }
-    requires { ⌜ Packed sizes (now queue) (at .tail) × (front < at .tail) ⌝ }
-    requires { ⌜ valueAt (now values) (waiter sizes (getD (now queue) front 0)) ≡ cond settling (ownIn (tableIn sizes (now labels) (now equations) (now moves)) (getD (now queue) front 0 / 1024)) (not (ownIn (tableIn sizes (now labels) (now equations) (now moves)) (getD (now queue) front 0 / 1024))) ⌝ }
-    requires { ⌜ (at .tail + length (leanersOf (modelOf (tableIn sizes (now labels) (now equations) (now moves))) (waiter sizes (getD (now queue) front 0))) < 4294967296) × (at .visits + length (leanersOf (modelOf (tableIn sizes (now labels) (now equations) (now moves))) (waiter sizes (getD (now queue) front 0))) < 4294967296) ⌝ }
-    ensures { λ r. ⌜ ((now (values .exit) ≡ set (now (values .entry)) (waiter sizes (getD (now (queue .entry)) front 0)) (turned (getD (now (values .entry)) (waiter sizes (getD (now (queue .entry)) front 0)) 0)))
-        × (pileIn sizes (now (marks .exit)) (now (queue .exit)) (suc front) (r .tail)
-        ≡ spreadL (free settling) (nextMark settling) (asks (frame (modelOf (tableIn sizes (now (labels .entry)) (now (equations .entry)) (now (moves .entry))))) (leanings (modelOf (tableIn sizes (now (labels .entry)) (now (equations .entry)) (now (moves .entry))))) settling (valOf (now (values .exit)))) (leanersOf (modelOf (tableIn sizes (now (labels .entry)) (now (equations .entry)) (now (moves .entry)))) (waiter sizes (getD (now (queue .entry)) front 0))) (pileIn sizes (now (marks .entry)) (now (queue .entry)) (suc front) (at .tail))))
-        × ((r .visits ≡ at .visits + length (leanersOf (modelOf (tableIn sizes (now (labels .entry)) (now (equations .entry)) (now (moves .entry)))) (waiter sizes (getD (now (queue .entry)) front 0)))) × Packed sizes (now (queue .exit)) (r .tail)) ⌝ }
-{
-    at
-}
+ghost use Rattle.engine_phase.specs.PutRow.{turnsIn, turnsFrom};
 
 // The pairs of the row of y that have the value `from` and whose places are bad get their marks and wait.
 fn put_row(
@@ -258,7 +226,7 @@ pub fn phase(
     settling: bool,
 ) -> usize
     requires { ⌜ Drawn (tableIn sizes (now labels) (now equations) (now moves)) ⌝ }
-    requires { ⌜ (Indexed (tableIn sizes (now labels) (now equations) (now moves)) (now index) × Named (now equations) (now named) (now operand)) × (changesOk sizes (changesOf (now changes)) ≡ true) ⌝ }
+    requires { ⌜ (Indexed (tableIn sizes (now labels) (now equations) (now moves)) (now index) × Named (tableIn sizes (now labels) (now equations) (now moves)) (now named) (now operand)) × (changesOk sizes (changesOf (now changes)) ≡ true) ⌝ }
     requires { ⌜ (block < blocksOf (modelOf (tableIn sizes (now labels) (now equations) (now moves)))) × ((length (now bad) ≡ sizes .states) × (pairsOf sizes < length (now queue))) ⌝ }
     requires { ⌜ Somewhere {I = ℕ} (tableIn sizes (now labels) (now equations) (now moves)) (changesOf (now changes)) (λ other. jobIn sizes block settling 0 (now values) (now marks) (now queue) 0 0 visits other) ⌝ }
     ensures { λ r. ⌜ Leads {I = ℕ} (tableIn sizes (now (labels .entry)) (now (equations .entry)) (now (moves .entry))) (changesOf (now (changes .entry)))
@@ -285,9 +253,8 @@ pub fn phase(
     };
     let mut front: usize = 0;
     while front < at.tail {
-        at = turn(
+        at = engine_turn::turn(
             sizes,
-            labels,
             equations,
             moves,
             index,

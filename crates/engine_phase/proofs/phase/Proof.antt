@@ -9,14 +9,14 @@ use Rattle.words.specs.Table.{tableIn, changesOf}
 use Rattle.words.specs.Limits.{pairs-few}
 use Rattle.engine_rows.specs.Rooms.{Packed}
 use Rattle.engine_phase.specs.Course.{on-vals, on-marks, on-bits, on-room}
-use Rattle.engine_phase.specs.Phase.{Leads, leads-on, leads-over, leads-turn, front-value, front-few, jobIn}
+use Rattle.engine_phase.specs.Phase.{Leads, leads-on, leads-over, leads-turned, front-value, front-bounded, jobIn}
 use borrow.Author.Needs.{needs}
 use Rattle.engine_phase.proofs.phase.Statement.{statement}
 use Rattle.engine_phase.proofs.phase.Tie as tie
 use Rattle.engine_phase.proofs.phase.Reads as reads
 use Rattle.engine_phase.proofs.phase.Lts as lts
 use Rattle.engine_phase.proofs.look_rows.Reads as look-rows-reads
-use Rattle.engine_phase.proofs.turn.Reads as turn-reads
+use Rattle.engine_turn.proofs.turn.Reads as turn-reads
 
 abbrev Inv-loop : tie.InvT-loop
 Inv-loop sizes labels equations moves index named operand changes values₀ marks₀ queue₀ bad block visits settling tail at₀ front₀ values marks queue at front =
@@ -52,22 +52,12 @@ turn-requires c κs =
     let inv = l .inv in
     let waits = c .before .before .before .if1 .taken in
     let sw = leads-on (inv .1 .1) (record { start = pre .1 .1 .1 .start; index = pre .1 .1 .1 .index; on = at-rows .look-rows .ensures .1 (pre .1 .1 .1 .start) (a .visits, pre .1 .1 .1 .index) (pre .1 .1 .1 .on) }) in
-    let d = jobIn (a .sizes) (a .block) (a .settling) (pairsOf (a .sizes)) (l .values) (l .marks) (l .queue) (l .front) (l .at .tail) (l .at .visits) (sw .index) in (
-      pre .0,
-      (
-        (pre .1 .0 .0 .0, pre .1 .0 .0 .1),
-        (
-          (on-vals (pre .0) d (sw .on), (on-marks (pre .0) d (sw .on), on-bits (pre .0) d (sw .on))),
-          (
-            (inv .1 .0, waits),
-            (
-              front-value (pre .0) cs (a .block) (a .settling) low (pairsOf (a .sizes)) (omega arith) (l .values) (l .marks) (l .queue) (l .front) (l .at .tail) (l .at .visits) waits (inv .1 .0) sw,
-              front-few (pre .0) cs (a .block) (a .settling) low (pairsOf (a .sizes)) (omega arith) (l .values) (l .marks) (l .queue) (l .front) (l .at .tail) (l .at .visits) waits sw,
-            ),
-          ),
-        ),
-      ),
-    )
+    let d = jobIn (a .sizes) (a .block) (a .settling) (pairsOf (a .sizes)) (l .values) (l .marks) (l .queue) (l .front) (l .at .tail) (l .at .visits) (sw .index) in
+    let index = pre .1 .0 .0 .0 in
+    (record { labels = a .labels .now; drawn = pre .0 }, (record { long = index .long; chained = index .chained }, (pre .1 .0 .0 .1, ((on-vals (pre .0) d (sw .on), on-marks (pre .0) d (sw .on)),
+    ((on-bits (pre .0) d (sw .on), (inv .1 .0, waits)),
+    (front-value (pre .0) cs (a .block) (a .settling) low (pairsOf (a .sizes)) (omega arith) (l .values) (l .marks) (l .queue) (l .front) (l .at .tail) (l .at .visits) waits (inv .1 .0) sw,
+    front-bounded (pre .0) cs (a .block) (a .settling) low (pairsOf (a .sizes)) (omega arith) (l .values) (l .marks) (l .queue) (l .front) (l .at .tail) (l .at .visits) waits sw))))))
 
 add-front : tie.Need-add-front Inv-loop μ-loop
 add-front c =
@@ -126,12 +116,12 @@ loop-again c =
     let room = on-room (pre .0) d (sw .on) waits in
     let made = at-turn .turn .ensures in
     let kept = at-turn .turn .kept in (
-      (kept .1 .1 .1 .1 .1 .1 .1 .0 ∙ inv .0 .0, (kept .1 .1 .1 .1 .1 .1 .1 .1 .0 ∙ inv .0 .1 .0, kept .1 .1 .1 .1 .1 .1 .1 .1 .1 .0 ∙ inv .0 .1 .1)),
+      (kept .1 .1 .1 .1 .1 .1 .0 ∙ inv .0 .0, (kept .1 .1 .1 .1 .1 .1 .1 .0 ∙ inv .0 .1 .0, kept .1 .1 .1 .1 .1 .1 .1 .1 .0 ∙ inv .0 .1 .1)),
       (
-        made .1 .1,
+        made .packed,
         λ vs other o.
-            leads-turn (pre .0) cs (a .block) (a .settling) low (pairsOf (a .sizes)) (omega arith) (l .values) (l .marks) (l .queue) (l .front) (l .at .tail) (l .at .visits) waits
-            (at-turn .turn .last .1 .1 .1 .1 .1 .1 .1 .0) (at-turn .turn .last .1 .1 .1 .1 .1 .1 .1 .1 .0) (at-turn .turn .last .1 .1 .1 .1 .1 .1 .1 .1 .1 .0) (at-turn .turn .result .tail) (at-turn .turn .result .visits) (made .0 .0) (made .0 .1) (made .1 .0) vs other (inv .1 .1 vs other o),
+            leads-turned (pre .0) cs (a .block) (a .settling) low (pairsOf (a .sizes)) (omega arith) (l .values) (l .marks) (l .queue) (l .front) (l .at .tail) (l .at .visits) waits
+            (at-turn .turn .last .1 .1 .1 .1 .1 .1 .0) (at-turn .turn .last .1 .1 .1 .1 .1 .1 .1 .0) (at-turn .turn .last .1 .1 .1 .1 .1 .1 .1 .1 .0) (at-turn .turn .result .tail) (at-turn .turn .result .visits) made vs other (inv .1 .1 vs other o),
       ),
     )
 
