@@ -6,8 +6,8 @@ use mathlib.Core.List.{List, [], _++_}
 use Prim.Native.Nat.{ℕ, _+_, _≤_, _<_}
 use native.Mathlib.Decide.{decLt}
 use native.Mathlib.Omega.{arith}
-use lib.ListN.{length, getD, take, drop, replicate, length-replicate, List·getD-eq-default}
-use lib.Seq.{getD-take, take-at, drop-append-seam}
+use lib.ListN.{length, getD, take, drop, replicate, length-replicate, length-append, List·getD-eq-default}
+use lib.Seq.{getD-take, take-at, drop-append-seam, length-take-le}
 use lib.Dec.{eqb}
 use lib.IntN.{ℤ, pos, _-ℤ_}
 use Rattle.lists.specs.Lists.{bit, listed, fill}
@@ -20,7 +20,7 @@ use Rattle.systems.specs.Marks.{shiftOf, settleOf}
 use Rattle.systems.specs.Machine.{own}
 use Rattle.systems.specs.LoadSolves.{load-solve}
 use Rattle.rules.specs.Model.{Model, blocksOf}
-use Rattle.rules.specs.Rooms.{pairsOf}
+use Rattle.rules.specs.Rooms.{pairsOf, indexNeeds}
 use Rattle.rules.specs.Batch.{Change, edited}
 use Rattle.rules.specs.Values.{Values, leanings, greatestIn, greatest, solve}
 use Rattle.rules.specs.Update.{changed, Turned, turnAll, markOf, visitsOn, trues, netOf}
@@ -32,6 +32,12 @@ use Rattle.laws.specs.OneKind.{greatest-out}
 use Rattle.laws.specs.Accepted.{values-held}
 use Rattle.laws.specs.ValuesSolve.{solve-same}
 use Rattle.laws.specs.UpdateMoves.{update-values, update-shifted, update-settled, visits-agree}
+use native.Mathlib.Nat.{mul-comm}
+use Rattle.rules.specs.Limits.{most-moves}
+use Rattle.rules.specs.declared.Sizes.{Sizes}
+use Rattle.words.specs.Lent.{Drawn, drawn-cut}
+use Rattle.words.specs.Limits.{limits}
+use Rattle.engine_index.specs.Indexed.{headsOf}
 use Rattle.engine_values.specs.Starts.{part-changed, net-counted}
 use Rattle.engine_phase.specs.Started.{Started, withMoves}
 
@@ -251,3 +257,29 @@ module _ (m : Model) (ok : Sound m) (values₀ own-room : List ℕ) (room : pair
     where
       long : length (d .part-marks) ≡ pairsOf (m .sizes)
       long = ap length (d .moved .marks-are) ∙ listed-length 0 (pairsOf (m .sizes)) _
+
+-- A room in which a part was changed, cleared so far.
+pub fill-over : (n : ℕ) (room part : List ℕ) → length part ≡ n → fill (replicate n 0) (part ++ drop n room) ≡ fill (replicate n 0) room
+fill-over n room part l = fill-again n (replicate n 0) part (part ++ drop n room) room (length-replicate n 0) l (part-changed n part room l)
+
+-- Such a room is as long as the part at least.
+pub joined-long : (n : ℕ) (part room : List ℕ) → length part ≡ n → n ≤ length (part ++ drop n room)
+joined-long n part room l = let e = length-append part (drop n room) in omega arith
+
+-- A room that was cleared, worked in as far as it was cut, and cleared again so far.
+pub cleared-again : (n : ℕ) (room cleared part again : List ℕ) → cleared ≡ fill (replicate n 0) room → length part ≡ n → again ≡ fill (replicate n 0) (part ++ drop n cleared)
+    → again ≡ fill (replicate n 0) room
+cleared-again n room cleared part again e l f =
+    f ∙ fill-over n cleared part l
+    ∙ fill-again n (replicate n 0) (replicate n 0) cleared room (length-replicate n 0) (length-replicate n 0) e
+
+-- A model in rooms holds no more moves than the limit.
+pub lent-few : (z : Sizes) (labels equations moves : List ℕ) (n : ℕ) → Drawn z labels equations moves n → n ≤ most-moves
+lent-few z labels equations moves n d =
+    let k = limits (drawn-cut z labels equations moves n d) .1 .1 .1 in
+    let e = length-take-le n moves (d .long-moves) in
+    omega arith
+
+-- The index has a head for each action and target, and a link for each move.
+pub links-fit : (z : Sizes) (room n : ℕ) → n ≤ room → n ≤ most-moves → headsOf z + n ≤ indexNeeds z room
+links-fit z room n h k = let e = mul-comm (z .actions) (z .states) in omega arith

@@ -1,0 +1,110 @@
+-- From each block's own value the update finds the fixpoints. Assumes nothing.
+use mathlib.Core.Path.{refl, ap, _∙_}
+use Prim.Native.Nat.{ℕ}
+use native.Mathlib.Omega.{arith}
+use lib.Dec.{eqb}
+use Rattle.lists.specs.Lists.{fill}
+use Rattle.rules.specs.Calls.{bits}
+use Rattle.words.specs.Lent.{tableOf, kindIn, drawn-sound}
+use Rattle.engine_values.specs.Starts.{own-filled}
+use Rattle.engine.specs.Updates.{load-starts, load-leaves, load-clears}
+use borrow.Author.Needs.{needs}
+use Rattle.engine.proofs.load_values.Statement.{statement}
+use Rattle.engine.proofs.load_values.Tie as tie
+use Rattle.engine.proofs.load_values.Reads as reads
+use Rattle.engine.proofs.load_values.Lts as lts
+use Rattle.engine.proofs.move_in_rooms.Reads as move-in-rooms-reads
+use Rattle.engine_values.proofs.clear.Reads as clear-reads
+use Rattle.engine_values.proofs.own_values.Reads as own-values-reads
+use Rattle.limits.proofs.pairs_of.Reads as pairs-of-reads
+
+pairs-of-requires : tie.Need-pairs-of-requires
+pairs-of-requires c κs = search needs
+
+own-values-requires : tie.Need-own-values-requires
+own-values-requires c κs =
+    let at-start = c .before .before .before .before .before .before .before .before .before in
+    let a = at-start .args in
+    let d = at-start .pre .0 in
+    let is-pairs = c .before .pairs-of .ensures .0 in
+    (drawn-sound (a .sizes) (a .labels .now) (a .equations .now) (a .moves .now) (a .n) d .some, omega (arith, at-start .pre .1 .0 .0))
+
+move-in-rooms-requires : tie.Need-move-in-rooms-requires
+move-in-rooms-requires c κs =
+    let at-own = c .before .before .before .before .before .before in
+    let at-pairs = at-own .before .before in
+    let at-start = at-pairs .before .before .before .before .before .before .before .before in
+    let a = at-start .args in
+    let m = tableOf (a .sizes) (a .labels .now) (a .equations .now) (a .moves .now) (a .n) in
+    let d = at-start .pre .0 in
+    let rooms = at-start .pre .1 .0 in
+    let ok = drawn-sound (a .sizes) (a .labels .now) (a .equations .now) (a .moves .now) (a .n) d in
+    let is-pairs = at-pairs .pairs-of .ensures .0 in
+    let is-own = at-own .own-values .ensures ∙ ap (λ (q : ℕ). fill (bits q (λ p. eqb (kindIn (a .sizes) (a .equations .now) p) 1)) (a .values .now)) is-pairs
+    ∙ own-filled (a .sizes) (a .labels .now) (a .equations .now) (a .moves .now) (a .n) d (a .values .now) in
+    let kept = at-own .own-values .kept .1 .1 .1 .0 in
+    (d, (refl, (load-starts m ok (a .values .now) _ (rooms .0) is-own, (((omega (arith, rooms .0), rooms .1), omega arith), at-start .pre .1 .1))))
+
+clear-requires : tie.Need-clear-requires
+clear-requires c κs =
+    let at-own = c .before .before .before .before .before .before .before .before .before .before .before .before .before .before .before .before in
+    let at-pairs = at-own .before .before in
+    let at-start = at-pairs .before .before .before .before .before .before .before .before in
+    let a = at-start .args in
+    let m = tableOf (a .sizes) (a .labels .now) (a .equations .now) (a .moves .now) (a .n) in
+    let d = at-start .pre .0 in
+    let rooms = at-start .pre .1 .0 in
+    let ok = drawn-sound (a .sizes) (a .labels .now) (a .equations .now) (a .moves .now) (a .n) d in
+    let is-pairs = at-pairs .pairs-of .ensures .0 in
+    let is-own = at-own .own-values .ensures ∙ ap (λ (q : ℕ). fill (bits q (λ p. eqb (kindIn (a .sizes) (a .equations .now) p) 1)) (a .values .now)) is-pairs
+    ∙ own-filled (a .sizes) (a .labels .now) (a .equations .now) (a .moves .now) (a .n) d (a .values .now) in
+    let kept = at-own .own-values .kept .1 .1 .1 .0 in
+    let at-move = c .before .before .before .before .before .before .before .before .before in
+    let marked = at-move .move-in-rooms .kept .1 .1 .1 .1 .1 .1 .1 .1 .0 in
+    omega (arith, rooms .1)
+
+same-length : tie.Need-same-length
+same-length c = search needs
+
+same-length-2 : tie.Need-same-length-2
+same-length-2 c = search needs
+
+same-length-3 : tie.Need-same-length-3
+same-length-3 c = search needs
+
+same-length-4 : tie.Need-same-length-4
+same-length-4 c = search needs
+
+returns : tie.Need-returns
+returns c =
+    let at-own = c .before .before .before .before .before .before .before .before .before .before .before .before .before .before .before .before .before .before .before in
+    let at-pairs = at-own .before .before in
+    let at-start = at-pairs .before .before .before .before .before .before .before .before in
+    let a = at-start .args in
+    let m = tableOf (a .sizes) (a .labels .now) (a .equations .now) (a .moves .now) (a .n) in
+    let d = at-start .pre .0 in
+    let rooms = at-start .pre .1 .0 in
+    let ok = drawn-sound (a .sizes) (a .labels .now) (a .equations .now) (a .moves .now) (a .n) d in
+    let is-pairs = at-pairs .pairs-of .ensures .0 in
+    let is-own = at-own .own-values .ensures ∙ ap (λ (q : ℕ). fill (bits q (λ p. eqb (kindIn (a .sizes) (a .equations .now) p) 1)) (a .values .now)) is-pairs
+    ∙ own-filled (a .sizes) (a .labels .now) (a .equations .now) (a .moves .now) (a .n) d (a .values .now) in
+    let kept = at-own .own-values .kept .1 .1 .1 .0 in
+    let at-clear = c .before .before in
+    let at-move = at-clear .before .before .before .before .before .before .before .before .before .before in
+    let moved = at-move .move-in-rooms .ensures in
+    ((load-leaves m ok (a .values .now) _ (rooms .0) is-own (a .marks .now) _ _ _ _ (moved .0),
+    load-clears m ok (a .values .now) _ (rooms .0) is-own (a .marks .now) _ _ _ _ _ (at-pairs .pairs-of .result) (moved .0) is-pairs (at-clear .clear .ensures)), moved .1)
+
+pub load-values-spec : {M : Type 1} → statement M
+load-values-spec =
+    tie.close
+    (tie.spec
+    pairs-of-requires
+    own-values-requires
+    move-in-rooms-requires
+    clear-requires
+    same-length
+    same-length-2
+    same-length-3
+    same-length-4
+    returns)
