@@ -5,9 +5,9 @@ use Prim.Native.Nat.{ℕ, zero, suc, _+_, _-_, _≤_, _<_}
 use native.Mathlib.Nat.{add-zero}
 use native.Mathlib.Numerals.{add-one}
 use native.Mathlib.Omega.{arith}
-use lib.ListN.{length, getD, take, drop, set, length-drop, take-append-drop}
+use lib.ListN.{length, getD, drop, set, length-drop, take-append-drop}
 use lib.Seq.{drop-cons, set-split, take-suc-set, take-set-le, drop-set-lt, drop-set-add, getD-drop}
-use Rattle.applies.specs.Kept.{pulled, pushed, pulledIn, pushedIn}
+use Rattle.applies.specs.Kept.{pushed, pulledIn, pushedIn}
 
 -- One entry takes the value of the next, and the shift goes on behind it.
 pub pull-on : (l : List ℕ) (i end : ℕ) → i < length l → i < end → pulledIn (i + 1) end (set l i (getD l (i + 1) 0)) ≡ pulledIn i end l
