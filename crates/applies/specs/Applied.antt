@@ -19,7 +19,7 @@ use Rattle.applies.specs.Kept.{Kept, removedFrom, insertedInto, changedA
 use Rattle.applies.specs.OneMove.{Found, Due, found, due, taken-out, put-in, out-length, in-length}
 
 -- What stands behind the first m places, where n places were moves: zeros up to n, and the room past that.
-unfoldable tailOf : ℕ → List ℕ → ℕ → List ℕ
+unfoldable pub tailOf : ℕ → List ℕ → ℕ → List ℕ
 tailOf n room m = replicate (n - m) 0 ++ drop (m + (n - m)) room
 
 -- A room that holds a list of moves, where n places were moves before.
@@ -27,7 +27,7 @@ abbrev pub laid : ℕ → List ℕ → List ℕ → Kept
 laid n room ms = record { moves = fill (ms ++ replicate (n - length ms) 0) room; count = length ms }
 
 -- The same, with the moves apart from what stands behind them.
-abbrev apart : ℕ → List ℕ → List ℕ → Kept
+abbrev pub apart : ℕ → List ℕ → List ℕ → Kept
 apart n room ms = record { moves = ms ++ tailOf n room (length ms); count = length ms }
 
 -- The two say the same.
@@ -39,7 +39,7 @@ laid-apart n room ms =
     λ i. record { moves = m i; count = length ms }
 
 -- A room before any change.
-start-apart : (n : ℕ) (room ms : List ℕ) → length ms ≡ n → room ≡ ms ++ drop n room → record { moves = room; count = n } ≡ apart n room ms
+pub start-apart : (n : ℕ) (room ms : List ℕ) → length ms ≡ n → room ≡ ms ++ drop n room → record { moves = room; count = n } ≡ apart n room ms
 unfolding tailOf
 start-apart n room ms s w =
     let d : n - length ms ≡ 0 = omega arith in
@@ -91,7 +91,7 @@ one-in n p room l f h =
     ∙ ap (λ (m : ℕ). record { moves = insert p l ++ tailOf n room m; count = length (insert p l) }) (sym s)
 
 -- Deletes keep the order.
-removeAll-ascends : (ps l : List ℕ) → ascends 0 l ≡ true → ascends 0 (removeAll ps l) ≡ true
+pub removeAll-ascends : (ps l : List ℕ) → ascends 0 l ≡ true → ascends 0 (removeAll ps l) ≡ true
 removeAll-ascends ps l h = let z = some-sizes 0 l h in moves-ascend (z .0) 0 (removeAll ps l) (removeAll-ok (z .0) ps l (z .1))
 
 module _ (n : ℕ) (room ms : List ℕ) where
@@ -101,7 +101,7 @@ module _ (n : ℕ) (room ms : List ℕ) where
   out-step p k l f h e = let s = out-length p l f in (ap (removedFrom p) e ∙ one-out n p room l f h, omega arith)
 
   -- All deletes.
-  all-out : (cs : List Change) → ascends 0 ms ≡ true → Distinct (deletes cs) → AllAre true (deletes cs) ms → length ms ≤ n
+  pub all-out : (cs : List Change) → ascends 0 ms ≡ true → Distinct (deletes cs) → AllAre true (deletes cs) ms → length ms ≤ n
       → (changedAll false cs (apart n room ms) ≡ apart n room (removeAll (deletes cs) ms)) × (length (removeAll (deletes cs) ms) ≤ n)
   all-out [] h d a k = (refl, k)
   all-out (c ∷ cs) h d a k =
@@ -124,7 +124,7 @@ module _ (n : ℕ) (room ms : List ℕ) where
       let s = in-length p l f in ap (insertedInto p) (e (omega arith)) ∙ one-in n p room l f (omega arith)
 
   -- All inserts.
-  all-in : (cs : List Change) → Distinct (inserts cs) → AllAre false (inserts cs) ms → length (insertAll (inserts cs) ms) ≤ length room
+  pub all-in : (cs : List Change) → Distinct (inserts cs) → AllAre false (inserts cs) ms → length (insertAll (inserts cs) ms) ≤ length room
       → changedAll true cs (apart n room ms) ≡ apart n room (insertAll (inserts cs) ms)
   all-in [] d a k = refl
   all-in (c ∷ cs) d a k =
@@ -138,7 +138,7 @@ module _ (n : ℕ) (room ms : List ℕ) where
       ]
 
 -- What was absent is absent after the deletes.
-outside : (ps ds ms : List ℕ) → AllAre false ps ms → AllAre false ps (removeAll ds ms)
+pub outside : (ps ds ms : List ℕ) → AllAre false ps ms → AllAre false ps (removeAll ds ms)
 outside [] ds ms a = tt
 outside (p ∷ ps) ds ms a = (removeAll-elem p ds ms ∙ rw (a .0) refl, outside ps ds ms (a .1))
 

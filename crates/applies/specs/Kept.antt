@@ -1,11 +1,13 @@
--- The room of the moves and how many of its places are moves; what the code does to them, step by step. Definitions only.
+-- The room of the moves and how many of its places are moves; what the code does to them, step by step, and when. Definitions only.
+use mathlib.Core.Path.{_≡_}
 use mathlib.Core.Bool.{Bool, true, false, cond}
 use mathlib.Core.List.{List, [], _∷_, _++_}
-use Prim.Native.Nat.{ℕ, zero, suc, _+_, _-_}
+use Prim.Native.Nat.{ℕ, zero, suc, _+_, _-_, _≤_}
 use lib.ListN.{length, getD, take, drop, set}
 use lib.Dec.{ltb}
-use Rattle.rules.specs.Batch.{Change}
-use Rattle.table.specs.Ascending.{leading}
+use Rattle.rules.specs.Batch.{Change, edited}
+use Rattle.laws.specs.Edits.{Judged}
+use Rattle.table.specs.Ascending.{ascends, leading}
 
 pub record Kept : Type 0 where
   pub moves : List ℕ
@@ -62,3 +64,19 @@ changedAll b (c ∷ cs) k = changedBy b c (changedAll b cs k)
 -- All changes: first the deletes, then the inserts.
 abbrev pub appliedTo : List Change → Kept → Kept
 appliedTo cs k = changedAll true cs (changedAll false cs k)
+
+-- The room holds the moves, and they ascend.
+pub record Orderly (k : Kept) : Type 0 where
+  pub fits : k .count ≤ length (k .moves)
+  pub ascend : ascends 0 (take (k .count) (k .moves)) ≡ true
+
+-- So it is before the changes of a kind, and after each of them.
+abbrev pub AllOrderly : Bool → List Change → Kept → Type 0
+AllOrderly b [] k = Orderly k
+AllOrderly b (c ∷ cs) k = Orderly (changedAll b (c ∷ cs) k) × AllOrderly b cs k
+
+-- The changes were judged, and the room holds what they come to.
+pub record Ready (cs : List Change) (k : Kept) : Type 0 where
+  pub start : Orderly k
+  pub judged : Judged (take (k .count) (k .moves)) cs
+  pub few : length (edited cs (take (k .count) (k .moves))) ≤ length (k .moves)

@@ -2,3 +2,4 @@ pub mod Kept
 pub mod Shifts
 pub mod OneMove
 pub mod Applied
+pub mod Orders

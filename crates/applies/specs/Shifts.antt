@@ -1,74 +1,53 @@
 -- A shift entry by entry. Assumes nothing.
 use mathlib.Core.Path.{_≡_, refl, sym, ap, _∙_}
-use mathlib.Core.List.{List, [], append-assoc}
+use mathlib.Core.List.{List, [], _∷_, append-assoc}
 use Prim.Native.Nat.{ℕ, zero, suc, _+_, _-_, _≤_, _<_}
 use native.Mathlib.Nat.{add-zero}
-use native.Mathlib.Decide.{decLt}
 use native.Mathlib.Numerals.{add-one}
 use native.Mathlib.Omega.{arith}
-use lib.ListN.{length, getD, drop, set, drop-of-length-le, take-append-drop}
-use lib.Seq.{take-all, drop-cons, take-suc-set, drop-set-lt, set-out, getD-drop}
-use Rattle.applies.specs.Kept.{pulled, pushed, pulledIn, pushedIn}
-
--- Of nothing, nothing is shifted.
-pulled-nil : (m : ℕ) → pulled m [] ≡ []
-pulled-nil zero = refl
-pulled-nil (suc m) = refl
-
-pushed-nil : (m x : ℕ) → pushed m x [] ≡ []
-pushed-nil zero x = refl
-pushed-nil (suc m) x = refl
-
--- Past the end of the list nothing changes.
-past-pull : (l : List ℕ) (i end x : ℕ) → length l ≤ i → pulledIn (suc i) end (set l i x) ≡ pulledIn i end l
-unfolding pulledIn
-past-pull l i end x h =
-    let k : length l ≤ suc i = omega arith in
-    rw (set-out l i x h, take-all i l h, take-all (suc i) l k, drop-of-length-le l h, drop-of-length-le l k, pulled-nil (end - suc i), pulled-nil (end - i)) refl
-
-past-push : (l : List ℕ) (i end x y : ℕ) → length l ≤ i → pushedIn (suc i) end y (set l i x) ≡ pushedIn i end x l
-unfolding pushedIn
-past-push l i end x y h =
-    let k : length l ≤ suc i = omega arith in
-    rw (set-out l i x h, take-all i l h, take-all (suc i) l k, drop-of-length-le l h, drop-of-length-le l k, pushed-nil (end - suc i) y, pushed-nil (end - i) x) refl
-
--- Inside the list one entry is stored.
-inside-pull : (l : List ℕ) (i end x : ℕ) → i < length l → i < end → x ≡ getD l (i + 1) 0 → pulledIn (suc i) end (set l i x) ≡ pulledIn i end l
-unfolding pulledIn
-inside-pull l i end x h k e =
-    let m : end - i ≡ suc (end - suc i) = omega arith in
-    let d : i < suc i = omega arith in
-    let g : getD (drop (suc i) l) 0 0 ≡ x = getD-drop (suc i) l 0 0 ∙ ap (λ (j : ℕ). getD l j 0) (add-zero (suc i) ∙ sym (add-one i)) ∙ sym e in
-    rw (take-suc-set l i x h, drop-set-lt (suc i) l i x d, drop-cons l i 0 h, m, g, append-assoc) refl
-
-inside-push : (l : List ℕ) (i end x y : ℕ) → i < length l → i < end → y ≡ getD l i 0 → pushedIn (suc i) end y (set l i x) ≡ pushedIn i end x l
-unfolding pushedIn
-inside-push l i end x y h k e =
-    let m : end - i ≡ suc (end - suc i) = omega arith in
-    let d : i < suc i = omega arith in
-    rw (take-suc-set l i x h, drop-set-lt (suc i) l i x d, drop-cons l i 0 h, m, e, append-assoc) refl
+use lib.ListN.{length, getD, drop, set, length-drop, take-append-drop}
+use lib.Seq.{drop-cons, set-split, take-suc-set, take-set-le, drop-set-lt, drop-set-add, getD-drop}
+use Rattle.applies.specs.Kept.{pushed, pulledIn, pushedIn}
 
 -- One entry takes the value of the next, and the shift goes on behind it.
-pub pull-on : (l : List ℕ) (i end x : ℕ) → i < end → x ≡ getD l (i + 1) 0 → pulledIn (i + 1) end (set l i x) ≡ pulledIn i end l
-pull-on l i end x k e =
-    rw (add-one i) (elim (decLt i (length l)) [
-      | yes h ↦ inside-pull l i end x h k e
-      | no h ↦ past-pull l i end x (omega arith)
-    ])
-
--- One entry takes the value that is carried, and its own is carried on.
-pub push-on : (l : List ℕ) (i end x y : ℕ) → i < end → y ≡ getD l i 0 → pushedIn (i + 1) end y (set l i x) ≡ pushedIn i end x l
-push-on l i end x y k e =
-    rw (add-one i) (elim (decLt i (length l)) [
-      | yes h ↦ inside-push l i end x y h k e
-      | no h ↦ past-push l i end x y (omega arith)
-    ])
+pub pull-on : (l : List ℕ) (i end : ℕ) → i < length l → i < end → pulledIn (i + 1) end (set l i (getD l (i + 1) 0)) ≡ pulledIn i end l
+unfolding pulledIn
+pull-on l i end h k =
+    let x = getD l (suc i) 0 in
+    let m : end - i ≡ suc (end - suc i) = omega arith in
+    let d : i < suc i = omega arith in
+    let g : getD (drop (suc i) l) 0 0 ≡ x = getD-drop (suc i) l 0 0 ∙ ap (λ (j : ℕ). getD l j 0) (add-zero (suc i)) in
+    rw (add-one i, take-suc-set l i x h, drop-set-lt (suc i) l i x d, drop-cons l i 0 h, m, g, append-assoc) refl
 
 -- At the end the shift is done.
 pub pull-over : (l : List ℕ) (i end : ℕ) → end ≤ i → pulledIn i end l ≡ l
 unfolding pulledIn
 pull-over l i end h = let m : end - i ≡ 0 = omega arith in rw m (take-append-drop i l)
 
-pub push-over : (l : List ℕ) (i end x : ℕ) → end ≤ i → pushedIn i end x l ≡ l
+-- The last entry to be shifted takes the value of the one before it, and the shift goes on in front of it.
+pushed-last : (m x : ℕ) (l : List ℕ) → suc m < length l → pushed (suc (suc m)) x l ≡ pushed (suc m) x (set l (suc m) (getD l m 0))
+pushed-last zero x (q ∷ r ∷ l) h = refl
+pushed-last zero x (q ∷ []) h = absurd (omega arith)
+pushed-last zero x [] h = absurd (omega arith)
+pushed-last (suc m) x [] h = absurd (omega arith)
+pushed-last (suc m) x (q ∷ l) h = ap (λ (t : List ℕ). x ∷ t) (pushed-last m q l (omega arith))
+
+pub push-on : (l : List ℕ) (from i x : ℕ) → from < i → i < length l → pushedIn from i x (set l i (getD l (i - 1) 0)) ≡ pushedIn from (i + 1) x l
 unfolding pushedIn
-push-over l i end x h = let m : end - i ≡ 0 = omega arith in rw m (take-append-drop i l)
+push-on l from i x h k =
+    let m = i - suc from in
+    let e : i ≡ from + suc m = omega arith in
+    let f : i + 1 - from ≡ suc (suc m) = omega arith in
+    let g : i - from ≡ suc m = omega arith in
+    let d = length-drop from l in
+    let before : i - 1 ≡ from + m = omega arith in
+    let v : getD (drop from l) m 0 ≡ getD l (i - 1) 0 = getD-drop from l m 0 ∙ ap (λ (j : ℕ). getD l j 0) (sym before) in
+    let s : drop from (set l i (getD l (i - 1) 0)) ≡ set (drop from l) (suc m) (getD l (i - 1) 0) = ap (λ (j : ℕ). drop from (set l j (getD l (i - 1) 0))) e ∙ drop-set-add from l (suc m) (getD l (i - 1) 0) in
+    rw (take-set-le from l i (getD l (i - 1) 0) (omega arith), s, f, g, ← v, pushed-last m x (drop from l) (omega arith)) refl
+
+-- At the front the new one is stored.
+pub push-first : (l : List ℕ) (from x : ℕ) → from < length l → pushedIn from (from + 1) x l ≡ set l from x
+unfolding pushedIn
+push-first l from x h =
+    let m : from + 1 - from ≡ 1 = omega arith in
+    rw (m, drop-cons l from 0 h) (sym (set-split l from x h))

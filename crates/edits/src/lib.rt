@@ -54,12 +54,13 @@ pub fn carried(stamp: u32, changes: &[u32], count: usize) -> u32
 
 // Whether one of the changes before place i names the move q.
 fn named_before(changes: &[u32], i: usize, q: u32) -> bool
+    requires { ⌜ i ≤ length (now changes) ⌝ }
     ensures { λ r. ⌜ r ≡ elem q (seenAt (now (changes .entry)) i) ⌝ }
 {
     let mut j: usize = 0;
     let mut found = false;
     while j < i {
-        found = (q == rooms::word_at(changes, j) / 2) | found;
+        found = (q == changes[j] / 2) | found;
         j = j + 1;
     }
     found

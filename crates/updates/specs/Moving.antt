@@ -22,7 +22,7 @@ use Rattle.laws.specs.Edits.{Judged, AllOk, judge-out, edited-wellFormed, all-o
 use Rattle.laws.specs.LiveApart.{still, still-good}
 use Rattle.laws.specs.ModelSystem.{Sound, sound}
 use Rattle.sessions.specs.CheckedMoves as Moves
-use Rattle.applies.specs.Kept.{Kept, appliedTo}
+use Rattle.applies.specs.Kept.{Kept, appliedTo, Ready}
 use Rattle.applies.specs.Applied.{laid, applied-edits}
 use Rattle.calls.specs.Checks.{checkOf, checkedSays}
 use Rattle.calls.specs.Passed.{Fits, passed-work, passed-fits, passed-holds, passed-moves}
@@ -78,6 +78,12 @@ pub record Able (s : Session) (l : Rooms) (cs : List Change) : Type 0 where
 -- The judgement says so.
 pub able : (s : Session) (l : Rooms) (b b′ : Batch) → Sane s l → changesOk (s .sizes) (b .changes) ≡ true → judge s (length (l .moves)) (held s l .moves) b ≡ accepted b′ → Able s l (b .changes)
 able s l b b′ p r j = let k = judge-out s (length (l .moves)) (held s l .moves) b b′ j in record { is-sane = p; judged = k .1; in-range = r; few = k .2; lives = k .4 }
+
+-- They can be made in the room of the moves.
+pub able-ready : (s : Session) (l : Rooms) (cs : List Change) → Able s l cs → Ready cs (record { moves = l .moves; count = s .moves })
+able-ready s l cs a =
+    let f = a .few in
+    record { start = record { fits = a .is-sane .fits .moves-room; ascend = a .is-sane .moves .ascend }; judged = a .judged; few = omega arith }
 
 -- Where no number of a list is over 1, none is.
 each-small : (l : List ℕ) → all (λ v. leb v 1) l ≡ true → (p : ℕ) → getD l p 0 ≤ 1

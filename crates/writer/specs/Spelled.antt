@@ -2,7 +2,7 @@
 use mathlib.Core.Path.{_≡_}
 use mathlib.Core.Bool.{Bool, cond}
 use mathlib.Core.List.{List, [], _∷_, map}
-use Prim.Native.Nat.{ℕ, suc, _+_, _-_}
+use Prim.Native.Nat.{ℕ, suc, _+_, _-_, _≤_}
 use lib.Dec.{eqb}
 use lib.ListN.{length, getD}
 use lib.Seq.{sets}
@@ -16,6 +16,10 @@ use Rattle.rules.specs.declared.Sizes.{Sizes}
 -- The entries of a room from place i up to place n; what lies past the room's end is 0.
 unfoldable pub rest : List ℕ → ℕ → ℕ → List ℕ
 rest room i n = listed i (n - i) (λ p. getD room p 0)
+
+-- A room that holds these bytes from a place on.
+abbrev pub HasRoom : List ℕ → ℕ → List ℕ → Type 0
+HasRoom out at bs = at + length bs ≤ length out
 
 -- Bytes written into a room from a place on: the room after, and the place after.
 abbrev pub Wrote : List ℕ → ℕ → List ℕ → List ℕ → ℕ → Type 0

@@ -1,15 +1,15 @@
 -- Writing place by place writes the spelling. Assumes nothing.
 use mathlib.Core.Path.{_≡_, refl, sym, ap, _∙_}
 use mathlib.Core.Logic.{inl, inr}
-use mathlib.Core.Bool.{Bool, true, false}
+use mathlib.Core.Bool.{Bool, true, false, not}
 use mathlib.Core.List.{List, [], _∷_, _++_, append-assoc, append-nil, map}
 use Prim.Native.Nat.{ℕ, zero, suc, _+_, _-_, _*_, _≤_, _<_}
 use native.Mathlib.Nat.{add-zero, zero-add}
 use native.Mathlib.Omega.{arith}
 use lib.Dec.{eqb}
 use lib.ListN.{length, getD, take, drop, length-append}
-use lib.Seq.{sets-eq, drop-cons}
-use Rattle.lists.specs.Lists.{listed, fill}
+use lib.Seq.{sets-eq, length-sets, drop-cons}
+use Rattle.lists.specs.Lists.{bit, listed, fill}
 use Rattle.lists.specs.TableLaws.{listed-length}
 use Rattle.lists.specs.Tests.{tell, eqb-is, eqb-no, cond-yes, cond-no}
 use Rattle.rules.specs.Model.{Equation, runOf, signed, WellFormed}
@@ -21,7 +21,7 @@ use Rattle.rules.specs.declared.Session.{Session}
 use Rattle.rules.specs.declared.Sizes.{Sizes}
 use Rattle.laws.specs.SpellingLength.{labelled, equationSize, encode-length}
 use Rattle.spell.specs.Written.{labelRec, sets-append}
-use Rattle.writer.specs.Spelled.{rest, Wrote, liveBytes, oneLabel, labelBytes, inBlock, oneEquation, equationBytes, moveBytes, heldIn}
+use Rattle.writer.specs.Spelled.{rest, HasRoom, Wrote, liveBytes, oneLabel, labelBytes, inBlock, oneEquation, equationBytes, moveBytes, heldIn}
 
 -- The entries from a place on are the one there, and those after it.
 pub rest-step : (room : List ℕ) (i n : ℕ) → i < n → rest room i n ≡ getD room i 0 ∷ rest room (i + 1) n
@@ -42,6 +42,17 @@ wrote-more bs cs out mid after at k next f g =
     let a = f .1 in
     let b = g .1 in
     (g .0 ∙ rw (f .0, f .1) (sym (sets-append bs cs out at)), omega arith)
+
+-- A room that holds both runs holds the first, and once that is written, the second.
+pub room-first : (bs cs out : List ℕ) (at : ℕ) → HasRoom out at (bs ++ cs) → HasRoom out at bs
+room-first bs cs out at h = let l = length-append bs cs in omega arith
+
+pub room-after : (bs cs out mid : List ℕ) (at k : ℕ) → HasRoom out at (bs ++ cs) → Wrote out at bs mid k → HasRoom mid k cs
+room-after bs cs out mid at k h f =
+    let l = length-append bs cs in
+    let a = f .1 in
+    let s = ap length (f .0) ∙ length-sets out at bs in
+    omega arith
 
 pub wrote-none : (out : List ℕ) (at : ℕ) → Wrote out at [] out at
 wrote-none out at = (refl, sym (add-zero at))
@@ -104,6 +115,15 @@ pub block-new : (b w : ℕ) (l : List Equation) → (suc (unword w .block) ≡ b
 unfolding inBlock
 block-new b w l e = rw (eqb-no _ b .1 e) (rw (append-nil (bytes (equationRec (unword w)))) refl)
 
+-- The one takes four bytes, the other three more.
+pub same-size : (b w : ℕ) (l : List Equation) → suc (unword w .block) ≡ b → length (inBlock b (unword w) l) ≡ 4
+unfolding widths
+same-size b w l e = ap length (block-same b w l e)
+
+pub new-size : (b w : ℕ) (l : List Equation) → (suc (unword w .block) ≡ b → ⊥) → length (inBlock b (unword w) l) ≡ 7
+unfolding widths
+new-size b w l e = ap length (block-new b w l e)
+
 -- An equation in either style, by what code has in hand.
 pub equation-signed : (signs : Bool) (b : ℕ) (e : Equation) (l : List Equation) → signs ≡ true → oneEquation signs b e l ≡ bytes (signedRec e)
 unfolding oneEquation
@@ -143,6 +163,10 @@ pub move-end : (room : List ℕ) (i n : ℕ) → n ≤ i → moveBytes room i n 
 unfolding moveBytes widths
 move-end room i n h = rw (rest-end room i n h) refl
 
+pub end-length : (room : List ℕ) (i n : ℕ) → n ≤ i → length (moveBytes room i n) ≡ 1
+unfolding widths
+end-length room i n h = ap length (move-end room i n h)
+
 -- A label more is counted.
 pub labelled-step : (room : List ℕ) (i n : ℕ) → i < n → labelled (rest room i n) ≡ labelled (getD room i 0 ∷ []) + labelled (rest room (i + 1) n)
 labelled-step room i n h = ap labelled (rest-step room i n h) ∙ split (getD room i 0) (rest room (i + 1) n)
@@ -154,12 +178,10 @@ labelled-step room i n h = ap labelled (rest-step room i n h) ∙ split (getD ro
 pub labelled-end : (room : List ℕ) (i n : ℕ) → n ≤ i → labelled (rest room i n) ≡ 0
 labelled-end room i n h = rw (rest-end room i n h) refl
 
-pub labelled-none : (v : ℕ) → v ≡ 0 → labelled (v ∷ []) ≡ 0
-labelled-none v e = rw e refl
-
-pub labelled-one : (v : ℕ) → (v ≡ 0 → ⊥) → labelled (v ∷ []) ≡ 1
-labelled-one zero h = absurd (h refl)
-labelled-one (suc v) h = refl
+-- A set is counted where it is not empty.
+pub labelled-bit : (v : ℕ) → bit (not (eqb v 0)) ≡ labelled (v ∷ [])
+labelled-bit zero = refl
+labelled-bit (suc v) = rw (eqb-no (suc v) 0 .1 (λ e. omega arith)) refl
 
 -- The spelling is the sizes, whether the model is live, the labels, the equations, and the moves with the end.
 pub spelled : (z : Sizes) (live n : ℕ) (labels equations moves : List ℕ)

@@ -1,18 +1,18 @@
-// A model written from its rooms: the one spelling, record by record.
+// A model written from its rooms: the one spelling, record by record, into a room that holds it.
 ghost use mathlib.Core.Path.{_≡_};
 ghost use mathlib.Core.List.{[], _∷_, map};
 ghost use Prim.Native.Nat.{suc, _+_, _*_, _/_, _≤_, _<_};
-ghost use lib.ListN.{getD};
+ghost use lib.ListN.{length, getD};
 ghost use Rattle.rules.specs.Model.{runOf};
 ghost use Rattle.rules.specs.Session.{unword};
 ghost use Rattle.laws.specs.SpellingLength.{labelled, equationSize};
-ghost use Rattle.writer.specs.Spelled.{rest, Wrote, liveBytes, oneLabel, labelBytes, inBlock, oneEquation, equationBytes, moveBytes, heldIn};
+ghost use Rattle.writer.specs.Spelled.{rest, HasRoom, Wrote, liveBytes, oneLabel, labelBytes, inBlock, oneEquation, equationBytes, moveBytes, heldIn};
 ghost use Rattle.rules.specs.Spelling.{encode};
 use rules::Sizes;
 
 // The record of a live model, where it is one.
 fn put_live(out: &mut [u8], at: usize, live: u8) -> usize
-    requires { ⌜ at < 65536 ⌝ }
+    requires { ⌜ HasRoom (now out) at (liveBytes live) ⌝ }
     ensures { λ r. ⌜ Wrote (now (out .entry)) at (liveBytes live) (now (out .exit)) r × (r ≤ at + 1) ⌝ }
 {
     if live == 1 {
@@ -24,7 +24,7 @@ fn put_live(out: &mut [u8], at: usize, live: u8) -> usize
 
 // A label, where the set is not empty.
 fn put_label(out: &mut [u8], at: usize, s: usize, v: u32) -> usize
-    requires { ⌜ (at < 65536) × (s < 65536) ⌝ }
+    requires { ⌜ HasRoom (now out) at (oneLabel s v) × (s < 65536) ⌝ }
     ensures { λ r. ⌜ Wrote (now (out .entry)) at (oneLabel s v) (now (out .exit)) r × (r ≤ at + 7) ⌝ }
 {
     if v == 0 {
@@ -36,13 +36,13 @@ fn put_label(out: &mut [u8], at: usize, s: usize, v: u32) -> usize
 
 // The labels of n states.
 fn write_labels(out: &mut [u8], start: usize, room: &[u32], n: usize) -> usize
-    requires { ⌜ (start < 1000) × (n ≤ 256) ⌝ }
+    requires { ⌜ HasRoom (now out) start (labelBytes (now room) 0 n) × ((n ≤ 256) × (n ≤ length (now room))) ⌝ }
     ensures { λ r. ⌜ Wrote (now (out .entry)) start (labelBytes (now (room .entry)) 0 n) (now (out .exit)) r × (r ≤ start + 7 * n) ⌝ }
 {
     let mut at = start;
     let mut i: usize = 0;
     while i < n {
-        at = put_label(out, at, i, rooms::word_at(room, i));
+        at = put_label(out, at, i, room[i]);
         i = i + 1;
     }
     at
@@ -74,7 +74,7 @@ fn run_of(room: &[u32], b: u32, start: usize, n: usize) -> u32
 
 // An equation, with a block's record before the first of each block.
 fn put_in_block(out: &mut [u8], at: usize, room: &[u32], b: u32, i: usize, n: usize) -> usize
-    requires { ⌜ (at < 65000) × ((i < n) × (n ≤ 32)) ⌝ }
+    requires { ⌜ HasRoom (now out) at (inBlock b (unword (getD (now room) i 0)) (map unword (rest (now room) (i + 1) n))) × ((i < n) × (n ≤ 32)) ⌝ }
     ensures { λ r. ⌜ Wrote (now (out .entry)) at (inBlock b (unword (getD (now (room .entry)) i 0)) (map unword (rest (now (room .entry)) (i + 1) n))) (now (out .exit)) r × (r ≤ at + 7) ⌝ }
 {
     let w = rooms::word_at(room, i);
@@ -99,7 +99,7 @@ fn put_equation(
     i: usize,
     n: usize,
 ) -> usize
-    requires { ⌜ (at < 65000) × ((i < n) × (n ≤ 32)) ⌝ }
+    requires { ⌜ HasRoom (now out) at (oneEquation signs b (unword (getD (now room) i 0)) (map unword (rest (now room) (i + 1) n))) × ((i < n) × (n ≤ 32)) ⌝ }
     ensures { λ r. ⌜ Wrote (now (out .entry)) at (oneEquation signs b (unword (getD (now (room .entry)) i 0)) (map unword (rest (now (room .entry)) (i + 1) n))) (now (out .exit)) r × (r ≤ at + 7) ⌝ }
 {
     if signs {
@@ -111,7 +111,7 @@ fn put_equation(
 
 // The n equations, each with its sign, or block by block.
 fn write_equations(out: &mut [u8], start: usize, room: &[u32], signs: bool, n: usize) -> usize
-    requires { ⌜ (start < 3000) × (n ≤ 32) ⌝ }
+    requires { ⌜ HasRoom (now out) start (equationBytes signs 0 (now room) 0 n) × (n ≤ 32) ⌝ }
     ensures { λ r. ⌜ Wrote (now (out .entry)) start (equationBytes signs 0 (now (room .entry)) 0 n) (now (out .exit)) r × (r ≤ start + 7 * n) ⌝ }
 {
     let mut at = start;
@@ -127,13 +127,13 @@ fn write_equations(out: &mut [u8], start: usize, room: &[u32], signs: bool, n: u
 
 // The n moves, and the end.
 fn write_moves(out: &mut [u8], start: usize, room: &[u32], n: usize) -> usize
-    requires { ⌜ (start < 4000) × (n ≤ 1024) ⌝ }
+    requires { ⌜ HasRoom (now out) start (moveBytes (now room) 0 n) × (n ≤ length (now room)) ⌝ }
     ensures { λ r. ⌜ Wrote (now (out .entry)) start (moveBytes (now (room .entry)) 0 n) (now (out .exit)) r ⌝ }
 {
     let mut at = start;
     let mut i: usize = 0;
     while i < n {
-        spell::write_move(out, at, rooms::word_at(room, i));
+        spell::write_move(out, at, room[i]);
         at = at + 6;
         i = i + 1;
     }
@@ -142,27 +142,25 @@ fn write_moves(out: &mut [u8], start: usize, room: &[u32], n: usize) -> usize
 }
 
 // 1 where the set is not empty.
-fn one(v: u32) -> usize
+fn one(v: u32) -> u32
     ensures { λ r. ⌜ (r ≡ labelled (v ∷ [])) × (r ≤ 1) ⌝ }
 {
-    if v == 0 {
-        return 0;
-    }
-    1
+    (v != 0) as u32
 }
 
 // How many of the first n states have a label.
 fn count_labels(room: &[u32], n: u16) -> usize
+    requires { ⌜ n ≤ length (now room) ⌝ }
     ensures { λ r. ⌜ (r ≡ labelled (rest (now (room .entry)) 0 n)) × (r ≤ n) ⌝ }
 {
     let most = n as usize;
-    let mut k: usize = 0;
+    let mut k: u32 = 0;
     let mut i: usize = 0;
     while i < most {
-        k = k + one(rooms::word_at(room, i));
+        k = k + one(room[i]);
         i = i + 1;
     }
-    k
+    k as usize
 }
 
 // The length of all equations: one with a sign of its own takes a byte more.
@@ -177,6 +175,7 @@ fn equations_length(z: Sizes) -> usize
 
 // The length of a model's spelling. A live model takes a byte more.
 pub fn spelled_length(z: Sizes, live: u8, n: u32, labels: &[u32]) -> usize
+    requires { ⌜ z .states ≤ length (now labels) ⌝ }
     ensures { λ r. ⌜ r ≡ 8 + live + 7 * labelled (rest (now (labels .entry)) 0 (z .states)) + 3 * z .blocks + equationSize z * z .variables + 6 * n ⌝ }
 {
     let k = count_labels(labels, z.states);
@@ -193,7 +192,8 @@ pub fn write_model(
     equations: &[u32],
     moves: &[u32],
 ) -> usize
-    requires { ⌜ (z .states ≤ 256) × (z .variables ≤ 32) × (n ≤ 1024) ⌝ }
+    requires { ⌜ (z .states ≤ 256) × (z .variables ≤ 32) × (z .states ≤ length (now labels)) × (n ≤ length (now moves)) ⌝ }
+    requires { ⌜ HasRoom (now out) 0 (encode (heldIn z live n (now labels) (now equations) (now moves))) ⌝ }
     ensures { λ r. ⌜ Wrote (now (out .entry)) 0 (encode (heldIn z live n (now (labels .entry)) (now (equations .entry)) (now (moves .entry)))) (now (out .exit)) r ⌝ }
 {
     spell::write_sizes(out, 0, z);

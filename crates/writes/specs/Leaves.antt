@@ -8,6 +8,7 @@ use lib.ListN.{length, take, drop}
 use lib.Seq.{length-take-le, drop-length}
 use Rattle.lists.specs.Lists.{fill}
 use Rattle.rules.specs.Records.{refused, accepted}
+use Rattle.rules.specs.Model.{Model}
 use Rattle.rules.specs.Rooms.{Rooms}
 use Rattle.rules.specs.Spelling.{encode}
 use Rattle.rules.specs.Session.{held}
@@ -19,14 +20,17 @@ use Rattle.calls.specs.Passed.{passed-fits}
 use Rattle.calls.specs.WriteLaws.{wrote, good-length, write-short, write-good}
 use Rattle.calls.specs.declared.Checked.{Checked}
 use Rattle.calls.specs.declared.Checked.the-variants as Found
-use Rattle.writer.specs.Spelled.{rest, Wrote, heldIn}
+use Rattle.writer.specs.Spelled.{rest, HasRoom, Wrote, heldIn}
 use Rattle.writer.specs.SpelledLaws.{rest-take, held-is, wrote-fills}
 
 -- A session that was checked, and nothing wrong was found.
 module _ (s : Session) (l : Rooms) (out : List ℕ) (found : Checked) (h : checkedSays found ≡ checkOf true s l) (g : found ≡ Found.Good) where
-  -- The writer's limits are kept.
-  pub good-limits : (s .sizes .states ≤ 256) × (s .sizes .variables ≤ 32) × (s .moves ≤ 1024)
-  good-limits = let f = passed-fits true s l found h g in (f .states, f .variables, f .moves)
+  -- The rooms hold what the writer reads, and its limits are kept.
+  pub good-labels : s .sizes .states ≤ length (l .labels)
+  good-labels = passed-fits true s l found h g .labels-room
+
+  pub good-limits : (s .sizes .states ≤ 256) × (s .sizes .variables ≤ 32) × (s .sizes .states ≤ length (l .labels)) × (s .moves ≤ length (l .moves))
+  good-limits = let f = passed-fits true s l found h g in (f .states, f .variables, f .labels-room, f .moves-room)
 
   -- The model written is the one that the session holds.
   good-held : heldIn (s .sizes) (s .live) (s .moves) (l .labels) (l .equations) (l .moves) ≡ held s l
@@ -44,6 +48,14 @@ module _ (s : Session) (l : Rooms) (out : List ℕ) (found : Checked) (h : check
     -- 13 where the output is shorter, and it stays.
     pub leaves-short : length out < n → wrote (refused 13 0) out ≡ write s l out
     leaves-short f = write-short s l out found h g n counted-is f
+
+    -- Where it has room, as many of its places hold the spelling.
+    pub good-room : n ≤ length out → HasRoom (take n out) 0 (encode (heldIn (s .sizes) (s .live) (s .moves) (l .labels) (l .equations) (l .moves)))
+    good-room f =
+        let c = counted-is in
+        let long = length-take-le n out f in
+        let e = ap (λ (m : Model). length (encode m)) good-held in
+        omega arith
 
     -- Where it has room, the writer is handed as many places of the output as the spelling needs. What it leaves there, with the
     -- places past them, is what the call leaves.

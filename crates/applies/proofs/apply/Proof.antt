@@ -1,18 +1,27 @@
 -- First the deletes, then the inserts. Assumes nothing.
-use mathlib.Core.Path.{ap, _∙_}
+use mathlib.Core.Path.{sym, ap, _∙_, subst}
 use mathlib.Core.Bool.{true}
 use lib.ListN.{take}
 use Rattle.edits.specs.Changes.{changesOf}
-use Rattle.applies.specs.Kept.{Kept, changedAll}
+use Rattle.applies.specs.Kept.{Kept, changedAll, AllOrderly}
+use Rattle.applies.specs.Orders.{ready-out, ready-in}
 use borrow.Author.Needs.{needs}
 use Rattle.applies.proofs.apply.Statement.{statement}
 use Rattle.applies.proofs.apply.Tie as tie
 
 change-all-requires : tie.Need-change-all-requires
-change-all-requires c κs = search needs
+change-all-requires c κs =
+    let at-start = c .before .before .before in
+    let a = at-start .args in
+    ready-out (changesOf (take (a .count) (a .changes .now))) (a .n) (a .moves .now) (at-start .pre)
 
 change-all-requires-2 : tie.Need-change-all-requires-2
-change-all-requires-2 c κs = search needs
+change-all-requires-2 c κs =
+    let after-deletes = c .before .before .before in
+    let at-start = after-deletes .before .before .before .before in
+    let a = at-start .args in
+    let cs = changesOf (take (a .count) (a .changes .now)) in
+    subst (AllOrderly true cs) (sym (after-deletes .change-all .ensures)) (ready-in cs (a .n) (a .moves .now) (at-start .pre))
 
 same-length : tie.Need-same-length
 same-length c = search needs

@@ -1,11 +1,12 @@
 -- A walk from the last change to the first: the room holds what the changes passed have made of it. Assumes nothing.
-use mathlib.Core.Path.{_≡_, refl, sym, ap, ap₂, _∙_}
+use mathlib.Core.Path.{_≡_, refl, sym, ap, ap₂, _∙_, subst}
 use mathlib.Core.List.{List}
 use Prim.Native.Nat.{ℕ, _≤_, min}
-use lib.ListN.{length}
+use lib.ListN.{length, take}
 use Rattle.rules.specs.Batch.{Change}
 use Rattle.edits.specs.Changes.{changeOf, changesFrom, changes-less, changes-over}
-use Rattle.applies.specs.Kept.{Kept, changedBy, changedAll}
+use Rattle.applies.specs.Kept.{Kept, changedBy, changedAll, Orderly}
+use Rattle.applies.specs.Orders.{orderly-from}
 use borrow.Author.Needs.{needs}
 use native.Mathlib.Omega.{arith}
 use Rattle.applies.proofs.change_all.Statement.{statement}
@@ -32,7 +33,12 @@ word-at-requires : tie.Need-word-at-requires Inv-loop μ-loop
 word-at-requires c κs = search needs
 
 change-one-requires : tie.Need-change-one-requires Inv-loop μ-loop
-change-one-requires c κs = search needs
+change-one-requires c κs =
+    let at-loop = c .before .before .before in
+    let at-start = at-loop .before .before .before .before in
+    let a = at-start .args in
+    let s = at-loop .loop in
+    subst Orderly (sym (s .inv .2)) (orderly-from (a .inserting) (s .i) (take (a .count) (a .changes .now)) (record { moves = a .moves .now; count = a .n }) (at-start .pre))
 
 loop-less : tie.Need-loop-less Inv-loop μ-loop
 loop-less c = search needs

@@ -1,10 +1,9 @@
 -- A walk from the front: the whole shift is what was shifted so far and what is still to be shifted. Assumes nothing.
-use mathlib.Core.Path.{_≡_, refl, sym, ap, _∙_}
-use Prim.Native.Nat.{_+_, _-_}
+use mathlib.Core.Path.{_≡_, refl, sym, _∙_}
+use Prim.Native.Nat.{_-_}
 use lib.ListN.{length, length-set}
 use Rattle.applies.specs.Kept.{pulledIn}
 use Rattle.applies.specs.Shifts.{pull-on, pull-over}
-use borrow.Author.Needs.{needs}
 use native.Mathlib.Omega.{arith}
 use Rattle.applies.proofs.pull.Statement.{statement}
 use Rattle.applies.proofs.pull.Tie as tie
@@ -18,31 +17,40 @@ abbrev μ-loop : tie.MeasureT-loop
 loop-holds : tie.Need-loop-holds Inv-loop μ-loop
 loop-holds c = (refl, refl)
 
-add-word-at : tie.Need-add-word-at Inv-loop μ-loop
-add-word-at c = search needs
+add-moves : tie.Need-add-moves Inv-loop μ-loop
+add-moves c = omega arith
 
-word-at-requires : tie.Need-word-at-requires Inv-loop μ-loop
-word-at-requires c κs = search needs
+mul-moves : tie.Need-mul-moves Inv-loop μ-loop
+mul-moves c = omega arith
 
-set-word-requires : tie.Need-set-word-requires Inv-loop μ-loop
-set-word-requires c κs = search needs
+slice-read-moves : tie.Need-slice-read-moves Inv-loop μ-loop
+slice-read-moves c = omega arith
+
+mul-moves-2 : tie.Need-mul-moves-2 Inv-loop μ-loop
+mul-moves-2 c = omega arith
+
+slice-write-moves : tie.Need-slice-write-moves Inv-loop μ-loop
+slice-write-moves c = omega arith
 
 add-i : tie.Need-add-i Inv-loop μ-loop
-add-i c = search needs
+add-i c = omega arith
 
 loop-less : tie.Need-loop-less Inv-loop μ-loop
-loop-less c = search needs
+loop-less c = omega arith
 
 loop-again : tie.Need-loop-again Inv-loop μ-loop
-loop-again c = let a = c .before .before .before .before .before .before .before .before .before .args in let s = c .before .before .before .before .before .before .before .loop in let e = c .before .before .set-word .ensures in
-    (rw (e, length-set) (s .inv .0), ap (pulledIn (s .i + 1) (a .end)) e ∙ pull-on (s .moves) (s .i) (a .end) (c .before .before .before .before .word-at .result) (omega arith) (c .before .before .before .before .word-at .ensures) ∙ s .inv .1)
+loop-again c =
+    let at-loop = c .before .before in
+    let a = at-loop .before .args in
+    let s = at-loop .loop in
+    (simp length-set (s .inv .0), pull-on (s .moves) (s .i) (a .end) (omega arith) (omega arith) ∙ s .inv .1)
 
 same-length : tie.Need-same-length Inv-loop μ-loop
 same-length c = c .before .loop .inv .0
 
 returns : tie.Need-returns Inv-loop μ-loop
 returns c =
-    let a = c .before .before .before .args in
+    let a = c .before .before .args in
     let s = c .before .loop in
     sym (pull-over (s .moves) (s .i) (a .end) (omega arith)) ∙ s .inv .1
 
@@ -53,9 +61,11 @@ pull-spec =
     Inv-loop
     μ-loop
     loop-holds
-    add-word-at
-    word-at-requires
-    set-word-requires
+    add-moves
+    mul-moves
+    slice-read-moves
+    mul-moves-2
+    slice-write-moves
     add-i
     loop-less
     loop-again

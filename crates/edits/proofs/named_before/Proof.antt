@@ -18,8 +18,11 @@ abbrev μ-loop : tie.MeasureT-loop
 loop-holds : tie.Need-loop-holds Inv-loop μ-loop
 loop-holds c = (omega arith, refl)
 
-word-at-requires : tie.Need-word-at-requires Inv-loop μ-loop
-word-at-requires c κs = search needs
+mul-found : tie.Need-mul-found Inv-loop μ-loop
+mul-found c = omega arith
+
+shared-slice-read-found : tie.Need-shared-slice-read-found Inv-loop μ-loop
+shared-slice-read-found c = omega arith
 
 add-j : tie.Need-add-j Inv-loop μ-loop
 add-j c = search needs
@@ -28,14 +31,14 @@ loop-less : tie.Need-loop-less Inv-loop μ-loop
 loop-less c = search needs
 
 loop-again : tie.Need-loop-again Inv-loop μ-loop
-loop-again c = (omega arith, rw (add-one (c .before .before .loop .j), c .word-at .ensures, c .before .before .loop .inv .1))
+loop-again c = (omega arith, rw (add-one (c .before .before .loop .j), c .before .before .loop .inv .1))
 
 returns : tie.Need-returns Inv-loop μ-loop
 returns c =
-    let e : c .before .loop .j ≡ c .before .before .before .args .i = omega arith in
+    let e : c .before .loop .j ≡ c .before .before .args .i = omega arith in
     rw e at (c .before .loop .inv .1)
 
 pub named-before-spec : {M : Type 1} → statement M
 named-before-spec =
     tie.close
-    (tie.spec Inv-loop μ-loop loop-holds word-at-requires add-j loop-less loop-again returns)
+    (tie.spec Inv-loop μ-loop loop-holds mul-found shared-slice-read-found add-j loop-less loop-again returns)

@@ -1,11 +1,11 @@
 -- `spell::write_end` meets its contract. Assumes nothing.
-use borrow.Author.Needs.{needs}
 use Rattle.rules.specs.Records.{widths}
+use borrow.Author.Needs.{needs}
 use Rattle.spell.proofs.write_end.Statement.{statement}
 use Rattle.spell.proofs.write_end.Tie as tie
 
-set-byte-requires : tie.Need-set-byte-requires
-set-byte-requires c κs = search needs
+slice-write-out : tie.Need-slice-write-out
+slice-write-out c = search needs
 
 same-length : tie.Need-same-length
 same-length c = search needs
@@ -15,4 +15,4 @@ unfolding widths
 returns c = cc
 
 pub write-end-spec : {M : Type 1} → statement M
-write-end-spec = tie.close (tie.spec set-byte-requires same-length returns)
+write-end-spec = tie.close (tie.spec slice-write-out same-length returns)

@@ -4,7 +4,7 @@ use mir.ValLaws.{toZ-ofZ}
 use mir.Syntax.{w32}
 use mathlib.Core.Path.{_∙_}
 use Rattle.updates.specs.Reports.{net-small, update-reports}
-use Rattle.updates.specs.Moving.{made-drawn, made-started, made-few}
+use Rattle.updates.specs.Moving.{able-ready, made-drawn, made-started, made-few}
 use native.Mathlib.Omega.{arith}
 use lib.ListN.{take}
 use Rattle.edits.specs.Changes.{changesOf}
@@ -17,7 +17,11 @@ cast-apply : tie.Need-cast-apply
 cast-apply c = search needs
 
 apply-requires : tie.Need-apply-requires
-apply-requires c κs = search needs
+apply-requires c κs =
+    let at-start = c .before .before .before .before .before .before .before .before .before in
+    let a = at-start .args in
+    let l = roomsOf (a .labels .now) (a .equations .now) (a .values .now) (a .marks .now) (a .moves .now) in
+    able-ready (a .session) l (changesOf (take (a .count) (a .changes .now))) (at-start .pre .0)
 
 update-requires : tie.Need-update-requires
 update-requires c κs =

@@ -21,8 +21,11 @@ abbrev μ-loop : tie.MeasureT-loop
 loop-holds : tie.Need-loop-holds Inv-loop μ-loop
 loop-holds c = (omega arith, omega arith, omega arith)
 
-word-at-requires : tie.Need-word-at-requires Inv-loop μ-loop
-word-at-requires c κs = search needs
+mul-one : tie.Need-mul-one Inv-loop μ-loop
+mul-one c = omega arith
+
+shared-slice-read-one : tie.Need-shared-slice-read-one Inv-loop μ-loop
+shared-slice-read-one c = omega arith
 
 one-requires : tie.Need-one-requires Inv-loop μ-loop
 one-requires c κs = search needs
@@ -38,19 +41,21 @@ loop-less c = omega arith
 
 loop-again : tie.Need-loop-again Inv-loop μ-loop
 loop-again c =
-    let a = c .before .before .before .before .before .args in
-    let s = a .room .now in
-    let l = c .before .before .before .loop in
-    let e = labelled-step s (l .i) (a .n) (omega arith) in
-    let f : c .one .result ≡ labelled (getD s (l .i) 0 ∷ []) = rw (c .before .word-at .ensures) at (c .one .ensures .0) in
+    let at-loop = c .before .before .before in
+    let a = at-loop .before .before .args in
+    let l = at-loop .loop in
+    let e = labelled-step (a .room .now) (l .i) (a .n) (omega arith) in
+    let f : c .one .result ≡ labelled (getD (a .room .now) (l .i) 0 ∷ []) = c .one .ensures .0 in
     omega arith
+
+cast-result : tie.Need-cast-result Inv-loop μ-loop
+cast-result c = omega arith
 
 returns : tie.Need-returns Inv-loop μ-loop
 returns c =
-    let a = c .before .before .before .args in
-    let s = a .room .now in
-    let l = c .before .loop in
-    let e = labelled-end s (l .i) (a .n) (omega arith) in
+    let at-loop = c .before in
+    let a = at-loop .before .before .args in
+    let e = labelled-end (a .room .now) (at-loop .loop .i) (a .n) (omega arith) in
     omega arith
 
 pub count-labels-spec : {M : Type 1} → statement M
@@ -60,10 +65,12 @@ count-labels-spec =
     Inv-loop
     μ-loop
     loop-holds
-    word-at-requires
+    mul-one
+    shared-slice-read-one
     one-requires
     add-k
     add-i
     loop-less
     loop-again
+    cast-result
     returns)

@@ -1,18 +1,19 @@
 -- `writer::one` meets its contract. Assumes nothing.
-use native.Mathlib.Omega.{arith}
-use Rattle.writer.specs.SpelledLaws.{labelled-none, labelled-one}
+use mathlib.Core.Bool.{not}
+use lib.Dec.{eqb}
+use borrow.Author.Needs.{needs}
+use Rattle.lists.specs.Sums.{bit-le}
+use Rattle.writer.specs.SpelledLaws.{labelled-bit}
 use Rattle.writer.proofs.one.Statement.{statement}
 use Rattle.writer.proofs.one.Tie as tie
 
+cast-result : tie.Need-cast-result
+cast-result c = search needs
+
 returns : tie.Need-returns
 returns c =
-    let e = labelled-none (c .before .args .v) (c .if1 .taken) in
-    omega arith
-
-returns-2 : tie.Need-returns-2
-returns-2 c =
-    let e = labelled-one (c .before .args .v) (c .if1 .left) in
-    omega arith
+    let v = c .args .v in
+    (labelled-bit v, bit-le (not (eqb v 0)))
 
 pub one-spec : {M : Type 1} → statement M
-one-spec = tie.close (tie.spec returns returns-2)
+one-spec = tie.close (tie.spec cast-result returns)

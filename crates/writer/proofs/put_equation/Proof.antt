@@ -1,9 +1,9 @@
 -- `writer::put_equation` meets its contract. Assumes nothing.
 use mathlib.Core.List.{map}
-use mathlib.Core.Path.{refl}
+use mathlib.Core.Path.{refl, ap}
 use Prim.Native.Nat.{_+_}
 use native.Mathlib.Omega.{arith}
-use lib.ListN.{getD}
+use lib.ListN.{length, getD}
 use borrow.Author.Needs.{needs}
 use Rattle.rules.specs.Records.{widths}
 use Rattle.rules.specs.Session.{unword}
@@ -16,10 +16,22 @@ word-at-requires : tie.Need-word-at-requires
 word-at-requires c κs = search needs
 
 write-signed-requires : tie.Need-write-signed-requires
-write-signed-requires c κs = search needs
+unfolding widths
+write-signed-requires c κs =
+    let at-test = c .before .before in
+    let a = at-test .before .before .before .args in
+    let l = map unword (rest (a .room .now) (a .i + 1) (a .n)) in
+    let e = ap length (equation-signed (a .signs) (a .b) (unword (getD (a .room .now) (a .i) 0)) l (at-test .if1 .taken)) in
+    omega arith
 
 add-result : tie.Need-add-result
-add-result c = search needs
+unfolding widths
+add-result c =
+    let at-test = c .before .before .before .before .before in
+    let a = at-test .before .before .before .args in
+    let l = map unword (rest (a .room .now) (a .i + 1) (a .n)) in
+    let e = ap length (equation-signed (a .signs) (a .b) (unword (getD (a .room .now) (a .i) 0)) l (at-test .if1 .taken)) in
+    omega arith
 
 same-length : tie.Need-same-length
 same-length c = search needs
@@ -35,7 +47,12 @@ returns c =
     (rw (equation-signed (a .signs) (a .b) e l (at-write .before .before .before .if1 .taken)) (rw (at-write .before .word-at .ensures) at (at-write .write-signed .ensures), refl), omega arith)
 
 put-in-block-requires : tie.Need-put-in-block-requires
-put-in-block-requires c κs = search needs
+put-in-block-requires c κs =
+    let at-test = c .before in
+    let a = at-test .before .before .before .args in
+    let l = map unword (rest (a .room .now) (a .i + 1) (a .n)) in
+    let e = ap length (equation-block (a .signs) (a .b) (unword (getD (a .room .now) (a .i) 0)) l (at-test .if1 .left)) in
+    (omega arith, omega arith)
 
 same-length-2 : tie.Need-same-length-2
 same-length-2 c = search needs

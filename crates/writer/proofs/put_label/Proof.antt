@@ -1,5 +1,7 @@
 -- `writer::put_label` meets its contract. Assumes nothing.
+use mathlib.Core.Path.{ap, _∙_}
 use native.Mathlib.Omega.{arith}
+use lib.ListN.{length}
 use borrow.Author.Needs.{needs}
 use Rattle.writer.specs.SpelledLaws.{wrote-none, no-label, a-label, label-length}
 use Rattle.writer.proofs.put_label.Statement.{statement}
@@ -14,10 +16,17 @@ cast-write-label : tie.Need-cast-write-label
 cast-write-label c = search needs
 
 write-label-requires : tie.Need-write-label-requires
-write-label-requires c κs = search needs
+write-label-requires c κs =
+    let a = c .before .before .before .args in
+    let e = ap length (a-label (a .s) (a .v) (c .before .if1 .left)) ∙ label-length (a .s) (a .v) in
+    omega arith
 
 add-result : tie.Need-add-result
-add-result c = search needs
+add-result c =
+    let at-test = c .before .before .before .before in
+    let a = at-test .before .before .args in
+    let e = ap length (a-label (a .s) (a .v) (at-test .if1 .left)) ∙ label-length (a .s) (a .v) in
+    omega arith
 
 same-length : tie.Need-same-length
 same-length c = search needs

@@ -1,6 +1,7 @@
 -- `writer::put_live` meets its contract. Assumes nothing.
-use mathlib.Core.Path.{refl}
+use mathlib.Core.Path.{refl, ap}
 use native.Mathlib.Omega.{arith}
+use lib.ListN.{length}
 use borrow.Author.Needs.{needs}
 use Rattle.rules.specs.Records.{widths}
 use Rattle.writer.specs.SpelledLaws.{wrote-none, live-said, live-unsaid}
@@ -8,10 +9,17 @@ use Rattle.writer.proofs.put_live.Statement.{statement}
 use Rattle.writer.proofs.put_live.Tie as tie
 
 write-live-requires : tie.Need-write-live-requires
-write-live-requires c κs = search needs
+unfolding widths
+write-live-requires c κs =
+    let e = ap length (live-said (c .before .before .before .args .live) (c .before .if1 .taken)) in
+    omega arith
 
 add-result : tie.Need-add-result
-add-result c = search needs
+unfolding widths
+add-result c =
+    let at-test = c .before .before .before .before in
+    let e = ap length (live-said (at-test .before .before .args .live) (at-test .if1 .taken)) in
+    omega arith
 
 same-length : tie.Need-same-length
 same-length c = search needs

@@ -1,7 +1,7 @@
 -- Each way out leaves what the call is said to leave there. Assumes nothing.
 use Rattle.rules.specs.Rooms.{roomsOf}
 use Rattle.calls.specs.WriteLaws.{write-stops}
-use Rattle.writes.specs.Leaves.{good-limits, leaves-short, leaves-written}
+use Rattle.writes.specs.Leaves.{good-labels, good-limits, good-room, leaves-short, leaves-written}
 use mathlib.Core.Path.{sym}
 use native.Mathlib.Omega.{arith}
 use lib.Seq.{length-take-le}
@@ -25,7 +25,11 @@ enum-told : tie.Need-enum-told
 enum-told c = search needs
 
 spelled-length-requires : tie.Need-spelled-length-requires
-spelled-length-requires c κs = search needs
+spelled-length-requires c κs =
+    let a = c .before .before .before .before .before .before .before .before .before .args in
+    let l = roomsOf (a .labels .now) (a .equations .now) (a .values .now) (a .marks .now) (a .moves .now) in
+    let checked = c .before .before .session-refusal in
+    good-labels (a .session) l (a .out .now) (checked .result) (checked .ensures) (c .enum-told .given .1)
 
 returns-2 : tie.Need-returns-2
 returns-2 c =
@@ -48,7 +52,10 @@ write-model-requires : tie.Need-write-model-requires
 write-model-requires c κs =
     let a = c .before .before .before .before .before .before .before .before .before .before .before .before .before .args in
     let l = roomsOf (a .labels .now) (a .equations .now) (a .values .now) (a .marks .now) (a .moves .now) in
-    good-limits (a .session) l (a .out .now) (c .before .before .before .before .before .before .session-refusal .result) (c .before .before .before .before .before .before .session-refusal .ensures) (c .before .before .before .before .enum-told .given .1)
+    let checked = c .before .before .before .before .before .before .session-refusal in
+    let good = c .before .before .before .before .enum-told .given .1 in
+    let counted = c .before .before .before .spelled-length in
+    (good-limits (a .session) l (a .out .now) (checked .result) (checked .ensures) good, good-room (a .session) l (a .out .now) (checked .result) (checked .ensures) good (counted .result) (counted .ensures) (omega arith))
 
 same-length : tie.Need-same-length
 same-length c = search needs
