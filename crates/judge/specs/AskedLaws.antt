@@ -1,5 +1,6 @@
 -- A turn and its question, from what code has in hand. Assumes nothing.
 use mathlib.Core.Path.{_≡_, refl, sym, ap, _∙_}
+use mathlib.Core.Logic.{inl, inr}
 use mathlib.Core.Bool.{Bool, true, false}
 use mathlib.Core.List.{List, [], _∷_}
 use Prim.Native.Nat.{ℕ, _-_, _*_, _≤_, _<_}
@@ -8,9 +9,10 @@ use lib.ListN.{length}
 use types.Run.{OneOf, miss}
 use denote.Enum.Declared.{tagOf}
 use Rattle.lists.specs.Lists.{lowest}
-use Rattle.lists.specs.Tests.{and-in, and-no, eqb-is, eqb-no, ltb-in, ltb-no}
+use Rattle.lists.specs.Tests.{tell, and-in, and-no, eqb-is, eqb-no, ltb-in, ltb-no}
 use Rattle.components.specs.Stored.{held}
 use Rattle.rules.proofs.Record.{the-type}
+use Rattle.rules.specs.Load.{inside}
 use Rattle.rules.specs.Model.{Equation, guilty}
 use Rattle.rules.specs.Rooms.{Lengths}
 use Rattle.rules.specs.declared.Record.{Record}
@@ -18,8 +20,10 @@ use Rattle.rules.specs.declared.Record.the-variants as R
 use Rattle.rules.specs.declared.Refusal.the-variants as Why
 use Rattle.wire.specs.declared.Read.{Read}
 use Rattle.judge.specs.Asking.{Spelled, isSigned, asksAfter, lowestTo, answeredTurn, askedTurn, Askable, Ready, Asked}
-use Rattle.judge.specs.Going.{KeptTurn, Follows}
-use Rattle.judge.specs.GoingLaws.{askable-next}
+use Rattle.judge.specs.Going.{KeptTurn, Follows, InsideTurn}
+use Rattle.judge.specs.GoingLaws.{turned-inside, askable-next}
+use Rattle.judge.specs.Passing.{Forwarded}
+use Rattle.judge.specs.Progress.{sofarOf}
 use Rattle.judge.specs.SignsRead.{Words, words-held}
 use Rattle.judge.specs.declared.Progress.{Progress}
 use Rattle.judge.specs.declared.ReadModel.the-variants as M
@@ -81,6 +85,22 @@ pub ready-askable : (l : Lengths) (s : List ℕ) (read : Read) (t u : OneTurn) �
 ready-askable l s read (T.Stop a) u d f = rw f tt
 ready-askable l s read (T.Go r x n) u d f = askable-next l s x n u (d .spelled) (f s (d .read-there) refl)
 
-pub ready-asked : (l : Lengths) (s : List ℕ) (read : Read) (t u v : OneTurn) → Ready s read t → Follows l read t (length s) u → v ≡ askedTurn s u → Asked l s t v
-ready-asked l s read (T.Stop a) u v d f e = e ∙ ap (askedTurn s) f
-ready-asked l s read (T.Go r x n) u v d f e = (u, f s (d .read-there) refl, e)
+-- The question keeps the turn inside the limits and in the bytes.
+asked-inside : (s : List ℕ) (u : OneTurn) → InsideTurn s u → InsideTurn s (askedTurn s u)
+asked-inside s (T.Stop a) g = tt
+asked-inside s (T.Go r y n) g =
+    elim (tell true (asksAfter r y)) [
+      | inr e ↦ rw e g
+      | inl e ↦ rw e (elim (tell true (ltb (lowestTo s n (y .sizes .variables)) (y .sizes .variables))) [
+        | inr f ↦ rw f g
+        | inl f ↦ rw f tt
+      ])
+    ]
+
+pub ready-inside : (l : Lengths) (s : List ℕ) (read : Read) (t u v : OneTurn) → Ready s read t → Follows l read t (length s) u → v ≡ askedTurn s u → InsideTurn s v
+ready-inside l s read (T.Stop a) u v d f e = rw (e, f) tt
+ready-inside l s read (T.Go r x n) u v d f e = rw e (asked-inside s u (turned-inside l s (inside (sofarOf x)) n u (f s (d .read-there) refl)))
+
+pub ready-asked : (l : Lengths) (s : List ℕ) (read : Read) (t u v w : OneTurn) → Ready s read t → Follows l read t (length s) u → v ≡ askedTurn s u → Forwarded l s v w → Asked l s t w
+ready-asked l s read (T.Stop a) u v w d f e g = let h : v ≡ T.Stop a = e ∙ ap (askedTurn s) f in rw h at g
+ready-asked l s read (T.Go r x n) u v w d f e g = (u, f s (d .read-there) refl, rw e at g)

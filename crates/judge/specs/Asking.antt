@@ -18,6 +18,7 @@ use Rattle.wire.specs.PartsAt.{partsAt}
 use Rattle.wire.specs.Places.{recordAt}
 use Rattle.wire.specs.declared.Read.{Read}
 use Rattle.judge.specs.Progress.{sofarOf, Kept}
+use Rattle.judge.specs.Passing.{Forwarded}
 use Rattle.judge.specs.Turning.{Summary, summaryAfter, movesOf, Turned}
 use Rattle.judge.specs.declared.Progress.{Progress}
 use Rattle.judge.specs.declared.ReadModel.the-variants as M
@@ -96,7 +97,7 @@ abbrev pub Ready : List ℕ → Read → OneTurn → Type 0
 Ready s read (T.Stop a) = Unit {0}
 Ready s read (T.Go r x n) = Reading s read x n
 
--- What it answers: the turn of the reading without chains, with its question.
+-- What it answers: the turn of the reading without chains, with its question, moved on past labels or moves that follow.
 abbrev pub Asked : Lengths → List ℕ → OneTurn → OneTurn → Type 0
 Asked l s (T.Stop a) u = u ≡ T.Stop a
-Asked l s (T.Go r x n) u = (v : OneTurn) × Turned l s (inside (sofarOf x)) n v × (u ≡ askedTurn s v)
+Asked l s (T.Go r x n) u = (v : OneTurn) × Turned l s (inside (sofarOf x)) n v × Forwarded l s (askedTurn s v) u

@@ -21,6 +21,7 @@ use Rattle.wire.specs.declared.Read.{Read}
 use Rattle.judge.specs.Asking.{wholeOn, whole, signAt, signsTo, Spelled, isSigned, asksAfter, lowestTo, askedTurn, Askable, SpelledSofar, Ready, Asked}
 use Rattle.judge.specs.Beside.{Beside, goes, asks, beside, stops-same, stops-before}
 use Rattle.judge.specs.Going.{placeOf, answerOf, KeptTurn, Follows, Inside, InsideTurn, Onward, Going, left}
+use Rattle.judge.specs.Passing.{Passed, here, on, Forwarded}
 use Rattle.judge.specs.Plain.{plain, withSigns, without}
 use Rattle.judge.specs.Progress.{sofarOf, Kept}
 use Rattle.judge.specs.SignsRead.{signed-kind, other-kind, signed-back, signed-there, signs-length, one-more, spelled-none, spelled-more}
@@ -212,6 +213,26 @@ module _ (l : Lengths) (s : List ℕ) (x : Progress) (n : ℕ) (q : Record) (y :
     pub asked-going : Going l s (askedTurn s (T.Go q y k))
     asked-going = asked-on (step l (inside (withSigns (g .signs) (sofarOf x))) (numbersOf q)) refl (rw (t .steps) at (beside l (g .signs) (sofarOf x) (numbersOf q)))
 
+    -- After any other record.
+    pub other-going : (numbersOf q .kind ≡ 11 → ⊥) → Onward l s y k
+    other-going f = rw (other-asks f) at asked-going
+
+-- Records passed in one go keep the answer, and bring it no further from the end.
+passed-going : (l : Lengths) (s : List ℕ) (x y : Progress) (n k : ℕ) → Onward l s x n → Passed l s x n y k → Onward l s y k
+passed-going l s x y n k g here = g
+passed-going l s x y n k g (on z w i j r p f t) = other-going l s z i r w j t (passed-going l s x z n i g p) f
+
+passed-nearer : (l : Lengths) (s : List ℕ) (x y : Progress) (n k : ℕ) → n ≤ length s → Passed l s x n y k → (n ≤ k) × (k ≤ length s)
+passed-nearer l s x y n k h here = (omega arith, h)
+passed-nearer l s x y n k h (on z w i j r p f t) = let b = passed-nearer l s x z n i h p in let o = t .on in (omega arith, t .inside-bytes)
+
+forwarded-going : (l : Lengths) (s : List ℕ) (t u : OneTurn) (m : ℕ) → Going l s t → left s t < m → Forwarded l s t u → Going l s u × (left s u < m)
+forwarded-going l s (T.Stop a) u m g h f = rw f (g, h)
+forwarded-going l s (T.Go r x n) u m g h f =
+    let p = f .3 in
+    let b = passed-nearer l s x (f .0) n (f .1) (g .here .inside-bytes) p in
+    rw (f .2) (passed-going l s x (f .0) n (f .1) g p, omega arith)
+
 -- A turn that follows one that goes on.
 follows-on : (l : Lengths) (s : List ℕ) (x : Progress) (n : ℕ) (u : OneTurn) → Onward l s x n → Turned l s (inside (sofarOf x)) n u → Going l s (askedTurn s u)
 unfolding readOn wholeOn
@@ -266,7 +287,7 @@ going-ready l s (T.Go r x n) read g e = record { kept = g .here .kept; read-ther
 pub going-next : (l : Lengths) (s : List ℕ) (t u : OneTurn) → Going l s t → (placeOf t ≡ 0 → ⊥) → Asked l s t u → Going l s u × (left s u < left s t)
 going-next l s (T.Stop a) u g f w = absurd (f refl)
 going-next l s (T.Go r x n) u g f w =
-    rw (w .2) (follows-on l s x n (w .0) g (w .1), asked-nearer s (w .0) (left s (T.Go r x n)) (nearer-on l s r x n (w .0) (w .1)))
+    forwarded-going l s (askedTurn s (w .0)) u (left s (T.Go r x n)) (follows-on l s x n (w .0) g (w .1)) (asked-nearer s (w .0) (left s (T.Go r x n)) (nearer-on l s r x n (w .0) (w .1))) (w .2)
 
 -- Where it is over, it has the answer.
 settled-summary : (o : Outcome Model) → summary (onto settleStyle o) ≡ summary o

@@ -3,10 +3,12 @@ pub mod Plain
 pub mod Demands
 pub mod Due
 pub mod Turning
+pub mod Passing
 pub mod Beside
 pub mod Asking
 pub mod SignsRead
 pub mod Going
 pub mod TurnLaws
+pub mod PassingLaws
 pub mod GoingLaws
 pub mod AskedLaws

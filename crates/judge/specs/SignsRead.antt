@@ -1,13 +1,13 @@
 -- Equations with signs, read back from the bytes: one record more is one equation more. Assumes nothing.
 use mathlib.Core.Path.{_≡_, refl, sym, ap, ap₂, _∙_, subst}
 use mathlib.Core.Logic.{inl, inr}
-use mathlib.Core.Bool.{Bool, true, false, cond, true≢false}
+use mathlib.Core.Bool.{Bool, true, false, true≢false}
 use mathlib.Core.List.{List, [], _∷_, _++_}
 use Prim.Native.Nat.{ℕ, zero, suc, _+_, _-_, _*_, _≤_, _<_}
 use native.Mathlib.Nat.{le-of-suc-le-suc, eq-or-lt-of-le, not-suc-le-zero}
 use native.Mathlib.Decide.{ℕ-discrete}
 use native.Mathlib.Omega.{arith}
-use lib.Dec.{eqb, ltb, leb}
+use lib.Dec.{eqb}
 use lib.ListN.{length, getD, set, replicate, length-set}
 use lib.Seq.{getD-set-same, getD-set-other}
 use Rattle.lists.specs.Tests.{tell, eqb-is, eqb-no}
@@ -19,9 +19,9 @@ use Rattle.components.specs.Stored.{held}
 use Rattle.laws.specs.SessionHolds.{unword-word}
 use Rattle.rules.specs.declared.Record.{Record}
 use Rattle.rules.specs.declared.Record.the-variants as R
+use Rattle.wire.specs.PartsAt.{read-there}
 use Rattle.wire.specs.Places.{bodyLen, recordOf, recordAt}
-use Rattle.wire.specs.declared.Read.{Read}
-use Rattle.wire.specs.declared.Read.the-variants.{Got, Broken}
+use Rattle.wire.specs.declared.Read.the-variants.{Got}
 use Rattle.judge.specs.Asking.{signAt, signsFrom, signsTo, Spelled, isSigned}
 
 -- A record is an equation with a sign exactly where its kind is 11.
@@ -58,78 +58,18 @@ signed-back r e =
       | inr h ↦ absurd (true≢false (sym e ∙ other-kind r (eqb-no (numbersOf r .kind) 11 .0 h)))
     ]
 
--- No other kind's body is one.
-other-body : (k : ℕ) (s : List ℕ) (b : ℕ) → eqb k 11 ≡ false → isSigned (recordOf k s b) ≡ false
-unfolding recordOf
-other-body k s b e =
-    elim (tell true (eqb k 1)) [
-      | inl t ↦ rw t refl
-      | inr t ↦ rw t (elim (tell true (eqb k 2)) [
-        | inl t ↦ rw t refl
-        | inr t ↦ rw t (elim (tell true (eqb k 3)) [
-          | inl t ↦ rw t refl
-          | inr t ↦ rw t (elim (tell true (eqb k 4)) [
-            | inl t ↦ rw t refl
-            | inr t ↦ rw t (elim (tell true (eqb k 5)) [
-              | inl t ↦ rw t refl
-              | inr t ↦ rw t (elim (tell true (eqb k 7)) [
-                | inl t ↦ rw t refl
-                | inr t ↦ rw t (elim (tell true (eqb k 8)) [
-                  | inl t ↦ rw t refl
-                  | inr t ↦ rw t (elim (tell true (eqb k 9)) [
-                    | inl t ↦ rw t refl
-                    | inr t ↦ rw t (elim (tell true (eqb k 10)) [
-                      | inl t ↦ rw t refl
-                      | inr t ↦ rw t (rw e refl)
-                    ])
-                  ])
-                ])
-              ])
-            ])
-          ])
-        ])
-      ])
-    ]
-
 -- The record of an equation with a sign has 5 bytes, and says what they say.
-by-body : (s : List ℕ) (n k : ℕ) (r : Record) → isSigned r ≡ true → Got (recordOf (getD s n 0) s (n + 1)) (n + 1 + bodyLen (getD s n 0)) ≡ Got r k
-    → (k ≡ n + 5) × (signOf (numbersOf r) ≡ signAt s n)
-unfolding recordOf bodyLen
-by-body s n k r is g =
-    let a : recordOf (getD s n 0) s (n + 1) ≡ r = cc in
-    let b : n + 1 + bodyLen (getD s n 0) ≡ k = cc in
-    elim (tell true (eqb (getD s n 0) 11)) [
-      | inr e ↦ absurd (true≢false (sym is ∙ ap isSigned (sym a) ∙ other-body (getD s n 0) s (n + 1) e))
-      | inl e ↦
-          let q : getD s n 0 ≡ 11 = eqb-is (getD s n 0) 11 .0 e in
-          let c : r ≡ R.Signed (getD s (n + 1) 0) (getD s (n + 1 + 1) 0) (getD s (n + 1 + 2) 0) (getD s (n + 1 + 3) 0) = sym a ∙ ap (λ (i : ℕ). recordOf i s (n + 1)) q in
-          let d : n + 1 + bodyLen (getD s n 0) ≡ n + 1 + 4 = ap (λ (i : ℕ). n + 1 + bodyLen i) q in
-          let e2 : n + 1 + 1 ≡ n + 2 = omega arith in
-          let e3 : n + 1 + 2 ≡ n + 3 = omega arith in
-          let e4 : n + 1 + 3 ≡ n + 4 = omega arith in
-          (omega arith, rw (c, e2, e3, e4) refl)
-    ]
-
-not-broken : (r : Record) (k : ℕ) → Broken ≡ Got r k → ⊥
-not-broken r k e = let z : _≡_ {A = ℕ} 0 1 = cc in omega arith
-
 pub signed-there : (s : List ℕ) (n k : ℕ) (r : Record) → recordAt s n ≡ Got r k → isSigned r ≡ true → (k ≡ n + 5) × (signOf (numbersOf r) ≡ signAt s n)
-unfolding recordAt
+unfolding recordOf bodyLen
 signed-there s n k r got is =
-    elim (tell true (ltb n (length s))) [
-      | inr e ↦ absurd (not-broken r k (rw e at got))
-      | inl e ↦
-          let g1 = rw e at got in
-          elim (tell true (leb (bodyLen (getD s n 0)) 6)) [
-            | inr f ↦ absurd (not-broken r k (rw f at g1))
-            | inl f ↦
-                let g2 = rw f at g1 in
-                elim (tell true (leb (bodyLen (getD s n 0)) (length s - (n + 1)))) [
-                  | inr h ↦ absurd (not-broken r k (rw h at g2))
-                  | inl h ↦ by-body s n k r is (rw h at g2)
-                ]
-          ]
-    ]
+    let t = read-there s n k r got in
+    let q = signed-back r is in
+    let c : r ≡ R.Signed (getD s (n + 1) 0) (getD s (n + 1 + 1) 0) (getD s (n + 1 + 2) 0) (getD s (n + 1 + 3) 0) = t .is ∙ ap (λ (i : ℕ). recordOf i s (n + 1)) q in
+    let d : k ≡ n + 1 + 4 = t .next ∙ ap (λ (i : ℕ). n + 1 + bodyLen i) q in
+    let e2 : n + 1 + 1 ≡ n + 2 = omega arith in
+    let e3 : n + 1 + 2 ≡ n + 3 = omega arith in
+    let e4 : n + 1 + 3 ≡ n + 4 = omega arith in
+    (omega arith, rw (c, e2, e3, e4) refl)
 
 -- How many there are, and one more at the end.
 pub signs-length : (s : List ℕ) (p k : ℕ) → length (signsFrom s p k) ≡ k

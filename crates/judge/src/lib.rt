@@ -1,9 +1,10 @@
 // A model on the wire, judged record by record.
 ghost use mathlib.Core.Path.{_≡_};
 ghost use mathlib.Core.Bool.{true};
-ghost use Prim.Native.Nat.{_+_, _≤_, _<_};
+ghost use Prim.Native.Nat.{_+_, _≤_, _<_, min};
 ghost use lib.ListN.{length, getD};
 ghost use Rattle.rules.specs.Load.{inside, started, readModel, go, movesDue, allMoving, liveDemands, labelDemands, blockDemands, equationDemands, signedDemands, moveDemands, endDemands, signedOf, afterLive, afterLabel, afterBlock, afterEquation, afterSigned, afterMove, blockFits};
+ghost use Rattle.rules.specs.Limits.{most-moves};
 ghost use Rattle.rules.specs.Moves.{pack};
 ghost use Rattle.rules.specs.Records.{numbersOf, over, demand};
 ghost use Rattle.rules.specs.Rooms.{Lengths};
@@ -15,13 +16,17 @@ ghost use Rattle.judge.specs.Plain.{plain, without};
 ghost use Rattle.judge.specs.Turning.{readSays, summary, endTurn};
 ghost use Rattle.judge.specs.Asking.{signAt, Spelled, answeredTurn, askedTurn, Askable, Ready, Asked};
 ghost use Rattle.judge.specs.SignsRead.{Words};
-ghost use Rattle.judge.specs.Going.{placeOf, answerOf, KeptTurn, Begins, Follows};
+ghost use Rattle.judge.specs.Passing.{Forwarded};
+ghost use Rattle.judge.specs.Going.{placeOf, answerOf, KeptTurn, Begins, Follows, Inside, InsideTurn};
+ghost use Rattle.judge.specs.declared.OneTurn.the-variants.{Go};
 use limits::Lent;
 use rules::Move;
 use rules::Record;
 use rules::Refusal;
 use rules::Sizes;
 use rules::State;
+use runs::LabelRun;
+use runs::MoveRun;
 use wire::Read;
 
 // Of the blocks so far: how many records, the kind of the last, how many of its equations are still due, and how many
@@ -450,13 +455,103 @@ fn asked(bytes: &[u8], t: OneTurn) -> OneTurn
     t
 }
 
-// What was read at the place of the turn before, judged, and its question: the turn after it.
+// How many moves there is room for.
+fn most_lent(l: Lent) -> usize
+    ensures { λ r. ⌜ r ≡ min most-moves (l .moves) ⌝ }
+{
+    if l.moves < limits::MOST_MOVES {
+        return l.moves;
+    }
+    limits::MOST_MOVES
+}
+
+// Where labels are due: past all good labels that stand next.
+fn past_labels(bytes: &[u8], rec: Record, x: Progress, at: usize) -> OneTurn
+    requires { ⌜ Inside (now bytes) x at × ((x .blocks .count ≡ 0) × (x .blocks .equations ≡ 0)) ⌝ }
+    ensures { λ r. ⌜ ((l : Lengths) → Forwarded l (now (bytes .entry)) (Go rec x at) r) ⌝ }
+{
+    let z = x.sizes;
+    let blocks = x.blocks;
+    let moves = x.moves;
+    let start = LabelRun {
+        labels: x.labels,
+        at: at,
+    };
+    let run = runs::labels_run(bytes, z, start);
+    let y = Progress {
+        sizes: z,
+        live: x.live,
+        labels: run.labels,
+        blocks: blocks,
+        moves: moves,
+    };
+    OneTurn::Go(rec, y, run.at)
+}
+
+// Where moves are due: past all good moves that stand next and have room.
+fn past_moves(bytes: &[u8], l: Lent, rec: Record, x: Progress, at: usize) -> OneTurn
+    requires { ⌜ Inside (now bytes) x at × (movesDue (sofarOf x) ≡ true) ⌝ }
+    ensures { λ r. ⌜ Forwarded (lengthsBy l) (now (bytes .entry)) (Go rec x at) r ⌝ }
+{
+    let z = x.sizes;
+    let blocks = x.blocks;
+    let start = MoveRun {
+        count: x.moves.count,
+        least: x.moves.least,
+        moving: x.moves.moving,
+        at: at,
+    };
+    let run = runs::moves_run(bytes, z, most_lent(l), start);
+    let moves = MovesRead {
+        count: run.count,
+        least: run.least,
+        moving: run.moving,
+    };
+    let y = Progress {
+        sizes: z,
+        live: x.live,
+        labels: x.labels,
+        blocks: blocks,
+        moves: moves,
+    };
+    OneTurn::Go(rec, y, run.at)
+}
+
+// Whether all equations have been read, so that moves are due.
+pub fn moves_due(x: Progress) -> bool
+    ensures { λ r. ⌜ r ≡ movesDue (sofarOf x) ⌝ }
+{
+    (x.blocks.due == 0)
+        & (x.blocks.count == x.sizes.blocks as u32)
+        & (x.blocks.equations == x.sizes.variables as u32)
+}
+
+// A turn, moved on past the good labels or the good moves that stand next: as many turns at once.
+fn forward(bytes: &[u8], l: Lent, t: OneTurn) -> OneTurn
+    requires { ⌜ InsideTurn (now bytes) t ⌝ }
+    ensures { λ r. ⌜ Forwarded (lengthsBy l) (now (bytes .entry)) t r ⌝ }
+{
+    let OneTurn::Go(rec, x, at) = t else {
+        return t;
+    };
+    if (x.blocks.count == 0) & (x.blocks.equations == 0) {
+        return past_labels(bytes, rec, x, at);
+    }
+    if moves_due(x) {
+        return past_moves(bytes, l, rec, x, at);
+    }
+    t
+}
+
+// What was read at the place of the turn before, judged, and its question: the turn after it, moved on past the labels or moves
+// that follow and are good.
 fn judge_turn(read: Read, l: Lent, t: OneTurn, bytes: &[u8]) -> OneTurn
     requires { ⌜ Ready (now bytes) read t ⌝ }
     ensures { λ r. ⌜ Asked (lengthsBy l) (now (bytes .entry)) t r ⌝ }
 {
     let u = turn(read, l, t, bytes.len());
-    asked(bytes, u)
+    let v = asked(bytes, u);
+    forward(bytes, l, v)
 }
 
 // What has been read after a sizes record.

@@ -48,7 +48,7 @@ use Rattle.rules.specs.declared.Refusal.{Refusal}
 use Rattle.rules.specs.declared.Sizes.{Sizes}
 use Rattle.judge.specs.TurnLaws.{Stepped, label, block, equation, move, lives, sign, stepped}
 use Rattle.judge.specs.declared.Progress.{Progress}
-use Rattle.store.specs.Stored.{Stored, putRooms, putTurn, laid, withComponents, storedBy, lengthsWith, ReadInto}
+use Rattle.store.specs.Stored.{Stored, Here, Holds, Storing, putRooms, putTurn, laid, withComponents, storedBy, lengthsWith, ReadInto}
 
 -- One zero of a run of zeros.
 pub zeros-step : (room : List ℕ) (i to : ℕ) → i < to → sets room i (replicate (to - i) 0) ≡ sets (set room i 0) (i + 1) (replicate (to - (i + 1)) 0)
@@ -84,11 +84,6 @@ laid-by l x y r m t k (move v d) =
     let e : wrap (pack (v .source .0) (v .action .0) (v .target .0)) ≡ pack (v .source .0) (v .action .0) (v .target .0) = omega arith in
     rw e refl
 
--- Where the reading stands: if the whole is accepted, so is the rest, and storing the rest gives the whole.
-abbrev pub Here : Lengths → List ℕ → Stored → Sofar → ℕ → Stored → Type 0
-Here l s t₀ x at t =
-    (m : Model) → readPlain l s ≡ accepted m → (n : Model) × (readOn l s (inside x) at ≡ accepted n) × (laid x n t ≡ laid (started (m .sizes)) m t₀)
-
 -- Where no record goes on, nothing is left to store.
 last-by : (l : Lengths) (st : State) (q : Parts) (n : Model) → Stops l st q → run (plain l) put last st q ≡ accepted n → n ≡ last st
 unfolding run
@@ -122,7 +117,7 @@ module _ (l : Lengths) (s : List ℕ) (t₀ : Stored) where
       ]
 
   -- One record further.
-  here-goes : (p y : Progress) (at n : ℕ) (r : Record) (t : Stored) → Here l s t₀ (sofarOf p) at t → Kept (sofarOf p)
+  pub here-goes : (p y : Progress) (at n : ℕ) (r : Record) (t : Stored) → Here l s t₀ (sofarOf p) at t → Kept (sofarOf p)
       → Goes l s (inside (sofarOf p)) at r y n → Here l s t₀ (sofarOf y) n (putRooms (sofarOf p) r t)
   unfolding readOn run
   here-goes p y at n r t h k g m a =
@@ -145,46 +140,37 @@ module _ (l : Lengths) (s : List ℕ) (t₀ : Stored) where
   unfolding readPlain last laid
   here-none f m e = let w = last-by l before (partsAt s 0) m f e in rw w refl
 
-  -- Between two turns: what was stored so far, and where the reading is over, the whole.
-  abbrev Holds : OneTurn → Stored → Type 0
-  Holds (T.Stop a) t = (m : Model) → readPlain l s ≡ accepted m → t ≡ laid (started (m .sizes)) m t₀
-  Holds (T.Go r x n) t = Here l s t₀ (sofarOf x) n t
-
-  pub record Storing (u : OneTurn) (t : Stored) : Type 0 where
-    pub going : InsideTurn s u
-    pub holds : Holds u t
-
   -- The first turn, which stores nothing.
-  holds-first : (u : OneTurn) → Turned l s before 0 u → Holds u t₀
+  holds-first : (u : OneTurn) → Turned l s before 0 u → Holds l s t₀ u t₀
   holds-first (T.Stop a) w = here-none (w .1)
   holds-first (T.Go r y n) w = here-first y n r w
 
-  pub storing-first : (u : OneTurn) → Turned l s before 0 u → Storing u t₀
+  pub storing-first : (u : OneTurn) → Turned l s before 0 u → Storing l s t₀ u t₀
   storing-first u w = record { going = turned-inside l s before 0 u w; holds = holds-first u w }
 
   -- A turn that follows one that goes on.
-  holds-on : (r : Record) (x : Progress) (n : ℕ) (u : OneTurn) (t : Stored) → Kept (sofarOf x) → Here l s t₀ (sofarOf x) n t → Turned l s (inside (sofarOf x)) n u → Holds u (putTurn (T.Go r x n) u t)
+  holds-on : (r : Record) (x : Progress) (n : ℕ) (u : OneTurn) (t : Stored) → Kept (sofarOf x) → Here l s t₀ (sofarOf x) n t → Turned l s (inside (sofarOf x)) n u → Holds l s t₀ u (putTurn (T.Go r x n) u t)
   holds-on r x n (T.Stop a) t k h w = here-stops (sofarOf x) n t h (w .1)
   holds-on r x n (T.Go q y j) t k h w = here-goes x y n j q t h k w
 
-  holds-next : (x u : OneTurn) (t : Stored) (read : Read) → Storing x t → (placeOf x ≡ 0 → ⊥) → read ≡ recordAt s (placeOf x) → Follows l read x (length s) u → Holds u (putTurn x u t)
+  holds-next : (x u : OneTurn) (t : Stored) (read : Read) → Storing l s t₀ x t → (placeOf x ≡ 0 → ⊥) → read ≡ recordAt s (placeOf x) → Follows l read x (length s) u → Holds l s t₀ u (putTurn x u t)
   holds-next (T.Stop a) u t read g f e w = absurd (f refl)
   holds-next (T.Go r x n) u t read g f e w = holds-on r x n u t (g .going .kept) (g .holds) (w s e refl)
 
   -- A turn that is not over has a place, and one follows it, nearer to the end.
-  pub storing-next : (x u : OneTurn) (t : Stored) (read : Read) → Storing x t → (placeOf x ≡ 0 → ⊥) → read ≡ recordAt s (placeOf x) → Follows l read x (length s) u
-      → Storing u (putTurn x u t) × (left s u < left s x)
+  pub storing-next : (x u : OneTurn) (t : Stored) (read : Read) → Storing l s t₀ x t → (placeOf x ≡ 0 → ⊥) → read ≡ recordAt s (placeOf x) → Follows l read x (length s) u
+      → Storing l s t₀ u (putTurn x u t) × (left s u < left s x)
   storing-next (T.Stop a) u t read g f e w = absurd (f refl)
   storing-next (T.Go r x n) u t read g f e w =
       let d = w s e refl in
       (record { going = turned-inside l s (inside (sofarOf x)) n u d; holds = holds-next (T.Go r x n) u t read g f e w }, nearer-on l s r x n u d)
 
   -- Where it is over, the whole is stored.
-  over-by : (x : OneTurn) (t : Stored) → InsideTurn s x → Holds x t → placeOf x ≡ 0 → (m : Model) → readPlain l s ≡ accepted m → t ≡ laid (started (m .sizes)) m t₀
+  over-by : (x : OneTurn) (t : Stored) → InsideTurn s x → Holds l s t₀ x t → placeOf x ≡ 0 → (m : Model) → readPlain l s ≡ accepted m → t ≡ laid (started (m .sizes)) m t₀
   over-by (T.Stop a) t g h e = h
   over-by (T.Go r x n) t g h e = let k = g .begun in absurd (omega arith)
 
-  pub storing-over : (x : OneTurn) (t : Stored) → Storing x t → placeOf x ≡ 0 → (m : Model) → readPlain l s ≡ accepted m → t ≡ laid (started (m .sizes)) m t₀
+  pub storing-over : (x : OneTurn) (t : Stored) → Storing l s t₀ x t → placeOf x ≡ 0 → (m : Model) → readPlain l s ≡ accepted m → t ≡ laid (started (m .sizes)) m t₀
   storing-over x t g e = over-by x t (g .going) (g .holds) e
 
 -- Other records store nothing.

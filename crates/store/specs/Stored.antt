@@ -1,15 +1,21 @@
 -- What a model leaves in the rooms for labels, equations and moves. Definitions only.
 use mathlib.Core.Path.{_≡_}
 use mathlib.Core.Bool.{cond}
-use mathlib.Core.List.{List, map}
-use Prim.Native.Nat.{ℕ, _-_}
+use mathlib.Core.List.{List, [], _∷_, map}
+use Prim.Native.Nat.{ℕ, zero, suc, _+_, _-_, _≤_, _<_}
 use lib.ListN.{length, set, replicate}
 use lib.Seq.{sets}
 use Rattle.lists.specs.Lists.{fill}
-use Rattle.rules.specs.Load.{Sofar, equationOf, signedOf, readModel}
+use Rattle.rules.specs.Load.{Sofar, inside, started, equationOf, signedOf, readModel}
 use Rattle.rules.specs.Rooms.{Lengths}
+use Rattle.wire.specs.Places.{le16, le32, moveAt, recordAt}
+use Rattle.wire.specs.declared.Read.{Read}
+use Rattle.runs.specs.Runs.{packed, GoodLabel, withLabel}
+use Rattle.runs.specs.declared.LabelRun.{LabelRun}
+use Rattle.judge.specs.Going.{placeOf, InsideTurn, left}
+use Rattle.judge.specs.Plain.{readPlain}
 use Rattle.judge.specs.Progress.{sofarOf}
-use Rattle.judge.specs.Turning.{readSays, summary}
+use Rattle.judge.specs.Turning.{readOn, readSays, summary}
 use Rattle.judge.specs.declared.OneTurn.{OneTurn}
 use Rattle.judge.specs.declared.OneTurn.the-variants as T
 use Rattle.judge.specs.declared.ReadModel.{ReadModel}
@@ -96,3 +102,44 @@ lengthsWith values marks index queue t = record {
 pub record ReadInto (s : List ℕ) (values marks index queue : ℕ) (t : Stored) (r : ReadModel) (u : Stored) : Type 0 where
   pub says : readSays r ≡ summary (readModel (lengthsWith values marks index queue t) s)
   pub stores : u ≡ storedBy (readModel (lengthsWith values marks index queue t) s) t
+
+-- Where the reading stands: if the whole is accepted, so is the rest, and storing the rest gives the whole.
+abbrev pub Here : Lengths → List ℕ → Stored → Sofar → ℕ → Stored → Type 0
+Here l s t₀ x at t =
+    (m : Model) → readPlain l s ≡ accepted m → (n : Model) × (readOn l s (inside x) at ≡ accepted n) × (laid x n t ≡ laid (started (m .sizes)) m t₀)
+
+-- Between two turns: what was stored so far, and where the reading is over, the whole.
+abbrev pub Holds : Lengths → List ℕ → Stored → OneTurn → Stored → Type 0
+Holds l s t₀ (T.Stop a) t = (m : Model) → readPlain l s ≡ accepted m → t ≡ laid (started (m .sizes)) m t₀
+Holds l s t₀ (T.Go r x n) t = Here l s t₀ (sofarOf x) n t
+
+pub record Storing (l : Lengths) (s : List ℕ) (t₀ : Stored) (u : OneTurn) (t : Stored) : Type 0 where
+  pub going : InsideTurn s u
+  pub holds : Holds l s t₀ u t
+
+-- What one turn that stores is handed: what was read at the place of the turn before.
+abbrev pub StoresAt : List ℕ → Read → OneTurn → Type 0
+StoresAt s read t = InsideTurn s t × (read ≡ recordAt s (placeOf t))
+
+-- What it does: from what was stored so far to what is stored with it, nearer to the end.
+abbrev pub Stores : Lengths → List ℕ → OneTurn → Stored → OneTurn → Stored → Type 0
+Stores l s t h u k = (t₀ : Stored) → Storing l s t₀ t h → (placeOf t ≡ 0 → ⊥) → Storing l s t₀ u k × (left s u < left s t)
+
+-- What is stored beside the turns: from a turn, and rooms for labels and moves, to another turn and other rooms.
+abbrev pub RunStored : List ℕ → OneTurn → List ℕ → List ℕ → OneTurn → List ℕ → List ℕ → Type 0
+RunStored s u ls ms v ls′ ms′ =
+    (l : Lengths) (t₀ : Stored) (es : List ℕ) → Storing l s t₀ u (three ls es ms) → Storing l s t₀ v (three ls′ es ms′) × (left s v ≤ left s u)
+
+-- The label that stands next, after zeros for the states before it that have none.
+abbrev pub labelPut : List ℕ → LabelRun → List ℕ → List ℕ
+labelPut s x ls = set (sets ls (x .labels) (replicate (le16 s (x .at + 1) - x .labels) 0)) (le16 s (x .at + 1)) (le32 s (x .at + 3))
+
+-- From one place to another there are good labels and nothing else, and each is put into the room.
+pub data LabelsPut (s : List ℕ) (z : Sizes) (x : LabelRun) (ls : List ℕ) : LabelRun → List ℕ → Type 0 where
+  none : LabelsPut s z x ls x ls
+  more : (y : LabelRun) (ms : List ℕ) → LabelsPut s z x ls y ms → GoodLabel s z y → LabelsPut s z x ls (withLabel s y) (labelPut s y ms)
+
+-- The numbers of so many moves that stand from a place on.
+abbrev pub movesFrom : List ℕ → ℕ → ℕ → List ℕ
+movesFrom s p zero = []
+movesFrom s p (suc k) = wrap (packed (moveAt s (p + 1))) ∷ movesFrom s (p + 6) k

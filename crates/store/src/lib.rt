@@ -1,9 +1,11 @@
 // A model that was judged good, stored into the rooms lent for it.
 ghost use mathlib.Core.Path.{_≡_};
-ghost use Prim.Native.Nat.{_-_, _≤_};
+ghost use mathlib.Core.Bool.{true};
+ghost use mathlib.Core.List.{List};
+ghost use Prim.Native.Nat.{ℕ, _+_, _-_, _/_, _≤_};
 ghost use lib.ListN.{length, set, replicate};
 ghost use lib.Seq.{sets};
-ghost use Rattle.rules.specs.Load.{started, equationOf};
+ghost use Rattle.rules.specs.Load.{started, equationOf, movesDue};
 ghost use Rattle.rules.specs.Model.{Model};
 ghost use Rattle.rules.specs.Moves.{pack, wrap};
 ghost use Rattle.rules.specs.Records.{accepted};
@@ -11,8 +13,10 @@ ghost use Rattle.rules.specs.Session.{word};
 ghost use Rattle.limits.specs.Lent.{lengthsBy};
 ghost use Rattle.judge.specs.Plain.{readPlain};
 ghost use Rattle.judge.specs.Progress.{sofarOf, Kept};
-ghost use Rattle.judge.specs.Going.{KeptTurn};
-ghost use Rattle.store.specs.Stored.{Stored, putRooms, putTurn, laid, withComponents, ReadInto};
+ghost use Rattle.judge.specs.Going.{KeptTurn, Inside, InsideTurn};
+ghost use Rattle.judge.specs.declared.OneTurn.the-variants.{Go};
+ghost use Rattle.runs.specs.Runs.{withLabel};
+ghost use Rattle.store.specs.Stored.{Stored, putRooms, putTurn, laid, withComponents, ReadInto, StoresAt, Stores, RunStored, labelPut, LabelsPut, movesFrom};
 use judge::OneTurn;
 use judge::Progress;
 use judge::ReadModel;
@@ -20,6 +24,8 @@ use limits::Lent;
 use rules::Move;
 use rules::Record;
 use rules::Sizes;
+use runs::LabelRun;
+use wire::Read;
 
 // Zeros from one place up to another.
 fn zeros(room: &mut [u32], from: usize, to: usize)
@@ -110,6 +116,112 @@ fn put_turn(labels: &mut [u32], equations: &mut [u32], moves: &mut [u32], t: One
     put_record(labels, equations, moves, x, rec);
 }
 
+// The label that stands next, stored: past it.
+fn put_label_at(bytes: &[u8], labels: &mut [u32], x: LabelRun) -> LabelRun
+    requires { ⌜ x .at + 7 ≤ length (now bytes) ⌝ }
+    ensures { λ r. ⌜ (r ≡ withLabel (now (bytes .entry)) x) × (now (labels .exit) ≡ labelPut (now (bytes .entry)) x (now (labels .entry))) ⌝ }
+{
+    let at = x.at;
+    let s = wire::u16_at(bytes, at + 1);
+    let v = wire::u32_at(bytes, at + 3);
+    put_label(labels, x.labels as usize, s as usize, v);
+    runs::with_label(bytes, x)
+}
+
+// All good labels that stand next, stored: past them.
+fn put_labels(bytes: &[u8], labels: &mut [u32], z: Sizes, x: LabelRun) -> LabelRun
+    requires { ⌜ x .at ≤ length (now bytes) ⌝ }
+    ensures { λ r. ⌜ LabelsPut (now (bytes .entry)) z x (now (labels .entry)) r (now (labels .exit)) ⌝ }
+{
+    let mut y = x;
+    while runs::good_label(bytes, z, y) {
+        y = put_label_at(bytes, labels, y);
+    }
+    y
+}
+
+// So many moves as stand whole from a place on, stored.
+fn put_moves(bytes: &[u8], moves: &mut [u32], at: usize, from: usize)
+    requires { ⌜ (at ≤ length (now bytes)) × (from ≤ 1024) ⌝ }
+    ensures { λ _. ⌜ now (moves .exit) ≡ sets (now (moves .entry)) from (movesFrom (now (bytes .entry)) at ((length (now (bytes .entry)) - at) / 6)) ⌝ }
+{
+    let n = (bytes.len() - at) / 6;
+    let mut i: usize = 0;
+    while i < n {
+        let m = wire::move_at(bytes, at + 6 * i + 1);
+        rooms::set_word(moves, from + i, packed(m));
+        i = i + 1;
+    }
+}
+
+// Where labels are due: those that stand next, stored, and the turn moved on past them.
+fn store_labels(bytes: &[u8], labels: &mut [u32], rec: Record, x: Progress, at: usize) -> OneTurn
+    requires { ⌜ Inside (now bytes) x at × ((x .blocks .count ≡ 0) × (x .blocks .equations ≡ 0)) ⌝ }
+    ensures { λ r. ⌜ ((ms : List ℕ) → RunStored (now (bytes .entry)) (Go rec x at) (now (labels .entry)) ms r (now (labels .exit)) ms) ⌝ }
+{
+    let z = x.sizes;
+    let blocks = x.blocks;
+    let moves = x.moves;
+    let start = LabelRun {
+        labels: x.labels,
+        at: at,
+    };
+    let run = put_labels(bytes, labels, z, start);
+    let y = Progress {
+        sizes: z,
+        live: x.live,
+        labels: run.labels,
+        blocks: blocks,
+        moves: moves,
+    };
+    OneTurn::Go(rec, y, run.at)
+}
+
+// Where moves are due: all of them, stored. That is the rest of a good model, so the reading is over.
+fn store_moves(bytes: &[u8], moves: &mut [u32], x: Progress, at: usize) -> OneTurn
+    requires { ⌜ Inside (now bytes) x at × (movesDue (sofarOf x) ≡ true) ⌝ }
+    ensures { λ r. ⌜ ((rec : Record) (ls : List ℕ) → RunStored (now (bytes .entry)) (Go rec x at) ls (now (moves .entry)) r ls (now (moves .exit))) ⌝ }
+{
+    let z = x.sizes;
+    put_moves(bytes, moves, at, x.moves.count as usize);
+    OneTurn::Stop(ReadModel::Good(z, x.live, x.moves.count))
+}
+
+// The labels or the moves that stand next, stored, and the turn moved on past them.
+fn store_run(bytes: &[u8], labels: &mut [u32], moves: &mut [u32], u: OneTurn) -> OneTurn
+    requires { ⌜ InsideTurn (now bytes) u ⌝ }
+    ensures { λ r. ⌜ RunStored (now (bytes .entry)) u (now (labels .entry)) (now (moves .entry)) r (now (labels .exit)) (now (moves .exit)) ⌝ }
+{
+    let OneTurn::Go(rec, x, at) = u else {
+        return u;
+    };
+    if (x.blocks.count == 0) & (x.blocks.equations == 0) {
+        return store_labels(bytes, labels, rec, x, at);
+    }
+    if judge::moves_due(x) {
+        return store_moves(bytes, moves, x, at);
+    }
+    u
+}
+
+// What was read at the place of the turn before, stored: the turn after it, moved on past the labels or moves that follow.
+fn store_turn(
+    bytes: &[u8],
+    l: Lent,
+    labels: &mut [u32],
+    equations: &mut [u32],
+    moves: &mut [u32],
+    read: Read,
+    t: OneTurn,
+) -> OneTurn
+    requires { ⌜ StoresAt (now bytes) read t ⌝ }
+    ensures { λ r. ⌜ Stores (lengthsBy l) (now (bytes .entry)) t (record { labels = now (labels .entry); equations = now (equations .entry); moves = now (moves .entry) }) r (record { labels = now (labels .exit); equations = now (equations .exit); moves = now (moves .exit) }) ⌝ }
+{
+    let u = judge::turn(read, l, t, bytes.len());
+    put_turn(labels, equations, moves, t, u);
+    store_run(bytes, labels, moves, u)
+}
+
 // The whole model, read through one reader from record to record, and stored. Chains are not asked again, and components are
 // not put in.
 fn store_model(bytes: &[u8], l: Lent, labels: &mut [u32], equations: &mut [u32], moves: &mut [u32])
@@ -123,9 +235,7 @@ fn store_model(bytes: &[u8], l: Lent, labels: &mut [u32], equations: &mut [u32],
             break;
         }
         r.at = at;
-        let u = judge::turn(wire::next(r), l, t, bytes.len());
-        put_turn(labels, equations, moves, t, u);
-        t = u;
+        t = store_turn(bytes, l, labels, equations, moves, wire::next(r), t);
     }
 }
 

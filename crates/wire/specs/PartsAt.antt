@@ -10,6 +10,7 @@ use lib.Seq.{drop-cons, drop-drop}
 use lib.Dec.{eqb, ltb, leb}
 use Rattle.lists.specs.Tests.{tests, tell, and-is, leb-is, ltb-is, ltb-no, eqb-no}
 use Rattle.rules.specs.Records.{widths, known, bodyOf, number, reads, Rec, Parts, ends, broken, part, partsFrom, numbersOf}
+use Rattle.rules.specs.declared.Record.{Record}
 use Rattle.laws.specs.RecordLaws.{skipped}
 use Rattle.wire.specs.declared.Read.{Read}
 use Rattle.wire.specs.declared.Read.the-variants.{Got, Broken}
@@ -154,6 +155,50 @@ parts-at s p =
                         omega arith,
                         rw (d, n, u, ← b .0, v) (rw (b .0, z, drop-drop, q, enum-numbers k s (p + 1) u) refl),
                       )
+                ]
+          ]
+    ]
+
+-- A record that is whole in the bytes is read, by its kind and the length of its body.
+pub stands-at : (s : List ℕ) (p k w : ℕ) → getD s p 0 ≡ k → bodyLen k ≡ w → w ≤ 6 → p + 1 + w ≤ length s → recordAt s p ≡ Got (recordOf k s (p + 1)) (p + 1 + w)
+unfolding recordAt
+stands-at s p k w e f g h =
+    rw (e, f, ltb-is p (length s) .1 (omega arith), leb-is w 6 .1 g, leb-is w (length s - (p + 1)) .1 (omega arith)) refl
+
+-- What is read where a record stands: its kind is the byte there, and its body is what follows.
+pub record There (s : List ℕ) (p : ℕ) (r : Record) (n : ℕ) : Type 0 where
+  pub kind : getD s p 0 ≡ numbersOf r .kind
+  pub is : r ≡ recordOf (numbersOf r .kind) s (p + 1)
+  pub next : n ≡ p + 1 + bodyLen (numbersOf r .kind)
+
+not-broken : (r : Record) (n : ℕ) → Broken ≡ Got r n → ⊥
+not-broken r n e = let z : _≡_ {A = ℕ} 0 1 = cc in omega arith
+
+by-body : (s : List ℕ) (p k n : ℕ) (r : Record) → getD s p 0 ≡ k → leb (bodyLen k) 6 ≡ true → Got (recordOf k s (p + 1)) (p + 1 + bodyLen k) ≡ Got r n → There s p r n
+by-body s p k n r e f g =
+    elim (tell true (known k)) [
+      | inr u ↦ let h = leb-is (bodyLen k) 6 .0 f in let w = body-unknown k u in absurd (omega arith)
+      | inl u ↦
+          let a : recordOf k s (p + 1) ≡ r = cc in
+          let b : p + 1 + bodyLen k ≡ n = cc in
+          let c : k ≡ numbersOf r .kind = sym (ap (λ (q : Rec). q .kind) (enum-numbers k s (p + 1) u)) ∙ ap (λ (q : Record). numbersOf q .kind) a in
+          record { kind = e ∙ c; is = sym a ∙ ap (λ (i : ℕ). recordOf i s (p + 1)) c; next = sym b ∙ ap (λ (i : ℕ). p + 1 + bodyLen i) c }
+    ]
+
+pub read-there : (s : List ℕ) (p n : ℕ) (r : Record) → recordAt s p ≡ Got r n → There s p r n
+unfolding recordAt
+read-there s p n r got =
+    elim (tell true (ltb p (length s))) [
+      | inr e ↦ absurd (not-broken r n (rw e at got))
+      | inl e ↦
+          let a = rw e at got in
+          elim (tell true (leb (bodyLen (getD s p 0)) 6)) [
+            | inr f ↦ absurd (not-broken r n (rw f at a))
+            | inl f ↦
+                let b = rw f at a in
+                elim (tell true (leb (bodyLen (getD s p 0)) (length s - (p + 1)))) [
+                  | inr h ↦ absurd (not-broken r n (rw h at b))
+                  | inl h ↦ by-body s p (getD s p 0) n r refl f (rw h at b)
                 ]
           ]
     ]

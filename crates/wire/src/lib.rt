@@ -32,7 +32,7 @@ fn wide(x: u8) -> u16
 }
 
 // Two bytes, the low one first.
-fn u16_at(s: &[u8], at: usize) -> u16
+pub fn u16_at(s: &[u8], at: usize) -> u16
     requires { ⌜ at + 1 < length (now s) ⌝ }
     ensures { λ r. ⌜ r ≡ le16 (now (s .entry)) at ⌝ }
 {
@@ -40,7 +40,7 @@ fn u16_at(s: &[u8], at: usize) -> u16
 }
 
 // Four bytes, the low one first.
-fn u32_at(s: &[u8], at: usize) -> u32
+pub fn u32_at(s: &[u8], at: usize) -> u32
     requires { ⌜ at + 3 < length (now s) ⌝ }
     ensures { λ r. ⌜ r ≡ le32 (now (s .entry)) at ⌝ }
 {
@@ -48,7 +48,7 @@ fn u32_at(s: &[u8], at: usize) -> u32
 }
 
 // The body of a move, an insert or a delete.
-fn move_at(s: &[u8], at: usize) -> Move
+pub fn move_at(s: &[u8], at: usize) -> Move
     requires { ⌜ at + 4 < length (now s) ⌝ }
     ensures { λ r. ⌜ r ≡ moveAt (now (s .entry)) at ⌝ }
 {

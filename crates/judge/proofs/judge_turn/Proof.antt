@@ -1,5 +1,5 @@
 -- `judge::judge_turn` meets its contract. Assumes nothing.
-use Rattle.judge.specs.AskedLaws.{ready-kept, ready-askable, ready-asked}
+use Rattle.judge.specs.AskedLaws.{ready-kept, ready-askable, ready-inside, ready-asked}
 use Rattle.judge.proofs.judge_turn.Statement.{statement}
 use Rattle.judge.proofs.judge_turn.Tie as tie
 
@@ -17,10 +17,18 @@ asked-requires c κs =
     let at-start = start-before-turn c in
     ready-askable _ _ _ (at-start .args .t) _ (at-start .pre) (c .turn .ensures)
 
+forward-requires : tie.Need-forward-requires
+forward-requires c κs =
+    let at-turn = c .before in
+    let at-start = start-before-turn at-turn in
+    ready-inside _ _ _ (at-start .args .t) _ _ (at-start .pre) (at-turn .turn .ensures) (c .asked .ensures)
+
 returns : tie.Need-returns
 returns c =
-    let at-start = start-before-turn (c .before) in
-    ready-asked _ _ _ (at-start .args .t) _ _ (at-start .pre) (c .before .turn .ensures) (c .asked .ensures)
+    let at-asked = c .before in
+    let at-turn = at-asked .before in
+    let at-start = start-before-turn at-turn in
+    ready-asked _ _ _ (at-start .args .t) _ _ _ (at-start .pre) (at-turn .turn .ensures) (at-asked .asked .ensures) (c .forward .ensures)
 
 pub judge-turn-spec : {M : Type 1} → statement M
-judge-turn-spec = tie.close (tie.spec turn-requires asked-requires returns)
+judge-turn-spec = tie.close (tie.spec turn-requires asked-requires forward-requires returns)

@@ -1,6 +1,6 @@
 -- `store::store_model` meets its contract: a walk of its MIR, by hand. One `Reader` is held in a local from record to record:
--- each turn of the loop stores the place of the turn before into it, reads the next record through it, and lends the three
--- rooms to `put_turn`. All that the proof knows of the functions called is that each meets its contract.
+-- each turn of the loop stores the place of the turn before into it, reads the next record through it, and lends the bytes and
+-- the three rooms to `store_turn`. All that the proof knows of the functions called is that each meets its contract.
 -- Assumes nothing.
 use mathlib.Core.Path.{_≡_, refl, sym, ap, _∙_}
 use Prim.Native.Nat.{ℕ, _<_, _^_}
@@ -22,22 +22,22 @@ use prog.Wp.{Heap, Out, Env, afterSeq, afterBlock, afterTurn, Calls, Loops, Wp, 
 use ghost.Atoms.{Atoms}
 use contract.Monad.{Fun, fact}
 use contract.Running.{givenOf, tables, tablesOf}
-use types.Kit.{Given, Item, ‵, raw, some, later, _⊛_, runs, anyQ, atRet, Sq, ⋆, _$_, _∵_, !, qed, by, move, keep, drop, rewrite, use1, use2, split, join, pick, await, fsplit, fjoin, feqL, suffices, frame, done}
+use types.Kit.{Given, Item, ‵, raw, some, later, _⊛_, runs, anyQ, atRet, Sq, ⋆, _$_, _∵_, !, qed, by, move, keep, drop, rewrite, use1, use3, split, join, pick, await, fsplit, fjoin, feqL, suffices, frame, done}
 use types.Part.{agg, whole, sub, look-in, store-in}
-use types.Run.{look, init, store, forget, stop, hop, fld, from, load, lit, unit-lit, addr, of-opd, bin, and-then, no-more, assigns, assigns-last, first, skips, jumps, blocks, branches, land, returns, enter, alloc1, alloc0, params1, pass1, pass0, free1, free0, exec, Below, again, loops}
+use types.Run.{look, init, store, forget, stop, hop, fld, from, load, lit, unit-lit, addr, of-opd, bin, and-then, no-more, assigns, first, skips, jumps, blocks, branches, land, land-last, returns, enter, alloc1, alloc0, params1, pass1, pass0, free1, free0, exec, Below, again, loops}
 use sound.WpLaws.{fmOf, WpFn-mono}
 use borrow.Author.Tests.{eq-eqb}
 use denote.RattleType.{owns}
 use denote.Laws.{Is, shows}
-use denote.Plain.{uint-lawful, nothing-lawful, nothing-makes}
+use denote.Plain.{uint-lawful, nothing-makes}
 use denote.Builtin.{u8, u32, unit}
 use denote.Ref.{RefT, now}
 use denote.Signature.{plain}
-use denote.Slice.{sliceVal, sliceTy, ShrSlice, MutSlice, Room, slice-vals, shr-slice-tells, shr-slice-lawful, mut-slice-tells}
+use denote.Slice.{sliceVal, sliceTy, ShrSlice, MutSlice, Room, slice-vals, shr-slice-copy, shr-slice-tells, shr-slice-lawful, mut-slice-tells}
 use denote.Steps.{only, owned, facts, heard, nothing}
 use denote.Enum.Laws as EL
 use denote.Struct.Laws as LL
-use denote.Triple.Call.{calls-at}
+use denote.Triple.Call.{calls-at-last}
 use denote.Triple.Clauses.{ensured, lasts}
 use denote.Triple.Statement.{Contract, Triple}
 use denote.Triple.Entry.{onEntry}
@@ -67,28 +67,24 @@ use Rattle.wire.proofs.reader_at.Met as reader-at-thm
 use Rattle.wire.proofs.next.Symbol as next-def
 use Rattle.wire.proofs.next.Symbol.{name as #wire·next}
 use Rattle.wire.proofs.next.Met as next-thm
-use Rattle.judge.specs.Going.{placeOf, KeptTurn, Follows, left}
-use Rattle.judge.specs.GoingLaws.{inside-kept}
+use Rattle.judge.specs.Going.{placeOf, left}
 use Rattle.judge.specs.declared.OneTurn.{OneTurn}
 use Rattle.judge.proofs.OneTurn as O
 use Rattle.judge.proofs.OneTurn.Laws as O′
 use Rattle.judge.proofs.Turns as turned
-use Rattle.judge.proofs.Turns.{First, PlaceOf, Turn}
+use Rattle.judge.proofs.Turns.{First, PlaceOf}
 use Rattle.judge.proofs.first_turn.Symbol as first-turn-def
 use Rattle.judge.proofs.first_turn.Symbol.{name as #judge·first-turn}
 use Rattle.judge.proofs.first_turn.Met as first-turn-thm
 use Rattle.judge.proofs.place_of.Symbol as place-of-def
 use Rattle.judge.proofs.place_of.Symbol.{name as #judge·place-of}
 use Rattle.judge.proofs.place_of.Met as place-of-thm
-use Rattle.judge.proofs.turn.Symbol as turn-def
-use Rattle.judge.proofs.turn.Symbol.{name as #judge·turn}
-use Rattle.judge.proofs.turn.Met as turn-thm
-use Rattle.store.specs.Stored.{Stored, three, putTurn, laid}
-use Rattle.store.specs.StoreLaws.{Storing, storing-first, storing-next, storing-over}
-use Rattle.store.proofs.put_turn as put-turn
-use Rattle.store.proofs.put_turn.Symbol as put-turn-def
-use Rattle.store.proofs.put_turn.Symbol.{name as #store·put-turn}
-use Rattle.store.proofs.put_turn.Met as put-turn-thm
+use Rattle.store.specs.Stored.{Stored, three, laid, Storing, StoresAt, Stores}
+use Rattle.store.specs.StoreLaws.{storing-first, storing-over}
+use Rattle.store.proofs.store_turn as store-turn
+use Rattle.store.proofs.store_turn.Symbol as store-turn-def
+use Rattle.store.proofs.store_turn.Symbol.{name as #store·store-turn}
+use Rattle.store.proofs.store_turn.Met as store-turn-thm
 use Rattle.store.proofs.store_model.Key.{name as #store·store-model}
 use Rattle.store.proofs.store_model as store-model
 use Rattle.store.proofs.store_model.Statement as stated
@@ -113,9 +109,9 @@ lent-type = sliceTy pointer
 abbrev goes-on : Body
 goes-on = rest (rest (rest body.turn-1))
 
--- the contract of `put_turn`
-abbrev Put : {M : Type 1} (𝓤 : URA M) (H : Heap 𝓤) (A : Atoms 𝓤) (mem : Memory → SProp 𝓤) (run : Routine → Fun 𝓤) → Contract 𝓤
-Put 𝓤 H A mem run = tripleOf 𝓤 H A put-turn.signature (put-turn.spec 𝓤 H A mem run)
+-- the contract of `store_turn`
+abbrev StoreTurn : {M : Type 1} (𝓤 : URA M) (H : Heap 𝓤) (A : Atoms 𝓤) (mem : Memory → SProp 𝓤) (run : Routine → Fun 𝓤) → Contract 𝓤
+StoreTurn 𝓤 H A mem run = tripleOf 𝓤 H A store-turn.signature (store-turn.spec 𝓤 H A mem run)
 
 -- a room that was lent: its lifetime and share, where it lies, its name, and what it had
 record Lends : Type 0 where
@@ -153,36 +149,44 @@ module _ {M : Type 1} (𝓤 : URA M) (H : Heap 𝓤) (A : Atoms 𝓤) (W : Given
   abbrev Post : Val → SProp 𝓤
   Post = walkOf 𝓤 H A store-model.ended stayed (store-model.clauses 𝓤 H A mem run) .post (((κ, (r₁ .κ, (r₂ .κ, (r₃ .κ, tt)))), (q, (r₁ .q, (r₂ .q, (r₃ .q, tt)))), tt, (s, (l, (room-at r₁ (r₁ .γ) (r₁ .ys), (room-at r₂ (r₂ .γ) (r₂ .ys), (room-at r₃ (r₃ .γ) (r₃ .ys), tt))))), (v ∷ [], (wl ∷ [], (value r₁ ∷ [], (value r₂ ∷ [], (value r₃ ∷ [], tt)))))), tt)
 
-  -- the call of `put_turn`
-  abbrev to-put : ℕ → ℕ → ℕ → GName → GName → GName → Stored → OneTurn → Val → OneTurn → Val → Put 𝓤 H A mem run .Ghost
-  to-put ν₁ ν₂ ν₃ δ₁ δ₂ δ₃ h t w u y = (
+  -- the call of `store_turn`
+  abbrev to-store : ℕ → ℕ → ℕ → GName → GName → GName → Stored → Read → Val → OneTurn → Val → StoreTurn 𝓤 H A mem run .Ghost
+  to-store ν₁ ν₂ ν₃ δ₁ δ₂ δ₃ h r k t w = (
     (
-      (ν₁ ∷ [], (ν₂ ∷ [], (ν₃ ∷ [], tt))),
-      (fullShare, (fullShare, (fullShare, tt))),
+      (κ, (ν₁ ∷ [], (ν₂ ∷ [], (ν₃ ∷ [], tt)))),
+      (q, (fullShare, (fullShare, (fullShare, tt)))),
       tt,
-      (room-at r₁ δ₁ (h .labels), (room-at r₂ δ₂ (h .equations), (room-at r₃ δ₃ (h .moves), (t, (u, tt))))),
-      (value r₁ ∷ [], (value r₂ ∷ [], (value r₃ ∷ [], (w ∷ [], (y ∷ [], tt))))),
+      (s, (l, (room-at r₁ δ₁ (h .labels), (room-at r₂ δ₂ (h .equations), (room-at r₃ δ₃ (h .moves), (r, (t, tt))))))),
+      (v ∷ [], (wl ∷ [], (value r₁ ∷ [], (value r₂ ∷ [], (value r₃ ∷ [], (k ∷ [], (w ∷ [], tt))))))),
     ),
     tt,
   )
 
   -- the three rooms, and the tokens of their lifetimes, lent
   abbrev Rooms : ℕ → ℕ → ℕ → GName → GName → GName → Stored → Item 𝓤
-  Rooms ν₁ ν₂ ν₃ δ₁ δ₂ δ₃ h = ‵ (Owned u32 (r₁ .b) (r₁ .o) (named 0) (ν₁ ∷ []) δ₁ (h .labels) (length (r₁ .ys))) ⊛ (‵ (Owned u32 (r₂ .b) (r₂ .o) (named 1) (ν₂ ∷ []) δ₂ (h .equations) (length (r₂ .ys)))
-      ⊛ ‵ (Owned u32 (r₃ .b) (r₃ .o) (named 2) (ν₃ ∷ []) δ₃ (h .moves) (length (r₃ .ys))))
+  Rooms ν₁ ν₂ ν₃ δ₁ δ₂ δ₃ h = ‵ (Owned u32 (r₁ .b) (r₁ .o) (named 1) (ν₁ ∷ []) δ₁ (h .labels) (length (r₁ .ys))) ⊛ (‵ (Owned u32 (r₂ .b) (r₂ .o) (named 2) (ν₂ ∷ []) δ₂ (h .equations) (length (r₂ .ys)))
+      ⊛ ‵ (Owned u32 (r₃ .b) (r₃ .o) (named 3) (ν₃ ∷ []) δ₃ (h .moves) (length (r₃ .ys))))
 
   abbrev Tokens : ℕ → ℕ → ℕ → Item 𝓤
   Tokens ν₁ ν₂ ν₃ = ‵ (flft (ν₁ ∷ []) fullShare) ⊛ (‵ (flft (ν₂ ∷ []) fullShare) ⊛ ‵ (flft (ν₃ ∷ []) fullShare))
 
-  -- what `put_turn` asks
-  goes-put : (ν₁ ν₂ ν₃ : ℕ) (δ₁ δ₂ δ₃ : GName) (h : Stored) (t : OneTurn) (w : Val) → Is O.the-row t (w ∷ []) → KeptTurn t → (u : OneTurn) (y : Val) → Is O.the-row u (y ∷ [])
-      → ent 𝓤 (⋆ 𝓤 H A (Rooms ν₁ ν₂ ν₃ δ₁ δ₂ δ₃ h ∷ Tokens ν₁ ν₂ ν₃ ∷ [])) (Put 𝓤 H A mem run .pre (to-put ν₁ ν₂ ν₃ δ₁ δ₂ δ₃ h t w u y))
-  goes-put ν₁ ν₂ ν₃ δ₁ δ₂ δ₃ h t w ist k u y isu =
-      qed W (Rooms ν₁ ν₂ ν₃ δ₁ δ₂ δ₃ h ∷ Tokens ν₁ ν₂ ν₃ ∷ []) ∵ says ! k $ move ! (1 ∷ []) $ split ! $ move ! (1 ∷ []) $ split ! $ nothing ! $ move ! (2 ∷ 0 ∷ []) $ join ! $ move ! (1 ∷ 0 ∷ []) $ join ! $ move ! (1 ∷ 0 ∷ []) $ join ! $ frame ! $
-      split ! $ move ! (1 ∷ []) $ split ! $ nothing ! $ owned ! O.the-row (Is O.the-row) (EL.makes O.the-type O′.the-plain 𝓤 H A) u _ isu $ fjoin ! $ owned ! O.the-row (Is O.the-row) (EL.makes O.the-type O′.the-plain 𝓤 H A) t _ ist $ fjoin ! $
-      move ! (2 ∷ 0 ∷ []) $ fjoin ! $ move ! (1 ∷ 0 ∷ []) $ fjoin ! $ move ! (1 ∷ 0 ∷ []) $ fjoin ! $ done !
+  -- the bytes, with the token of their lifetime
+  abbrev Bytes : Item 𝓤
+  Bytes = kept.Token 𝓤 H A W mem run κ q s ⊛ ‵ (kept.Own 𝓤 H A W mem run κ q s)
 
   module _ (lent : Is N.the-row l (wl ∷ [])) (long : length (now s) < 2 ^ 64) (room₁ : Room u32 (length (r₁ .ys))) (room₂ : Room u32 (length (r₂ .ys))) (room₃ : Room u32 (length (r₃ .ys))) where
+    -- what `store_turn` asks
+    goes-store : (ν₁ ν₂ ν₃ : ℕ) (δ₁ δ₂ δ₃ : GName) (h : Stored) (r : Read) (k : Val) → Is S.the-row r (k ∷ []) → (t : OneTurn) (w : Val) → Is O.the-row t (w ∷ []) → StoresAt (now s) r t
+        → ent 𝓤 (⋆ 𝓤 H A (Rooms ν₁ ν₂ ν₃ δ₁ δ₂ δ₃ h ∷ Tokens ν₁ ν₂ ν₃ ∷ Bytes ∷ [])) (StoreTurn 𝓤 H A mem run .pre (to-store ν₁ ν₂ ν₃ δ₁ δ₂ δ₃ h r k t w))
+    goes-store ν₁ ν₂ ν₃ δ₁ δ₂ δ₃ h r k is t w ist d =
+        qed W (Rooms ν₁ ν₂ ν₃ δ₁ δ₂ δ₃ h ∷ Tokens ν₁ ν₂ ν₃ ∷ Bytes ∷ []) ∵ says ! d $ move ! (1 ∷ []) $ split ! $ move ! (1 ∷ []) $ split ! $
+        -- [the tokens of the second, the third and the first room; the rooms; the bytes]
+        nothing ! $ move ! (2 ∷ 0 ∷ []) $ join ! $ move ! (1 ∷ 0 ∷ []) $ join ! $ move ! (1 ∷ 0 ∷ []) $ join ! $
+        move ! (2 ∷ []) $ split ! $ split ! $ move ! (0 ∷ 3 ∷ []) $ join ! $ frame ! $ drop ! $
+        -- [what the bytes own; the rooms]
+        move ! (1 ∷ []) $ split ! $ move ! (1 ∷ []) $ split ! $ nothing ! $ owned ! O.the-row (Is O.the-row) (EL.makes O.the-type O′.the-plain 𝓤 H A) t _ ist $ fjoin ! $ owned ! S.the-row (Is S.the-row) (EL.makes S.the-type S′.the-plain 𝓤 H A) r _ is $ fjoin ! $
+        move ! (2 ∷ 0 ∷ []) $ fjoin ! $ move ! (1 ∷ 0 ∷ []) $ fjoin ! $ move ! (1 ∷ 0 ∷ []) $ fjoin ! $ owned ! N.the-row (Is N.the-row) (LL.makes N.the-type N′.the-plain 𝓤 H A) l _ lent $ fjoin ! $ move ! (1 ∷ 0 ∷ []) $ fjoin ! $ done !
+
     -- the rooms with the whole model stored, and the bytes kept, give what is to hold at exit
     exits : (h : Stored) → length (h .labels) ≡ length (r₁ .ys) → length (h .equations) ≡ length (r₂ .ys) → length (h .moves) ≡ length (r₃ .ys)
         → ((m : Model) → readPlain (lengthsBy l) (now s) ≡ accepted m → h ≡ laid (started (m .sizes)) m had)
@@ -216,8 +220,8 @@ module _ {M : Type 1} (𝓤 : URA M) (H : Heap 𝓤) (A : Atoms 𝓤) (W : Given
     Nearer-wf = InvImage·wf (λ (p : Point). left (now s) (p .t)) (Nat·lt-wfRel .wf)
 
     module _ (𝓣 : Tables 𝓤 H) (wt : WT v) (known-next : Triple 𝓤 (𝓣 .C #wire·next) (Next 𝓤 H A mem run)) (known-place : Triple 𝓤 (𝓣 .C #judge·place-of) (PlaceOf 𝓤 H A mem run))
-        (known-turn : Triple 𝓤 (𝓣 .C #judge·turn) (Turn 𝓤 H A mem run)) (known-put : Triple 𝓤 (𝓣 .C #store·put-turn) (Put 𝓤 H A mem run))
-        (l₀ l₁ l₂ l₃ l₄ l₅ l₆ l₇ l₈ l₉ l₁₀ l₁₁ l₁₂ l₁₃ l₁₄ l₁₅ l₁₆ l₁₇ l₁₈ l₁₉ l₂₀ l₂₁ l₂₂ : ℕ) where
+        (known-turn : Triple 𝓤 (𝓣 .C #store·store-turn) (StoreTurn 𝓤 H A mem run))
+        (l₀ l₁ l₂ l₃ l₄ l₅ l₆ l₇ l₈ l₉ l₁₀ l₁₁ l₁₂ l₁₃ l₁₄ l₁₅ l₁₆ l₁₇ l₁₈ l₁₉ : ℕ) where
       -- the functions that are called, and the loops
       abbrev C : Calls 𝓤 H
       C = 𝓣 .C
@@ -227,16 +231,16 @@ module _ {M : Type 1} (𝓤 : URA M) (H : Heap 𝓤) (A : Atoms 𝓤) (W : Given
 
       -- the locals
       abbrev En : Env 𝓤 H
-      En = (tyUnit, l₀) ∷ (slice, l₁) ∷ (N′.mir, l₂) ∷ (room-type 1, l₃) ∷ (room-type 2, l₄) ∷ (room-type 3, l₅) ∷ (held, l₆) ∷ (O′.mir, l₇) ∷ (word, l₈) ∷ (O′.mir, l₉) ∷ (S′.mir, l₁₀) ∷ (held, l₁₁) ∷ (tyBool, l₁₂) ∷ (S′.mir, l₁₃) ∷ (held, l₁₄) ∷ (word, l₁₅) ∷ (tyUnit, l₁₆) ∷ (pointer, l₁₇) ∷ (lent-type, l₁₈) ∷ (pointer, l₁₉) ∷ (lent-type, l₂₀) ∷ (pointer, l₂₁) ∷ (lent-type, l₂₂) ∷ []
+      En = (tyUnit, l₀) ∷ (slice, l₁) ∷ (N′.mir, l₂) ∷ (room-type 1, l₃) ∷ (room-type 2, l₄) ∷ (room-type 3, l₅) ∷ (held, l₆) ∷ (O′.mir, l₇) ∷ (word, l₈) ∷ (S′.mir, l₉) ∷ (held, l₁₀) ∷ (tyBool, l₁₁) ∷ (pointer, l₁₂) ∷ (lent-type, l₁₃) ∷ (pointer, l₁₄) ∷ (lent-type, l₁₅) ∷ (pointer, l₁₆) ∷ (lent-type, l₁₇) ∷ (S′.mir, l₁₈) ∷ (held, l₁₉) ∷ []
 
       -- the loop's invariant: one reader, the rooms, and what each local has
       abbrev At : Point → List (Item 𝓤)
       At p =
           ‵ (kept.OwnR 𝓤 H A W mem run κ q s (p .i)) ∷ kept.Token 𝓤 H A W mem run κ q s ∷ ‵ (kept.Own 𝓤 H A W mem run κ q s) ∷ ‵ (Owned u32 (r₁ .b) (r₁ .o) (named 1) (r₁ .κ) (r₁ .γ) (p .h .labels) (length (r₁ .ys))) ∷ ‵ (flft (r₁ .κ) (r₁ .q)) ∷ ‵ (Owned u32 (r₂ .b) (r₂ .o) (named 2) (r₂ .κ) (r₂ .γ) (p .h .equations) (length (r₂ .ys))) ∷ ‵ (flft (r₂ .κ) (r₂ .q)) ∷ ‵ (Owned u32 (r₃ .b) (r₃ .o) (named 3) (r₃ .κ) (r₃ .γ) (p .h .moves) (length (r₃ .ys))) ∷ ‵ (flft (r₃ .κ) (r₃ .q))
-          ∷ ‵ (froom lent-type l₂₂ 0) ∷ ‵ (fdies lent-type l₂₂) ∷ ‵ (froom pointer l₂₁ 0) ∷ ‵ (fdies pointer l₂₁) ∷ ‵ (froom lent-type l₂₀ 0) ∷ ‵ (fdies lent-type l₂₀) ∷ ‵ (froom pointer l₁₉ 0) ∷ ‵ (fdies pointer l₁₉)
-          ∷ ‵ (froom lent-type l₁₈ 0) ∷ ‵ (fdies lent-type l₁₈) ∷ ‵ (froom pointer l₁₇ 0) ∷ ‵ (fdies pointer l₁₇) ∷ ‵ (froom tyUnit l₁₆ 0) ∷ ‵ (fdies tyUnit l₁₆) ∷ ‵ (froom word l₁₅ 0) ∷ ‵ (fdies word l₁₅)
-          ∷ ‵ (froom held l₁₄ 0) ∷ ‵ (fdies held l₁₄) ∷ ‵ (froom S′.mir l₁₃ 0) ∷ ‵ (fdies S′.mir l₁₃) ∷ ‵ (froom tyBool l₁₂ 0) ∷ ‵ (fdies tyBool l₁₂) ∷ ‵ (froom held l₁₁ 0) ∷ ‵ (fdies held l₁₁)
-          ∷ ‵ (froom S′.mir l₁₀ 0) ∷ ‵ (fdies S′.mir l₁₀) ∷ ‵ (froom O′.mir l₉ 0) ∷ ‵ (fdies O′.mir l₉) ∷ ‵ (froom word l₈ 0) ∷ ‵ (fdies word l₈) ∷ ‵ (fat fullShare O′.mir l₇ 0 (p .w)) ∷ ‵ (fdies O′.mir l₇)
+          ∷ ‵ (froom held l₁₉ 0) ∷ ‵ (fdies held l₁₉) ∷ ‵ (froom S′.mir l₁₈ 0) ∷ ‵ (fdies S′.mir l₁₈) ∷ ‵ (froom lent-type l₁₇ 0) ∷ ‵ (fdies lent-type l₁₇) ∷ ‵ (froom pointer l₁₆ 0) ∷ ‵ (fdies pointer l₁₆)
+          ∷ ‵ (froom lent-type l₁₅ 0) ∷ ‵ (fdies lent-type l₁₅) ∷ ‵ (froom pointer l₁₄ 0) ∷ ‵ (fdies pointer l₁₄) ∷ ‵ (froom lent-type l₁₃ 0) ∷ ‵ (fdies lent-type l₁₃) ∷ ‵ (froom pointer l₁₂ 0) ∷ ‵ (fdies pointer l₁₂)
+          ∷ ‵ (froom tyBool l₁₁ 0) ∷ ‵ (fdies tyBool l₁₁) ∷ ‵ (froom held l₁₀ 0) ∷ ‵ (fdies held l₁₀) ∷ ‵ (froom S′.mir l₉ 0) ∷ ‵ (fdies S′.mir l₉) ∷ ‵ (froom word l₈ 0) ∷ ‵ (fdies word l₈)
+          ∷ ‵ (fat fullShare O′.mir l₇ 0 (p .w)) ∷ ‵ (fdies O′.mir l₇)
           ∷ ‵ (fat fullShare held l₆ 0 (kept.lo 𝓤 H A W mem run κ q s (p .i))) ∷ ‵ (fdies held l₆) ∷ ‵ (fat fullShare (room-type 3) l₅ 0 (value r₃)) ∷ ‵ (fdies (room-type 3) l₅) ∷ ‵ (fat fullShare (room-type 2) l₄ 0 (value r₂)) ∷ ‵ (fdies (room-type 2) l₄) ∷ ‵ (fat fullShare (room-type 1) l₃ 0 (value r₁)) ∷ ‵ (fdies (room-type 1) l₃)
           ∷ ‵ (fat fullShare N′.mir l₂ 0 wl) ∷ ‵ (fdies N′.mir l₂) ∷ ‵ (fat fullShare slice l₁ 0 v) ∷ ‵ (fdies slice l₁) ∷ ‵ (froom tyUnit l₀ 0) ∷ ‵ (fdies tyUnit l₀) ∷ []
 
@@ -248,62 +252,60 @@ module _ {M : Type 1} (𝓤 : URA M) (H : Heap 𝓤) (A : Atoms 𝓤) (W : Given
       turns : (p : Point) → Sq W (At p) (runs C Λ En body.turn-1 (anyQ (Turned p)))
       unfolding afterTurn
       turns p =
-          turned.places 𝓤 H A W mem run l lent ! (fmOf 𝓤 H (W .laws) 𝓣) known-place (p .t) (p .w) (p .is) (and-then ! (load ! (from ! (stop !)) (look ! 40 refl)) (no-more !)) (λ u n.
-          land ! (from ! (stop !)) (init ! 37 refl (uint-lawful 𝓤 H A W w64 .typed (n .0) _ (n .1) .0)) $ rewrite ! 37 (λ (x : Val). ‵ (fat fullShare word l₈ 0 x)) (ap only (n .1 .0)) refl $
-          assigns ! (bin ! (load ! (from ! (stop !)) (look ! 37 refl)) (lit ! tt) tt) (from ! (stop !)) (init ! 29 refl (tt, tt)) $
-          first ! $ branches ! (load ! (from ! (stop !)) (look ! 29 refl))
+          turned.places 𝓤 H A W mem run l lent ! (fmOf 𝓤 H (W .laws) 𝓣) known-place (p .t) (p .w) (p .is) (and-then ! (load ! (from ! (stop !)) (look ! 34 refl)) (no-more !)) (λ u n.
+          land ! (from ! (stop !)) (init ! 31 refl (uint-lawful 𝓤 H A W w64 .typed (n .0) _ (n .1) .0)) $ rewrite ! 31 (λ (x : Val). ‵ (fat fullShare word l₈ 0 x)) (ap only (n .1 .0)) refl $
+          assigns ! (bin ! (load ! (from ! (stop !)) (look ! 31 refl)) (lit ! tt) tt) (from ! (stop !)) (init ! 25 refl (tt, tt)) $
+          first ! $ branches ! (load ! (from ! (stop !)) (look ! 25 refl))
           (λ over. jumps ! $ exec ! C Λ En body.t-6 (atRet En Post) $
-          assigns ! (of-opd ! (unit-lit !)) (from ! (stop !)) (init ! 53 refl (tt, tt)) $
-          returns ! (look ! 53 refl) $ forget ! 29 refl $ forget ! 37 refl $ forget ! 39 refl $ forget ! 41 refl $ forget ! 43 refl $ forget ! 45 refl $ forget ! 47 refl $ forget ! 49 refl $ forget ! 51 refl $ forget ! 53 refl $
-          move ! (53 ∷ 54 ∷ []) $ free1 ! $ move ! (51 ∷ 52 ∷ []) $ free1 ! $ move ! (49 ∷ 50 ∷ []) $ free1 ! $ move ! (47 ∷ 48 ∷ []) $ free1 ! $ move ! (45 ∷ 46 ∷ []) $ free1 ! $ move ! (43 ∷ 44 ∷ []) $ free1 ! $ move ! (41 ∷ 42 ∷ []) $ free1 ! $ move ! (39 ∷ 40 ∷ []) $ free1 ! $ move ! (37 ∷ 38 ∷ []) $ free1 ! $ move ! (35 ∷ 36 ∷ []) $ free1 ! $ move ! (33 ∷ 34 ∷ []) $ free1 ! $ move ! (31 ∷ 32 ∷ []) $ free1 ! $ move ! (29 ∷ 30 ∷ []) $ free1 ! $ move ! (27 ∷ 28 ∷ []) $ free1 ! $ move ! (25 ∷ 26 ∷ []) $ free1 ! $ move ! (23 ∷ 24 ∷ []) $ free1 ! $ move ! (21 ∷ 22 ∷ []) $ free1 ! $ move ! (19 ∷ 20 ∷ []) $ free1 ! $ move ! (17 ∷ 18 ∷ []) $ free1 ! $ move ! (15 ∷ 16 ∷ []) $ free1 ! $ move ! (13 ∷ 14 ∷ []) $ free1 ! $ move ! (11 ∷ 12 ∷ []) $ free1 ! $ move ! (9 ∷ 10 ∷ []) $ free1 ! $ free0 ! $
+          assigns ! (of-opd ! (unit-lit !)) (from ! (stop !)) (init ! 47 refl (tt, tt)) $
+          returns ! (look ! 47 refl) $ forget ! 25 refl $ forget ! 31 refl $ forget ! 33 refl $ forget ! 35 refl $ forget ! 37 refl $ forget ! 39 refl $ forget ! 41 refl $ forget ! 43 refl $ forget ! 45 refl $ forget ! 47 refl $
+          move ! (47 ∷ 48 ∷ []) $ free1 ! $ move ! (45 ∷ 46 ∷ []) $ free1 ! $ move ! (43 ∷ 44 ∷ []) $ free1 ! $ move ! (41 ∷ 42 ∷ []) $ free1 ! $ move ! (39 ∷ 40 ∷ []) $ free1 ! $ move ! (37 ∷ 38 ∷ []) $ free1 ! $ move ! (35 ∷ 36 ∷ []) $ free1 ! $ move ! (33 ∷ 34 ∷ []) $ free1 ! $ move ! (31 ∷ 32 ∷ []) $ free1 ! $ move ! (29 ∷ 30 ∷ []) $ free1 ! $ move ! (27 ∷ 28 ∷ []) $ free1 ! $ move ! (25 ∷ 26 ∷ []) $ free1 ! $ move ! (23 ∷ 24 ∷ []) $ free1 ! $ move ! (21 ∷ 22 ∷ []) $ free1 ! $ move ! (19 ∷ 20 ∷ []) $ free1 ! $ move ! (17 ∷ 18 ∷ []) $ free1 ! $ move ! (15 ∷ 16 ∷ []) $ free1 ! $ move ! (13 ∷ 14 ∷ []) $ free1 ! $ move ! (11 ∷ 12 ∷ []) $ free1 ! $ move ! (9 ∷ 10 ∷ []) $ free1 ! $ free0 ! $
           keep ! (1 ∷ 2 ∷ 3 ∷ 4 ∷ 5 ∷ 6 ∷ 7 ∷ 8 ∷ []) $ by ! (exits (p .h) (p .same₁) (p .same₂) (p .same₃) (storing-over (lengthsBy l) (now s) had (p .t) (p .h) (p .storing) (sym (n .2) ∙ eqb→eq (n .0) 0 over))))
           (λ more. skips ! $ exec ! C Λ En goes-on (anyQ (Turned p)) $
-          assigns ! (of-opd ! (load ! (from ! (stop !)) (look ! 37 refl))) (from ! (fld ! refl (stop !))) (store-in ! 41 (sub ! 1 refl (whole !)) (tt, record { fits = n .1 .1 })) $
+          assigns ! (of-opd ! (load ! (from ! (stop !)) (look ! 31 refl))) (from ! (fld ! refl (stop !))) (store-in ! 35 (sub ! 1 refl (whole !)) (tt, record { fits = n .1 .1 })) $
           use1 W (‵ (kept.OwnR 𝓤 H A W mem run κ q s (n .0))) (kept.moved 𝓤 H A W mem run κ q s (p .i) (n .0) (n .1 .1)) $
-          assigns ! (of-opd ! (load ! (from ! (stop !)) (look ! 41 refl))) (from ! (stop !)) (init ! 25 refl (tt, (wt, (record { fits = n .1 .1 }, tt)))) $
-          kept.reads 𝓤 H A W mem run κ q s ! (fmOf 𝓤 H (W .laws) 𝓣) known-next (n .0) (and-then ! (load ! (from ! (stop !)) (look ! 25 refl)) (no-more !)) (λ k r is e.
-          land ! (from ! (stop !)) (init ! 27 refl (EL.lawful S.the-type S′.the-laws 𝓤 H A W tt .typed r _ is .0)) $
-          assigns ! (of-opd ! (load ! (from ! (fld ! refl (stop !))) (look-in ! 51 (sub ! 1 refl (whole !))))) (from ! (stop !)) (init ! 23 refl (tt, record { fits = long })) $
-          turned.follows 𝓤 H A W mem run l lent ! (fmOf 𝓤 H (W .laws) 𝓣) known-turn r k is (p .t) (p .w) (p .is) (inside-kept (now s) (p .t) (p .storing .going)) (length (now s)) long
-          (and-then ! (load ! (from ! (stop !)) (look ! 28 refl)) (and-then ! (load ! (from ! (stop !)) (look ! 50 refl)) (and-then ! (load ! (from ! (stop !)) (look ! 40 refl)) (and-then ! (load ! (from ! (stop !)) (look ! 24 refl)) (no-more !))))) (λ y t.
-          land ! (from ! (stop !)) (init ! 35 refl (EL.lawful O.the-type O′.the-laws 𝓤 H A W tt .typed (t .0) _ (t .1) .0)) $
-          assigns ! (addr ! (from ! (fld ! refl (hop ! (look-in ! 47 (sub ! 0 refl (whole !))) (stop !))))) (from ! (stop !)) (init ! 19 refl (tt, tt)) $
-          assigns ! (agg ! (and-then ! (load ! (from ! (stop !)) (look ! 19 refl)) (and-then ! (load ! (from ! (fld ! refl (stop !))) (look-in ! 47 (sub ! 1 refl (whole !)))) (no-more !)))) (from ! (stop !)) (init ! 17 refl (tt, (tt, (record { fits = room₁ .0 }, tt)))) $
-          assigns ! (addr ! (from ! (fld ! refl (hop ! (look-in ! 45 (sub ! 0 refl (whole !))) (stop !))))) (from ! (stop !)) (init ! 15 refl (tt, tt)) $
-          assigns ! (agg ! (and-then ! (load ! (from ! (stop !)) (look ! 15 refl)) (and-then ! (load ! (from ! (fld ! refl (stop !))) (look-in ! 45 (sub ! 1 refl (whole !)))) (no-more !)))) (from ! (stop !)) (init ! 13 refl (tt, (tt, (record { fits = room₂ .0 }, tt)))) $
-          assigns ! (addr ! (from ! (fld ! refl (hop ! (look-in ! 43 (sub ! 0 refl (whole !))) (stop !))))) (from ! (stop !)) (init ! 11 refl (tt, tt)) $
-          assigns ! (agg ! (and-then ! (load ! (from ! (stop !)) (look ! 11 refl)) (and-then ! (load ! (from ! (fld ! refl (stop !))) (look-in ! 43 (sub ! 1 refl (whole !)))) (no-more !)))) (from ! (stop !)) (init ! 9 refl (tt, (tt, (record { fits = room₃ .0 }, tt)))) $
-          -- the rooms are lent to `put_turn`
-          move ! (3 ∷ 4 ∷ []) $ lends u32 (r₁ .κ) (r₁ .q) (r₁ .γ) (r₁ .b) (r₁ .o) (named 1) (named 0) (p .h .labels) (length (r₁ .ys)) (sym (p .same₁)) ! tt (λ ν₁ δ₁. move ! (6 ∷ 7 ∷ []) $ lends u32 (r₂ .κ) (r₂ .q) (r₂ .γ) (r₂ .b) (r₂ .o) (named 2) (named 1) (p .h .equations) (length (r₂ .ys)) (sym (p .same₂)) ! tt (λ ν₂ δ₂. move ! (9 ∷ 10 ∷ []) $ lends u32 (r₃ .κ) (r₃ .q) (r₃ .γ) (r₃ .b) (r₃ .o) (named 3) (named 2) (p .h .moves) (length (r₃ .ys)) (sym (p .same₃)) ! tt (λ ν₃ δ₃.
-          -- [of each room its token, itself, and what is kept of it, the last first; what the reader owns; the bytes' token; what the bytes own; _22; …; _0; …]
+          assigns ! (addr ! (from ! (fld ! refl (hop ! (look-in ! 41 (sub ! 0 refl (whole !))) (stop !))))) (from ! (stop !)) (init ! 23 refl (tt, tt)) $
+          assigns ! (agg ! (and-then ! (load ! (from ! (stop !)) (look ! 23 refl)) (and-then ! (load ! (from ! (fld ! refl (stop !))) (look-in ! 41 (sub ! 1 refl (whole !)))) (no-more !)))) (from ! (stop !)) (init ! 21 refl (tt, (tt, (record { fits = room₁ .0 }, tt)))) $
+          assigns ! (addr ! (from ! (fld ! refl (hop ! (look-in ! 39 (sub ! 0 refl (whole !))) (stop !))))) (from ! (stop !)) (init ! 19 refl (tt, tt)) $
+          assigns ! (agg ! (and-then ! (load ! (from ! (stop !)) (look ! 19 refl)) (and-then ! (load ! (from ! (fld ! refl (stop !))) (look-in ! 39 (sub ! 1 refl (whole !)))) (no-more !)))) (from ! (stop !)) (init ! 17 refl (tt, (tt, (record { fits = room₂ .0 }, tt)))) $
+          assigns ! (addr ! (from ! (fld ! refl (hop ! (look-in ! 37 (sub ! 0 refl (whole !))) (stop !))))) (from ! (stop !)) (init ! 15 refl (tt, tt)) $
+          assigns ! (agg ! (and-then ! (load ! (from ! (stop !)) (look ! 15 refl)) (and-then ! (load ! (from ! (fld ! refl (stop !))) (look-in ! 37 (sub ! 1 refl (whole !)))) (no-more !)))) (from ! (stop !)) (init ! 13 refl (tt, (tt, (record { fits = room₃ .0 }, tt)))) $
+          assigns ! (of-opd ! (load ! (from ! (stop !)) (look ! 35 refl))) (from ! (stop !)) (init ! 9 refl (tt, (wt, (record { fits = n .1 .1 }, tt)))) $
+          kept.reads 𝓤 H A W mem run κ q s ! (fmOf 𝓤 H (W .laws) 𝓣) known-next (n .0) (and-then ! (load ! (from ! (stop !)) (look ! 9 refl)) (no-more !)) (λ k r is e.
+          land ! (from ! (stop !)) (init ! 11 refl (EL.lawful S.the-type S′.the-laws 𝓤 H A W tt .typed r _ is .0)) $
+          -- the bytes and the rooms are lent to `store_turn`
+          move ! (3 ∷ 4 ∷ []) $ lends u32 (r₁ .κ) (r₁ .q) (r₁ .γ) (r₁ .b) (r₁ .o) (named 1) (named 1) (p .h .labels) (length (r₁ .ys)) (sym (p .same₁)) ! tt (λ ν₁ δ₁. move ! (6 ∷ 7 ∷ []) $ lends u32 (r₂ .κ) (r₂ .q) (r₂ .γ) (r₂ .b) (r₂ .o) (named 2) (named 2) (p .h .equations) (length (r₂ .ys)) (sym (p .same₂)) ! tt (λ ν₂ δ₂. move ! (9 ∷ 10 ∷ []) $ lends u32 (r₃ .κ) (r₃ .q) (r₃ .γ) (r₃ .b) (r₃ .o) (named 3) (named 3) (p .h .moves) (length (r₃ .ys)) (sym (p .same₃)) ! tt (λ ν₃ δ₃.
+          -- [of each room its token, itself, and what is kept of it, the last first; what the reader owns; the bytes' token; what the bytes own; _19; …; _0; …]
           move ! (3 ∷ 0 ∷ []) $ join ! $ move ! (5 ∷ 0 ∷ []) $ join ! $ move ! (3 ∷ 1 ∷ []) $ join ! $ move ! (4 ∷ 0 ∷ []) $ join ! $
-          use2 W (raw (Put 𝓤 H A mem run .pre (to-put ν₁ ν₂ ν₃ δ₁ δ₂ δ₃ (p .h) (p .t) (p .w) (t .0) y))) (goes-put ν₁ ν₂ ν₃ δ₁ δ₂ δ₃ (p .h) (p .t) (p .w) (p .is) (inside-kept (now s) (p .t) (p .storing .going)) (t .0) y (t .1)) $
-          calls-at ! (fmOf 𝓤 H (W .laws) 𝓣) (Put 𝓤 H A mem run) known-put (to-put ν₁ ν₂ ν₃ δ₁ δ₂ δ₃ (p .h) (p .t) (p .w) (t .0) y) (and-then ! (load ! (from ! (stop !)) (look ! 15 refl)) (and-then ! (load ! (from ! (stop !)) (look ! 11 refl)) (and-then ! (load ! (from ! (stop !)) (look ! 7 refl)) (and-then ! (load ! (from ! (stop !)) (look ! 37 refl)) (and-then ! (load ! (from ! (stop !)) (look ! 33 refl)) (no-more !)))))) (λ g.
-          use1 W (later (some (λ (a : Unit {0}). ((‵ (flft (ν₁ ∷ []) fullShare) ⊛ (‵ (flft (ν₂ ∷ []) fullShare) ⊛ (‵ (flft (ν₃ ∷ []) fullShare) ⊛ ‵ ftrue))) ⊛ ‵ (unit .own a (g ∷ []))) ⊛ raw (ensured 𝓤 H A put-turn.ended (put-turn.clauses 𝓤 H A mem run) (ν₁ ∷ [], (ν₂ ∷ [], (ν₃ ∷ [], tt))) (room-at r₁ δ₁ (p .h .labels), (room-at r₂ δ₂ (p .h .equations), (room-at r₃ δ₃ (p .h .moves), (p .t, (t .0, tt))))) tt a)))) (id⊢ 𝓤 _) $ await ! tt $ pick ! (λ a.
-          split ! $ move ! (1 ∷ []) $ use1 W (some (λ (ws : List ℕ × (List ℕ × (List ℕ × (Unit {0} × (Unit {0} × Unit {0}))))). ‵ (lasts put-turn.ended (ν₁ ∷ [], (ν₂ ∷ [], (ν₃ ∷ [], tt))) (room-at r₁ δ₁ (p .h .labels), (room-at r₂ δ₂ (p .h .equations), (room-at r₃ δ₃ (p .h .moves), (p .t, (t .0, tt))))) ws) ⊛ raw (fact 𝓤 (three (ws .0) (ws .1 .0) (ws .1 .1 .0) ≡ putTurn (p .t) (t .0) (p .h))))) (id⊢ 𝓤 _) $ pick ! (λ ws.
-          split ! $ move ! (1 ∷ []) $ heard ! (three (ws .0) (ws .1 .0) (ws .1 .1 .0) ≡ putTurn (p .t) (t .0) (p .h)) (λ put. fsplit ! $ fsplit ! $ move ! (1 ∷ []) $ feqL ! (λ as₁. move ! (1 ∷ []) $ fsplit ! $ fsplit ! $ move ! (1 ∷ []) $ feqL ! (λ as₂. move ! (1 ∷ []) $ fsplit ! $ fsplit ! $ move ! (1 ∷ []) $ feqL ! (λ as₃.
-          -- [what each room has last, with the rest of what is told; the calls' tokens and the result; what is kept of each room; what the reader owns; …]
-          move ! (4 ∷ []) $ split ! $ move ! (1 ∷ []) $ facts ! unit (Is unit) (shows 𝓤 H A unit) a (g ∷ []) (λ isa. split ! $ move ! (1 ∷ []) $ split ! $ move ! (1 ∷ []) $ split ! $
+          -- [the rooms; their tokens; what is kept of each, the last first; what the reader owns; the bytes' token; what the bytes own; …]
+          move ! (7 ∷ []) $ use1 W (‵ (kept.Own 𝓤 H A W mem run κ q s) ⊛ ‵ (kept.Own 𝓤 H A W mem run κ q s)) (shr-slice-copy 𝓤 H A W (named 0) κ u8 .twice s (v ∷ [])) $ split ! $ move ! (8 ∷ 0 ∷ []) $ join ! $ move ! (2 ∷ 3 ∷ 0 ∷ []) $
+          use3 W (raw (StoreTurn 𝓤 H A mem run .pre (to-store ν₁ ν₂ ν₃ δ₁ δ₂ δ₃ (p .h) r k (p .t) (p .w)))) (goes-store ν₁ ν₂ ν₃ δ₁ δ₂ δ₃ (p .h) r k is (p .t) (p .w) (p .is) (p .storing .going, e ∙ ap (recordAt (now s)) (n .2))) $
+          -- [what it asks; what the bytes own; what is kept of each room; what the reader owns; _19; …; _0; …]
+          calls-at-last ! (fmOf 𝓤 H (W .laws) 𝓣) (StoreTurn 𝓤 H A mem run) known-turn (to-store ν₁ ν₂ ν₃ δ₁ δ₂ δ₃ (p .h) r k (p .t) (p .w)) (and-then ! (load ! (from ! (stop !)) (look ! 42 refl)) (and-then ! (load ! (from ! (stop !)) (look ! 40 refl)) (and-then ! (load ! (from ! (stop !)) (look ! 18 refl)) (and-then ! (load ! (from ! (stop !)) (look ! 14 refl)) (and-then ! (load ! (from ! (stop !)) (look ! 10 refl)) (and-then ! (load ! (from ! (stop !)) (look ! 8 refl)) (and-then ! (load ! (from ! (stop !)) (look ! 30 refl)) (no-more !)))))))) (λ g.
+          use1 W (later (some (λ (a : OneTurn). ((‵ (flft κ q) ⊛ (‵ (flft (ν₁ ∷ []) fullShare) ⊛ (‵ (flft (ν₂ ∷ []) fullShare) ⊛ (‵ (flft (ν₃ ∷ []) fullShare) ⊛ ‵ ftrue)))) ⊛ ‵ (O.the-row .own a (g ∷ []))) ⊛ raw (ensured 𝓤 H A store-turn.ended (store-turn.clauses 𝓤 H A mem run) (κ, (ν₁ ∷ [], (ν₂ ∷ [], (ν₃ ∷ [], tt)))) (s, (l, (room-at r₁ δ₁ (p .h .labels), (room-at r₂ δ₂ (p .h .equations), (room-at r₃ δ₃ (p .h .moves), (r, (p .t, tt))))))) tt a)))) (id⊢ 𝓤 _) $ await ! tt $ pick ! (λ a.
+          split ! $ move ! (1 ∷ []) $ use1 W (some (λ (ws : Unit {0} × (Unit {0} × (List ℕ × (List ℕ × (List ℕ × (Unit {0} × (Unit {0} × Unit {0}))))))). ‵ (lasts store-turn.ended (κ, (ν₁ ∷ [], (ν₂ ∷ [], (ν₃ ∷ [], tt)))) (s, (l, (room-at r₁ δ₁ (p .h .labels), (room-at r₂ δ₂ (p .h .equations), (room-at r₃ δ₃ (p .h .moves), (r, (p .t, tt))))))) ws) ⊛ raw (fact 𝓤 (Stores (lengthsBy l) (now s) (p .t) (p .h) a (three (ws .1 .1 .0) (ws .1 .1 .1 .0) (ws .1 .1 .1 .1 .0)))))) (id⊢ 𝓤 _) $ pick ! (λ ws.
+          split ! $ move ! (1 ∷ []) $ heard ! (Stores (lengthsBy l) (now s) (p .t) (p .h) a (three (ws .1 .1 .0) (ws .1 .1 .1 .0) (ws .1 .1 .1 .1 .0))) (λ stored. fsplit ! $ drop ! $ fsplit ! $ drop ! $ fsplit ! $ fsplit ! $ move ! (1 ∷ []) $ feqL ! (λ as₁. move ! (1 ∷ []) $ fsplit ! $ fsplit ! $ move ! (1 ∷ []) $ feqL ! (λ as₂. move ! (1 ∷ []) $ fsplit ! $ fsplit ! $ move ! (1 ∷ []) $ feqL ! (λ as₃.
+          -- [what each room has last, with the rest of what is told; the calls' tokens and the result; what the bytes own; what is kept of each room; what the reader owns; …]
+          move ! (4 ∷ []) $ split ! $ move ! (1 ∷ []) $ facts ! O.the-row (Is O.the-row) (shows 𝓤 H A O.the-row) a (g ∷ []) (λ isa. split ! $ move ! (1 ∷ []) $ split ! $ move ! (1 ∷ []) $ split ! $ move ! (1 ∷ []) $ split ! $
           -- and come back, the last first
-          move ! (0 ∷ 8 ∷ 4 ∷ []) $ comes u32 (r₃ .κ) (r₃ .q) (r₃ .γ) (r₃ .b) (r₃ .o) (named 3) (named 2) (p .h .moves) (length (r₃ .ys)) (sym (p .same₃)) ! tt ν₃ δ₃ (ws .1 .1 .0) (as-long (p .h .moves) (r₃ .ys) (p .same₃) room₃) as₃ $
-          move ! (3 ∷ 8 ∷ 6 ∷ []) $ comes u32 (r₂ .κ) (r₂ .q) (r₂ .γ) (r₂ .b) (r₂ .o) (named 2) (named 1) (p .h .equations) (length (r₂ .ys)) (sym (p .same₂)) ! tt ν₂ δ₂ (ws .1 .0) (as-long (p .h .equations) (r₂ .ys) (p .same₂) room₂) as₂ $
-          move ! (5 ∷ 8 ∷ 7 ∷ []) $ comes u32 (r₁ .κ) (r₁ .q) (r₁ .γ) (r₁ .b) (r₁ .o) (named 1) (named 0) (p .h .labels) (length (r₁ .ys)) (sym (p .same₁)) ! tt ν₁ δ₁ (ws .0) (as-long (p .h .labels) (r₁ .ys) (p .same₁) room₁) as₁ $
-          move ! (6 ∷ 7 ∷ []) $ drop ! $ drop ! $ move ! (6 ∷ 7 ∷ 8 ∷ []) $
-          land ! (from ! (stop !)) (init ! 21 refl (nothing-lawful 𝓤 H A W .typed a _ isa .0)) $
-          assigns-last ! (of-opd ! (load ! (from ! (stop !)) (look ! 35 refl))) (from ! (stop !)) (store ! 39 refl (EL.lawful O.the-type O′.the-laws 𝓤 H A W tt .typed (t .0) _ (t .1) .0)) $
-          forget ! 9 refl $ forget ! 11 refl $ forget ! 13 refl $ forget ! 15 refl $ forget ! 17 refl $ forget ! 19 refl $ forget ! 21 refl $ forget ! 23 refl $ forget ! 25 refl $ forget ! 27 refl $ forget ! 29 refl $ forget ! 35 refl $ forget ! 37 refl $
+          move ! (0 ∷ 10 ∷ 5 ∷ []) $ comes u32 (r₃ .κ) (r₃ .q) (r₃ .γ) (r₃ .b) (r₃ .o) (named 3) (named 3) (p .h .moves) (length (r₃ .ys)) (sym (p .same₃)) ! tt ν₃ δ₃ (ws .1 .1 .1 .1 .0) (as-long (p .h .moves) (r₃ .ys) (p .same₃) room₃) as₃ $
+          move ! (3 ∷ 10 ∷ 7 ∷ []) $ comes u32 (r₂ .κ) (r₂ .q) (r₂ .γ) (r₂ .b) (r₂ .o) (named 2) (named 2) (p .h .equations) (length (r₂ .ys)) (sym (p .same₂)) ! tt ν₂ δ₂ (ws .1 .1 .1 .0) (as-long (p .h .equations) (r₂ .ys) (p .same₂) room₂) as₂ $
+          move ! (5 ∷ 10 ∷ 8 ∷ []) $ comes u32 (r₁ .κ) (r₁ .q) (r₁ .γ) (r₁ .b) (r₁ .o) (named 1) (named 1) (p .h .labels) (length (r₁ .ys)) (sym (p .same₁)) ! tt ν₁ δ₁ (ws .1 .1 .0) (as-long (p .h .labels) (r₁ .ys) (p .same₁) room₁) as₁ $
+          move ! (7 ∷ 6 ∷ []) $ join ! $ move ! (7 ∷ []) $ drop ! $ move ! (8 ∷ 0 ∷ 7 ∷ []) $
+          land-last ! (from ! (stop !)) (store ! 33 refl (EL.lawful O.the-type O′.the-laws 𝓤 H A W tt .typed a _ isa .0)) $
+          forget ! 9 refl $ forget ! 11 refl $ forget ! 13 refl $ forget ! 15 refl $ forget ! 17 refl $ forget ! 19 refl $ forget ! 21 refl $ forget ! 23 refl $ forget ! 25 refl $ forget ! 31 refl $
           again ! Nearer At p
-          (record { i = n .0; fits = n .1 .1; t = t .0; w = y; is = t .1; h = three (ws .0) (ws .1 .0) (ws .1 .1 .0); same₁ = as₁ ∙ p .same₁; same₂ = as₂ ∙ p .same₂; same₃ = as₃ ∙ p .same₃; storing = after (n .0) (n .2) more r e (t .0) (t .2) (three (ws .0) (ws .1 .0) (ws .1 .1 .0)) put .0 })
-          (after (n .0) (n .2) more r e (t .0) (t .2) (three (ws .0) (ws .1 .0) (ws .1 .1 .0)) put .1))))))))))))))))
+          (record { i = n .0; fits = n .1 .1; t = a; w = g; is = isa; h = three (ws .1 .1 .0) (ws .1 .1 .1 .0) (ws .1 .1 .1 .1 .0); same₁ = as₁ ∙ p .same₁; same₂ = as₂ ∙ p .same₂; same₃ = as₃ ∙ p .same₃; storing = after (n .0) (n .2) more a (three (ws .1 .1 .0) (ws .1 .1 .1 .0) (ws .1 .1 .1 .1 .0)) stored .0 })
+          (after (n .0) (n .2) more a (three (ws .1 .1 .0) (ws .1 .1 .1 .0) (ws .1 .1 .1 .1 .0)) stored .1)))))))))))))))
         where
           -- a room as long as the one lent
           as-long : (zs ys : List ℕ) → length zs ≡ length ys → Room u32 (length ys) → Room u32 (length zs)
           as-long zs ys e room = rw e room
 
           -- the turn that follows stores on, and is nearer to the end
-          after : (k : ℕ) → k ≡ placeOf (p .t) → Holds (not (eqb k 0)) → (r : Read) → r ≡ recordAt (now s) k → (t : OneTurn) → Follows (lengthsBy l) r (p .t) (length (now s)) t → (h : Stored) → h ≡ putTurn (p .t) t (p .h)
+          after : (k : ℕ) → k ≡ placeOf (p .t) → Holds (not (eqb k 0)) → (t : OneTurn) (h : Stored) → Stores (lengthsBy l) (now s) (p .t) (p .h) t h
               → Storing (lengthsBy l) (now s) had t h × (left (now s) t < left (now s) (p .t))
-          after k a more r e t f h put = rw put (storing-next (lengthsBy l) (now s) had (p .t) t (p .h) r (p .storing) (λ g. rw (eq-eqb k 0 (a ∙ g)) at more) (e ∙ ap (recordAt (now s)) a) f)
+          after k a more t h f = f had (p .storing) (λ g. rw (eq-eqb k 0 (a ∙ g)) at more)
 
       -- the loop, from the first turn on
       looping : (p : Point) → Sq W (At p) (runs C Λ En body.t-5 (atRet En Post))
@@ -311,7 +313,7 @@ module _ {M : Type 1} (𝓤 : URA M) (H : Heap 𝓤) (A : Atoms 𝓤) (W : Given
 
     module _ (𝓣 : Tables 𝓤 H) (known-make : Triple 𝓤 (𝓣 .C #wire·reader-at) (Make 𝓤 H A mem run)) (known-next : Triple 𝓤 (𝓣 .C #wire·next) (Next 𝓤 H A mem run))
         (known-first : Triple 𝓤 (𝓣 .C #judge·first-turn) (First 𝓤 H A mem run)) (known-place : Triple 𝓤 (𝓣 .C #judge·place-of) (PlaceOf 𝓤 H A mem run))
-        (known-turn : Triple 𝓤 (𝓣 .C #judge·turn) (Turn 𝓤 H A mem run)) (known-put : Triple 𝓤 (𝓣 .C #store·put-turn) (Put 𝓤 H A mem run)) where
+        (known-turn : Triple 𝓤 (𝓣 .C #store·store-turn) (StoreTurn 𝓤 H A mem run)) where
       -- the code up to the loop, and the loop
       walk : Is (ShrSlice (named 0) κ u8) s (v ∷ []) → ent 𝓤 (onEntry 𝓤 H A store-model.signature (κ, (r₁ .κ, (r₂ .κ, (r₃ .κ, tt)))) (q, (r₁ .q, (r₂ .q, (r₃ .q, tt)))) (s, (l, (room-at r₁ (r₁ .γ) (r₁ .ys), (room-at r₂ (r₂ .γ) (r₂ .ys), (room-at r₃ (r₃ .γ) (r₃ .ys), tt))))) (v ∷ [], (wl ∷ [], (value r₁ ∷ [], (value r₂ ∷ [], (value r₃ ∷ [], tt))))))
           (WpFn 𝓤 H (𝓣 .C) (𝓣 .Λ) code.function (v ∷ wl ∷ value r₁ ∷ value r₂ ∷ value r₃ ∷ []) Post)
@@ -319,24 +321,24 @@ module _ {M : Type 1} (𝓤 : URA M) (H : Heap 𝓤) (A : Atoms 𝓤) (W : Given
           let wt = shr-slice-lawful 𝓤 H A W (named 0) κ u8 .typed s (v ∷ []) g .0 in
           qed W ((‵ (flft κ q) ⊛ (‵ (flft (r₁ .κ) (r₁ .q)) ⊛ (‵ (flft (r₂ .κ) (r₂ .q)) ⊛ (‵ (flft (r₃ .κ) (r₃ .q)) ⊛ ‵ ftrue)))) ∷ ‵ (owns (ShrSlice (named 0) κ u8 ∷ N.the-row ∷ MutSlice (named 1) (r₁ .κ) u32 ∷ MutSlice (named 2) (r₂ .κ) u32 ∷ MutSlice (named 3) (r₃ .κ) u32 ∷ []) (s, (l, (room-at r₁ (r₁ .γ) (r₁ .ys), (room-at r₂ (r₂ .γ) (r₂ .ys), (room-at r₃ (r₃ .γ) (r₃ .ys), tt))))) (v ∷ [], (wl ∷ [], (value r₁ ∷ [], (value r₂ ∷ [], (value r₃ ∷ [], tt)))))) ∷ []) ∵
           enter ! (𝓣 .C) (𝓣 .Λ) code.function (v ∷ wl ∷ value r₁ ∷ value r₂ ∷ value r₃ ∷ []) _ $
-          alloc1 ! (λ l₀. alloc1 ! (λ l₁. alloc1 ! (λ l₂. alloc1 ! (λ l₃. alloc1 ! (λ l₄. alloc1 ! (λ l₅. alloc1 ! (λ l₆. alloc1 ! (λ l₇. alloc1 ! (λ l₈. alloc1 ! (λ l₉. alloc1 ! (λ l₁₀. alloc1 ! (λ l₁₁. alloc1 ! (λ l₁₂. alloc1 ! (λ l₁₃. alloc1 ! (λ l₁₄. alloc1 ! (λ l₁₅. alloc1 ! (λ l₁₆. alloc1 ! (λ l₁₇. alloc1 ! (λ l₁₈. alloc1 ! (λ l₁₉. alloc1 ! (λ l₂₀. alloc1 ! (λ l₂₁. alloc1 ! (λ l₂₂. alloc0 ! $ params1 ! $
-          pass1 ! (init ! 42 refl wt) $ pass1 ! (init ! 40 refl (LL.lawful N.the-type N′.the-laws 𝓤 H A W .typed l (wl ∷ []) lent .0)) $
-          pass1 ! (init ! 38 refl (tt, (tt, (record { fits = room₁ .0 }, tt)))) $ pass1 ! (init ! 36 refl (tt, (tt, (record { fits = room₂ .0 }, tt)))) $ pass1 ! (init ! 34 refl (tt, (tt, (record { fits = room₃ .0 }, tt)))) $ pass0 ! $
-          move ! (47 ∷ []) $ fsplit ! $ move ! (1 ∷ []) $ fsplit ! $ drop ! $ fsplit ! $ move ! (1 ∷ []) $ fsplit ! $ move ! (1 ∷ []) $ fsplit ! $ move ! (1 ∷ []) $ drop ! $
-          -- [what each room owns, the last first; what the bytes own; _22; …; _0; …; the tokens]
-          move ! (50 ∷ []) $ split ! $ move ! (1 ∷ []) $ split ! $ move ! (1 ∷ []) $ split ! $ move ! (1 ∷ []) $ split ! $ move ! (4 ∷ 1 ∷ []) $ join ! $ move ! (0 ∷ 7 ∷ 6 ∷ 3 ∷ 5 ∷ 2 ∷ 4 ∷ 1 ∷ []) $
-          -- [the bytes' token; what the bytes own; what each room owns, with its token; _22; …; _0; …]
-          kept.made 𝓤 H A W mem run κ q s ! (fmOf 𝓤 H (W .laws) 𝓣) known-make (and-then ! (load ! (from ! (stop !)) (look ! 50 refl)) (and-then ! (lit ! tt) (no-more !))) $
-          -- [what the reader owns; the bytes' token; what the bytes own; what each room owns, with its token; _22; …; _0; …]
-          land ! (from ! (stop !)) (init ! 41 refl (tt, (wt .1, (record { fits = lit< tt }, tt)))) $
-          assigns ! (of-opd ! (load ! (from ! (stop !)) (look ! 41 refl))) (from ! (stop !)) (init ! 31 refl (tt, (wt .1, (record { fits = lit< tt }, tt)))) $
-          kept.reads 𝓤 H A W mem run κ q s ! (fmOf 𝓤 H (W .laws) 𝓣) known-next 0 (and-then ! (load ! (from ! (stop !)) (look ! 31 refl)) (no-more !)) (λ k r is e.
-          land ! (from ! (stop !)) (init ! 33 refl (EL.lawful S.the-type S′.the-laws 𝓤 H A W tt .typed r _ is .0)) $
-          turned.begins 𝓤 H A W mem run l lent ! (fmOf 𝓤 H (W .laws) 𝓣) known-first r k is (and-then ! (load ! (from ! (stop !)) (look ! 34 refl)) (and-then ! (load ! (from ! (stop !)) (look ! 50 refl)) (no-more !))) (λ y t.
-          land ! (from ! (stop !)) (init ! 39 refl (EL.lawful O.the-type O′.the-laws 𝓤 H A W tt .typed (t .0) _ (t .1) .0)) $
-          forget ! 31 refl $ forget ! 33 refl $
-          looping 𝓣 (wt .1) known-next known-place known-turn known-put l₀ l₁ l₂ l₃ l₄ l₅ l₆ l₇ l₈ l₉ l₁₀ l₁₁ l₁₂ l₁₃ l₁₄ l₁₅ l₁₆ l₁₇ l₁₈ l₁₉ l₂₀ l₂₁ l₂₂
-          (record { i = 0; fits = lit< tt; t = t .0; w = y; is = t .1; h = had; same₁ = refl; same₂ = refl; same₃ = refl; storing = storing-first (lengthsBy l) (now s) had (t .0) (t .2 (now s) e) }))))))))))))))))))))))))))
+          alloc1 ! (λ l₀. alloc1 ! (λ l₁. alloc1 ! (λ l₂. alloc1 ! (λ l₃. alloc1 ! (λ l₄. alloc1 ! (λ l₅. alloc1 ! (λ l₆. alloc1 ! (λ l₇. alloc1 ! (λ l₈. alloc1 ! (λ l₉. alloc1 ! (λ l₁₀. alloc1 ! (λ l₁₁. alloc1 ! (λ l₁₂. alloc1 ! (λ l₁₃. alloc1 ! (λ l₁₄. alloc1 ! (λ l₁₅. alloc1 ! (λ l₁₆. alloc1 ! (λ l₁₇. alloc1 ! (λ l₁₈. alloc1 ! (λ l₁₉. alloc0 ! $ params1 ! $
+          pass1 ! (init ! 36 refl wt) $ pass1 ! (init ! 34 refl (LL.lawful N.the-type N′.the-laws 𝓤 H A W .typed l (wl ∷ []) lent .0)) $
+          pass1 ! (init ! 32 refl (tt, (tt, (record { fits = room₁ .0 }, tt)))) $ pass1 ! (init ! 30 refl (tt, (tt, (record { fits = room₂ .0 }, tt)))) $ pass1 ! (init ! 28 refl (tt, (tt, (record { fits = room₃ .0 }, tt)))) $ pass0 ! $
+          move ! (41 ∷ []) $ fsplit ! $ move ! (1 ∷ []) $ fsplit ! $ drop ! $ fsplit ! $ move ! (1 ∷ []) $ fsplit ! $ move ! (1 ∷ []) $ fsplit ! $ move ! (1 ∷ []) $ drop ! $
+          -- [what each room owns, the last first; what the bytes own; _19; …; _0; …; the tokens]
+          move ! (44 ∷ []) $ split ! $ move ! (1 ∷ []) $ split ! $ move ! (1 ∷ []) $ split ! $ move ! (1 ∷ []) $ split ! $ move ! (4 ∷ 1 ∷ []) $ join ! $ move ! (0 ∷ 7 ∷ 6 ∷ 3 ∷ 5 ∷ 2 ∷ 4 ∷ 1 ∷ []) $
+          -- [the bytes' token; what the bytes own; what each room owns, with its token; _19; …; _0; …]
+          kept.made 𝓤 H A W mem run κ q s ! (fmOf 𝓤 H (W .laws) 𝓣) known-make (and-then ! (load ! (from ! (stop !)) (look ! 44 refl)) (and-then ! (lit ! tt) (no-more !))) $
+          -- [what the reader owns; the bytes' token; what the bytes own; what each room owns, with its token; _19; …; _0; …]
+          land ! (from ! (stop !)) (init ! 35 refl (tt, (wt .1, (record { fits = lit< tt }, tt)))) $
+          assigns ! (of-opd ! (load ! (from ! (stop !)) (look ! 35 refl))) (from ! (stop !)) (init ! 27 refl (tt, (wt .1, (record { fits = lit< tt }, tt)))) $
+          kept.reads 𝓤 H A W mem run κ q s ! (fmOf 𝓤 H (W .laws) 𝓣) known-next 0 (and-then ! (load ! (from ! (stop !)) (look ! 27 refl)) (no-more !)) (λ k r is e.
+          land ! (from ! (stop !)) (init ! 29 refl (EL.lawful S.the-type S′.the-laws 𝓤 H A W tt .typed r _ is .0)) $
+          turned.begins 𝓤 H A W mem run l lent ! (fmOf 𝓤 H (W .laws) 𝓣) known-first r k is (and-then ! (load ! (from ! (stop !)) (look ! 30 refl)) (and-then ! (load ! (from ! (stop !)) (look ! 44 refl)) (no-more !))) (λ y t.
+          land ! (from ! (stop !)) (init ! 33 refl (EL.lawful O.the-type O′.the-laws 𝓤 H A W tt .typed (t .0) _ (t .1) .0)) $
+          forget ! 27 refl $ forget ! 29 refl $
+          looping 𝓣 (wt .1) known-next known-place known-turn l₀ l₁ l₂ l₃ l₄ l₅ l₆ l₇ l₈ l₉ l₁₀ l₁₁ l₁₂ l₁₃ l₁₄ l₁₅ l₁₆ l₁₇ l₁₈ l₁₉
+          (record { i = 0; fits = lit< tt; t = t .0; w = y; is = t .1; h = had; same₁ = refl; same₂ = refl; same₃ = refl; storing = storing-first (lengthsBy l) (now s) had (t .0) (t .2 (now s) e) })))))))))))))))))))))))
 
 module _ {M : Type 1} (𝓤 : URA M) (H : Heap 𝓤) (A : Atoms 𝓤) (W : Given 𝓤 H A) (mem : Memory → SProp 𝓤) (run : Routine → Fun 𝓤) where
   -- what is known of the functions called
@@ -345,8 +347,7 @@ module _ {M : Type 1} (𝓤 : URA M) (H : Heap 𝓤) (A : Atoms 𝓤) (W : Given
     next : Triple 𝓤 (𝓣 .C #wire·next) (Next 𝓤 H A mem run)
     start : Triple 𝓤 (𝓣 .C #judge·first-turn) (First 𝓤 H A mem run)
     place : Triple 𝓤 (𝓣 .C #judge·place-of) (PlaceOf 𝓤 H A mem run)
-    turn : Triple 𝓤 (𝓣 .C #judge·turn) (Turn 𝓤 H A mem run)
-    put : Triple 𝓤 (𝓣 .C #store·put-turn) (Put 𝓤 H A mem run)
+    turn : Triple 𝓤 (𝓣 .C #store·store-turn) (StoreTurn 𝓤 H A mem run)
 
   -- the walk, for any argument at any lifetime
   store-model-walks : (𝓣 : Tables 𝓤 H) → Known 𝓣 → Walks 𝓤 H A store-model.ended stayed (WpFn 𝓤 H (𝓣 .C) (𝓣 .Λ) code.function) (store-model.clauses 𝓤 H A mem run)
@@ -354,7 +355,7 @@ module _ {M : Type 1} (𝓤 : URA M) (H : Heap 𝓤) (A : Atoms 𝓤) (W : Given
       (λ κs. (shr-slice-tells (named 0) (κs .0) u8, (LL.tells N.the-type N′.the-laws, (mut-slice-tells (named 1) (κs .1 .0) u32, (mut-slice-tells (named 2) (κs .1 .1 .0) u32, (mut-slice-tells (named 3) (κs .1 .1 .1 .0) u32, tt))))))
       (λ κs qs bounds a g are. via 𝓤 _ (fst∗ 𝓤 _ (emp 𝓤)) (walk 𝓤 H A W mem run (κs .0) (qs .0) (a .0) (a .1 .0)
       (lends-of (κs .1 .0) (qs .1 .0) (a .1 .1 .0)) (lends-of (κs .1 .1 .0) (qs .1 .1 .0) (a .1 .1 .1 .0)) (lends-of (κs .1 .1 .1 .0) (qs .1 .1 .1 .0) (a .1 .1 .1 .1 .0))
-      (are .1 .0) (are .0 .0 .1 .0) (are .1 .1 .0 .0 .1) (are .1 .1 .1 .0 .0 .1) (are .1 .1 .1 .1 .0 .0 .1) 𝓣 (k .make) (k .next) (k .start) (k .place) (k .turn) (k .put) (are .0)))
+      (are .1 .0) (are .0 .0 .1 .0) (are .1 .1 .0 .0 .1) (are .1 .1 .1 .0 .0 .1) (are .1 .1 .1 .1 .0 .0 .1) 𝓣 (k .make) (k .next) (k .start) (k .place) (k .turn) (are .0)))
 
   -- the code meets the contract, wherever the functions called meet theirs
   store-model-meets : (𝓣 : Tables 𝓤 H) → Known 𝓣 → Meets 𝓤 H A store-model.signature (WpFn 𝓤 H (𝓣 .C) (𝓣 .Λ) code.function) (store-model.spec 𝓤 H A mem run)
@@ -373,6 +374,5 @@ store-model-spec 𝓤 H 𝓜 𝓖 𝓡 =
       next = cited 𝓤 H (Next 𝓤 H (𝓖 .A) (𝓜 .mem) (𝓡 .run)) 𝓜 𝓡 code.env #wire·next next-def.routine code.calls-wire·next (next-thm.met 𝓤 H 𝓜 𝓖 𝓡);
       start = cited 𝓤 H (First 𝓤 H (𝓖 .A) (𝓜 .mem) (𝓡 .run)) 𝓜 𝓡 code.env #judge·first-turn first-turn-def.routine code.calls-judge·first-turn (first-turn-thm.met 𝓤 H 𝓜 𝓖 𝓡);
       place = cited 𝓤 H (PlaceOf 𝓤 H (𝓖 .A) (𝓜 .mem) (𝓡 .run)) 𝓜 𝓡 code.env #judge·place-of place-of-def.routine code.calls-judge·place-of (place-of-thm.met 𝓤 H 𝓜 𝓖 𝓡);
-      turn = cited 𝓤 H (Turn 𝓤 H (𝓖 .A) (𝓜 .mem) (𝓡 .run)) 𝓜 𝓡 code.env #judge·turn turn-def.routine code.calls-judge·turn (turn-thm.met 𝓤 H 𝓜 𝓖 𝓡);
-      put = cited 𝓤 H (Put 𝓤 H (𝓖 .A) (𝓜 .mem) (𝓡 .run)) 𝓜 𝓡 code.env #store·put-turn put-turn-def.routine code.calls-store·put-turn (put-turn-thm.met 𝓤 H 𝓜 𝓖 𝓡);
+      turn = cited 𝓤 H (StoreTurn 𝓤 H (𝓖 .A) (𝓜 .mem) (𝓡 .run)) 𝓜 𝓡 code.env #store·store-turn store-turn-def.routine code.calls-store·store-turn (store-turn-thm.met 𝓤 H 𝓜 𝓖 𝓡);
     }))

@@ -1,0 +1,106 @@
+// Labels and moves that stand one after another in the bytes of a model, each whole, in range and in order: read in one go, as
+// far as they go. What stands after them is nobody's here.
+ghost use mathlib.Core.Path.{_≡_};
+ghost use mathlib.Core.Bool.{true};
+ghost use Prim.Native.Nat.{_+_, _≤_, _<_};
+ghost use lib.ListN.{length};
+ghost use Rattle.runs.specs.Runs.{GoodLabel, GoodMove, withLabel, withMove, Labelled, Moved};
+use rules::Sizes;
+use rules::State;
+
+// Where labels are read: they have passed the states below `labels`, and the next record stands at a place.
+pub struct LabelRun {
+    pub labels: u32,
+    pub at: usize,
+}
+
+// Where moves are read: how many so far, the least number that the next may have, how many states, from the first on, have a
+// move each, and where the next record stands.
+pub struct MoveRun {
+    pub count: u32,
+    pub least: u64,
+    pub moving: u32,
+    pub at: usize,
+}
+
+// Whether a good label stands next.
+pub fn good_label(bytes: &[u8], z: Sizes, x: LabelRun) -> bool
+    requires { ⌜ x .at ≤ length (now bytes) ⌝ }
+    ensures { λ r. ⌜ (r ≡ true → GoodLabel (now (bytes .entry)) z x) ⌝ }
+{
+    let at = x.at;
+    if bytes.len() - at < 7 {
+        return false;
+    }
+    let s = wire::u16_at(bytes, at + 1);
+    let v = wire::u32_at(bytes, at + 3);
+    (bytes[at] == 2) & (s < z.states) & (0 < v) & limits::label_ok(z, v) & (x.labels <= s as u32)
+}
+
+// Past the label that stands next.
+pub fn with_label(bytes: &[u8], x: LabelRun) -> LabelRun
+    requires { ⌜ x .at + 7 ≤ length (now bytes) ⌝ }
+    ensures { λ r. ⌜ r ≡ withLabel (now (bytes .entry)) x ⌝ }
+{
+    let at = x.at;
+    let labels = wire::u16_at(bytes, at + 1) as u32 + 1;
+    LabelRun {
+        labels: labels,
+        at: at + 7,
+    }
+}
+
+// Past all good labels that stand next.
+pub fn labels_run(bytes: &[u8], z: Sizes, x: LabelRun) -> LabelRun
+    requires { ⌜ x .at ≤ length (now bytes) ⌝ }
+    ensures { λ r. ⌜ Labelled (now (bytes .entry)) z x r ⌝ }
+{
+    let mut y = x;
+    while good_label(bytes, z, y) {
+        y = with_label(bytes, y);
+    }
+    y
+}
+
+// Whether a good move stands next.
+fn good_move(bytes: &[u8], z: Sizes, x: MoveRun) -> bool
+    requires { ⌜ x .at ≤ length (now bytes) ⌝ }
+    ensures { λ r. ⌜ (r ≡ true → GoodMove (now (bytes .entry)) z x) ⌝ }
+{
+    let at = x.at;
+    if bytes.len() - at < 6 {
+        return false;
+    }
+    let m = wire::move_at(bytes, at + 1);
+    (bytes[at] == 5) & limits::move_ok(z, m) & (x.least <= limits::packed(m))
+}
+
+// Past the move that stands next.
+fn with_move(bytes: &[u8], x: MoveRun) -> MoveRun
+    requires { ⌜ (x .at + 6 ≤ length (now bytes)) × (x .count < 1024) ⌝ }
+    ensures { λ r. ⌜ r ≡ withMove (now (bytes .entry)) x ⌝ }
+{
+    let at = x.at;
+    let m = wire::move_at(bytes, at + 1);
+    let count = x.count + 1;
+    let least = limits::packed(m) + 1;
+    let moving = limits::moving_with(x.moving, m.source);
+    MoveRun {
+        count: count,
+        least: least,
+        moving: moving,
+        at: at + 6,
+    }
+}
+
+// Past all good moves that stand next and have room.
+pub fn moves_run(bytes: &[u8], z: Sizes, room: usize, x: MoveRun) -> MoveRun
+    requires { ⌜ (x .at ≤ length (now bytes)) × (room ≤ 1024) ⌝ }
+    ensures { λ r. ⌜ Moved (now (bytes .entry)) z room x r ⌝ }
+{
+    let mut y = x;
+    while ((y.count as usize) < room) & good_move(bytes, z, y) {
+        y = with_move(bytes, y);
+    }
+    y
+}
