@@ -1,5 +1,6 @@
 //! The operands by the variable that they name, inside one component.
 
+use super::turns::waiting;
 use crate::ordinary::equation::{Equation, DIAMOND, OR};
 use crate::ordinary::sizes::MOST_VARIABLES;
 
@@ -10,12 +11,12 @@ const VARIABLES: usize = MOST_VARIABLES as usize;
 pub struct Operand {
     /// One more than the number of the operand before it that names the same variable, or 0.
     pub before: u8,
-    /// The variable whose equation it stands in.
-    pub variable: u8,
     /// Whether the equation is a diamond or a box.
     pub step: bool,
     /// Whether one operand with the component's own value is enough for that value.
     pub easy: bool,
+    /// The first pair of the variable whose equation it stands in, as it waits.
+    pub first: u16,
     /// Where the pairs of that variable begin.
     pub row: u16,
     /// Of a step: where the heads of its action begin. Of a join: where the pairs of its other operand begin.
@@ -48,9 +49,9 @@ impl Names {
             let step = e.operator >= DIAMOND;
             let operand = |other: u32| Operand {
                 before: 0,
-                variable: y as u8,
                 step,
                 easy: is_easy(e),
+                first: waiting(y, 0),
                 row: (y * states) as u16,
                 other: (other as usize * states) as u16,
             };
@@ -71,14 +72,15 @@ impl Names {
         self.operands[number] = Operand { before, ..operand };
     }
 
-    /// Calls `see` with each operand that names a variable.
+    /// One more than the number of the last operand that names a variable, or 0.
     #[inline(always)]
-    pub fn of(&self, variable: usize, mut see: impl FnMut(&Operand)) {
-        let mut number = self.last[variable % VARIABLES];
-        while number != 0 {
-            let operand = &self.operands[(usize::from(number) - 1) % (2 * VARIABLES)];
-            see(operand);
-            number = operand.before;
-        }
+    pub fn last(&self, variable: usize) -> u8 {
+        self.last[variable % VARIABLES]
+    }
+
+    /// The operand whose number is one less.
+    #[inline(always)]
+    pub fn operand(&self, number: u8) -> &Operand {
+        &self.operands[(usize::from(number) - 1) % (2 * VARIABLES)]
     }
 }

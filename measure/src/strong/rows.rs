@@ -9,9 +9,9 @@ const MOST: usize = MOST_STATES as usize;
 /// A row of answers. The places past the states are 0.
 pub type Row = [u8; MOST];
 
-/// Whether some value of a row is the component's own.
-pub fn has(values: &[u8], own: u8) -> bool {
-    values.iter().fold(0, |any, v| any | (v ^ own ^ 1)) == 1
+/// Whether some pair of a row has a value.
+pub fn has(values: &[u8], value: u8) -> bool {
+    values.iter().fold(0, |any, v| any | (v ^ value ^ 1)) == 1
 }
 
 /// Whether some pair of a row has an odd mark: it turned and did not come back.
@@ -42,6 +42,9 @@ pub fn fails_both(one: &[u8], two: &[u8], own: u8, bad: &mut [u8]) {
 
 /// Where some move of an action leads to a pair of the row that is not `own`; the row of answers has no yes yet.
 pub fn fails_some(moves: Into, row: &[u8], own: u8, bad: &mut Row) {
+    if !has(row, own ^ 1) {
+        return;
+    }
     for (head, value) in moves.heads.iter().zip(row) {
         let fails = value ^ own;
         moves.arrivals.sources(*head, |s| bad[s % MOST] |= fails);

@@ -5,6 +5,10 @@ use super::names::Operand;
 use super::system::System;
 use crate::ordinary::moves::{pack, target};
 
+/// The phases: pairs come to their component's own value, or lose it.
+pub const SHIFTING: bool = false;
+pub const SETTLING: bool = true;
+
 /// How many pairs turned in a phase, and how many leanings on them were visited.
 #[derive(Clone, Copy)]
 pub struct Turned {
@@ -22,8 +26,21 @@ fn taken(waits: u16) -> (usize, usize) {
     (usize::from(waits >> 10), usize::from(waits & 1023))
 }
 
-/// The first so many of the queue and whoever leans on them come to the component's own value.
-pub fn shift(
+/// A phase of a component under way.
+struct Run<'a> {
+    system: &'a System<'a>,
+    /// The component's own value.
+    own: u8,
+    values: &'a mut [u8],
+    marks: &'a mut [u8],
+    queue: &'a mut [u16],
+    /// Where the queue ends.
+    tail: usize,
+    visits: usize,
+}
+
+/// Turns the first so many pairs of the queue, and whoever comes to wait behind them.
+pub fn turn<const PHASE: bool>(
     system: &System,
     own: u8,
     values: &mut [u8],
@@ -31,96 +48,88 @@ pub fn shift(
     queue: &mut [u16],
     waits: usize,
 ) -> Turned {
-    let marks = &mut marks[..values.len()];
-    let arrivals = system.arrivals;
-    let (mut at, mut tail, mut visits) = (0, waits, 0);
-    while at < tail {
-        let (x, t) = taken(queue[at]);
+    let mut run = Run {
+        system,
+        own,
+        marks: &mut marks[..values.len()],
+        values,
+        queue,
+        tail: waits,
+        visits: 0,
+    };
+    let mut at = 0;
+    while at < run.tail {
+        let (x, t) = taken(run.queue[at]);
         at += 1;
-        values[x * system.states + t] = own;
-        system.names.of(x, |operand| {
-            let mut visit = |s: usize| {
-                visits += 1;
-                let pair = usize::from(operand.row) + s;
-                if values[pair] != own && marks[pair] == 0 {
-                    marks[pair] = 1;
-                    queue[tail] = waiting(operand.variable.into(), s);
-                    tail += 1;
-                }
-            };
-            if operand.step {
-                arrivals.sources(arrivals.heads[usize::from(operand.other) + t], visit);
-            } else {
-                visit(t);
-            }
-        });
+        run.values[x * system.states + t] = own ^ u8::from(PHASE == SETTLING);
+        let mut number = system.names.last(x);
+        while number != 0 {
+            let operand = system.names.operand(number);
+            run.visit_all::<PHASE>(operand, t);
+            number = operand.before;
+        }
     }
     Turned {
-        pairs: tail,
-        visits,
+        pairs: run.tail,
+        visits: run.visits,
     }
 }
 
-/// The first so many of the queue and whoever can no longer have the component's own value lose it.
-pub fn settle(
-    system: &System,
-    own: u8,
-    values: &mut [u8],
-    marks: &mut [u8],
-    queue: &mut [u16],
-    waits: usize,
-) -> Turned {
-    let marks = &mut marks[..values.len()];
-    let arrivals = system.arrivals;
-    let (mut at, mut tail, mut visits) = (0, waits, 0);
-    while at < tail {
-        let (x, t) = taken(queue[at]);
-        at += 1;
-        values[x * system.states + t] = own ^ 1;
-        system.names.of(x, |operand| {
-            let mut visit = |s: usize| {
-                visits += 1;
-                let pair = usize::from(operand.row) + s;
-                let asks = values[pair] == own && marks[pair] < 2;
-                if asks && !(operand.easy && still(system, operand, x, s, own, values)) {
-                    marks[pair] = 3 - marks[pair];
-                    queue[tail] = waiting(operand.variable.into(), s);
-                    tail += 1;
-                }
-            };
-            if operand.step {
-                arrivals.sources(arrivals.heads[usize::from(operand.other) + t], visit);
-            } else {
-                visit(t);
-            }
+impl Run<'_> {
+    /// Visits the pairs that lean by an operand on a pair of a state.
+    #[inline(always)]
+    fn visit_all<const PHASE: bool>(&mut self, operand: &Operand, state: usize) {
+        let (system, own) = (self.system, self.own);
+        if !operand.step {
+            self.visits += 1;
+            return self.visit::<PHASE>(operand, state, |values| {
+                values[usize::from(operand.other) + state] == own
+            });
+        }
+        let arrivals = system.arrivals;
+        let head = arrivals.heads[usize::from(operand.other) + state];
+        arrivals.sources(head, |source| {
+            self.visits += 1;
+            self.visit::<PHASE>(operand, source, |values| {
+                leads(system, operand, source, own, values)
+            });
         });
     }
-    Turned {
-        pairs: tail,
-        visits,
+
+    /// Has a pair wait that must turn; `still` tells of an easy one whether it keeps its value.
+    #[inline(always)]
+    fn visit<const PHASE: bool>(
+        &mut self,
+        operand: &Operand,
+        state: usize,
+        still: impl FnOnce(&[u8]) -> bool,
+    ) {
+        let pair = usize::from(operand.row) + state;
+        if (self.values[pair] == self.own) != (PHASE == SETTLING) {
+            return;
+        }
+        let mark = self.marks[pair];
+        let turns = match PHASE {
+            SHIFTING => mark == 0,
+            SETTLING => mark < 2 && !(operand.easy && still(self.values)),
+        };
+        if turns {
+            self.marks[pair] = if PHASE == SETTLING { 3 - mark } else { 1 };
+            self.queue[self.tail] = operand.first | state as u16;
+            self.tail += 1;
+        }
     }
 }
 
-/// Whether an easy equation, one operand of which names x, still has an operand with the component's own value at a state.
-fn still(
-    system: &System,
-    operand: &Operand,
-    x: usize,
-    state: usize,
-    own: u8,
-    values: &[u8],
-) -> bool {
-    if !operand.step {
-        return values[usize::from(operand.other) + state] == own;
-    }
-    let row = &values[system.row(x as u32)];
-    let action = system.equations[usize::from(operand.variable)].first;
-    let key = pack(state as u32, action, 0);
+/// Whether a move of a diamond's or box's action still leads from a state to a pair with the component's own value.
+#[inline(never)]
+fn leads(system: &System, operand: &Operand, state: usize, own: u8, values: &[u8]) -> bool {
+    let e = &system.equations[usize::from(operand.first >> 10)];
+    let row = &values[system.row(e.second)];
+    let key = pack(state as u32, e.first, 0);
     let moves = system.arrivals.moves;
     let from = moves.partition_point(|packed| *packed < key);
-    let part = moves[from..]
-        .iter()
-        .take_while(|packed| **packed < key + 1024);
-    part.into_iter()
-        .any(|packed| row[target(*packed) as usize] == own)
+    let part = moves[from..].iter();
+    let mut part = part.take_while(|packed| **packed < key + 1024);
+    part.any(|packed| row[target(*packed) as usize] == own)
 }

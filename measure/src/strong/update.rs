@@ -4,7 +4,7 @@ use super::changes::Changes;
 use super::components::components;
 use super::looks;
 use super::system::System;
-use super::turns;
+use super::turns::{self, SETTLING, SHIFTING};
 use crate::answers::Report;
 
 /// The values before any change: the solution of the equations. The marks become 0.
@@ -19,7 +19,7 @@ pub fn solve(system: &System, values: &mut [u8], marks: &mut [u8], queue: &mut [
         for y in component.variables() {
             tail = looks::settle(system, y, values, marks, queue, tail);
         }
-        turns::settle(system, component.own, values, marks, queue, tail);
+        turns::turn::<SETTLING>(system, component.own, values, marks, queue, tail);
     }
     marks.fill(0);
 }
@@ -40,12 +40,12 @@ pub fn update(
         for y in component.variables() {
             tail = looks::shift(system, y, changes, values, marks, queue, tail);
         }
-        let shifted = turns::shift(system, own, values, marks, queue, tail);
+        let shifted = turns::turn::<SHIFTING>(system, own, values, marks, queue, tail);
         tail = 0;
         for y in component.variables() {
             tail = looks::settle(system, y, values, marks, queue, tail);
         }
-        let settled = turns::settle(system, own, values, marks, queue, tail);
+        let settled = turns::turn::<SETTLING>(system, own, values, marks, queue, tail);
         report.shift_visits += shifted.visits as i64;
         report.settle_visits += settled.visits as i64;
         let grown = shifted.pairs as i64 - settled.pairs as i64;

@@ -59,7 +59,7 @@ impl Sides {
     /// These rooms.
     pub fn of(rooms: &Rooms) -> Sides {
         Sides {
-            rooms: [const { () }; SIDES].map(|()| rooms.clone()),
+            rooms: std::array::from_fn(|_| rooms.clone()),
         }
     }
 
