@@ -17,7 +17,7 @@ const SPREAD: usize = 32;
 fn row(name: &str, timed: Timed) {
     let [ours, ordinary, strong] = timed;
     let (over, beside) = (ours / ordinary, ours / strong);
-    println!("{name:<56} {ours:>10.3} {ordinary:>12.3} {strong:>10.3} {over:>14.2} {beside:>12.2}");
+    println!("{name:<60} {ours:>10.3} {ordinary:>12.3} {strong:>10.3} {over:>14.2} {beside:>12.2}");
 }
 
 /// Rooms of each version with a model loaded.
@@ -123,20 +123,21 @@ fn row_of_64(case: &Case, rounds: usize) {
     );
 }
 
-/// Batches that touch only what the first of eight blocks names, or only what the last names.
+/// Batches that touch only what the first of eight blocks names, only what the last names, or nothing.
 fn rows_of_eight(rounds: usize) {
     let case = eight();
-    for (touched, name) in [(Touched::First, "first"), (Touched::Last, "last")] {
+    let name = &case.name;
+    for (touched, which) in [(Touched::First, "first"), (Touched::Last, "last")] {
         let changes = led_elsewhere(&case, touched, SPREAD as u16);
         let times = Loaded::new(&case).there_and_back(rounds, &changes);
         row(
-            &format!(
-                "{}: a batch that touches only what the {name} names",
-                case.name
-            ),
+            &format!("{name}: a batch that touches only what the {which} names"),
             middle(&times),
         );
     }
+    let nothing = case.changes(&[], &[]).there;
+    let [timed] = Loaded::new(&case).batches(rounds, [&nothing]);
+    row(&format!("{name}: a batch of no changes"), timed);
 }
 
 /// Questions about every pair, and the writing of the model.
@@ -191,7 +192,7 @@ fn main() {
     let argument = std::env::args().nth(1);
     let rounds = argument.map_or(51, |word| word.parse().expect("a number of rounds"));
     println!(
-        "{:<56} {:>10} {:>12} {:>10} {:>14} {:>12}",
+        "{:<60} {:>10} {:>12} {:>10} {:>14} {:>12}",
         "case", "ours µs", "ordinary µs", "strong µs", "ours/ordinary", "ours/strong"
     );
     rows_of(&grid(16, &STRICT_RULE), rounds);

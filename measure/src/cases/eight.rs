@@ -21,8 +21,8 @@ pub enum Touched {
 
 /// 256 states, four actions and 1,024 moves, one from each state by each action: actions 0 and 2 take the grid's writer on, actions 1
 /// and 3 its reader. Each block says of the moves of its action: can come to, or stays in, what its proposition and the block before
-/// make of a state. As it stands the first is false everywhere, and so are those after it but the last, which is true everywhere;
-/// where one move of the first is led elsewhere, the middle ones become true.
+/// make of a state. As it stands the last is true everywhere and the others are false; where a move that the first names is led
+/// elsewhere, those between become true.
 pub fn eight() -> Case {
     let mut moves = Vec::new();
     let mut labels = Vec::new();
