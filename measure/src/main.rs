@@ -64,8 +64,8 @@ impl Loaded {
         times
     }
 
-    /// Times batches and their undoings, so many times each. Every round goes through all of them, so that a busy moment of the machine
-    /// does not fall on one of them alone.
+    /// Times batches and their undoings, so many times each. Every round goes through all of them, so that a busy moment of
+    /// the machine does not fall on one of them alone.
     fn there_and_back(&mut self, rounds: usize, changes: &[ThereAndBack]) -> [Timed; 2 * SPREAD] {
         let batches = std::array::from_fn(|i| match i % 2 {
             0 => &changes[i / 2].there[..],

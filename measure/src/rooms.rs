@@ -1,6 +1,6 @@
 //! A session and its rooms, packed as embed/huepaxochi.h says. All versions work in these.
 
-use crate::ordinary::sizes::{Sizes, MOST_MOVES};
+use crate::ordinary::sizes::{Sizes, MOST_ACTIONS, MOST_MOVES, MOST_STATES, MOST_VARIABLES};
 
 /// Rooms lent for the length of a call, in which nothing is kept.
 #[derive(Clone, Debug, PartialEq, Eq)]
@@ -12,6 +12,16 @@ pub struct Work {
 }
 
 impl Work {
+    /// Rooms that are long enough for any model.
+    fn most() -> Work {
+        let heads = (MOST_STATES * MOST_ACTIONS) as usize;
+        let pairs = (MOST_STATES * MOST_VARIABLES) as usize;
+        Work {
+            index: vec![0; heads + MOST_MOVES],
+            queue: vec![0; pairs + 1],
+        }
+    }
+
     /// How many places sizes and a room for moves need of the index and of the queue.
     pub fn needs(sizes: Sizes, room: usize) -> [usize; 2] {
         let heads = (sizes.states * sizes.actions) as usize;
@@ -38,8 +48,8 @@ pub struct Rooms {
     pub session: [u32; 8],
     /// For each state the set of its propositions.
     pub labels: Vec<u32>,
-    /// For each variable operator, first, second and 2 × block + kind, a byte each, lowest first. Where there are no blocks, the
-    /// component takes the block's place.
+    /// For each variable operator, first, second and 2 × block + kind, a byte each, lowest first. Where there are no blocks,
+    /// the component takes the block's place.
     pub equations: Vec<u32>,
     /// For each pair its value; that of state s and variable x is at x × states + s.
     pub values: Vec<u8>,
@@ -66,10 +76,7 @@ impl Rooms {
             values: vec![0; values],
             marks: vec![0; marks],
             moves: vec![0; moves],
-            work: Work {
-                index: vec![0; 5120],
-                queue: vec![0; 8193],
-            },
+            work: Work::most(),
         }
     }
 

@@ -1,5 +1,5 @@
-//! What is said of the eight blocks that are timed: where a batch touches what only the last names, nothing of the others turns; where
-//! it touches what only the first names, pairs of every block turn.
+//! What is said of the eight blocks that are timed: where a batch touches what only the last names, nothing of the others
+//! turns; where it touches what only the first names, pairs of every block turn.
 
 mod common;
 

@@ -1,5 +1,5 @@
-//! Models with a sign on each equation in place of blocks: all versions give them the values of the same drawing with blocks, and
-//! refuse what document 02 refuses.
+//! Models with a sign on each equation in place of blocks: all versions give them the values of the same drawing with blocks,
+//! and refuse what document 02 refuses.
 
 mod common;
 

@@ -1,5 +1,6 @@
-//! The work rooms of the strong version: whatever they hold, its answers are the same; what the sizes need of them is 0 after an accepted
-//! call, and they are as they were after a refused one or where a place is past that. Too short, they are refused with 13.
+//! The work rooms of the strong version: whatever they hold, its answers are the same; what the sizes need of them is 0 after
+//! an accepted call, and they are as they were after a refused one or where a place is past that. Too short, they are refused
+//! with 13.
 
 mod common;
 

@@ -25,8 +25,8 @@ struct Call {
     bytes: Vec<u8>,
 }
 
-/// The calls of a name, one for each of 32 moves. What comes before them is done by the ordinary version, so that only the calls
-/// themselves are calls of another.
+/// The calls of a name, one for each of 32 moves. What comes before them is done by the ordinary version, so that only the
+/// calls themselves are calls of another.
 fn calls(case: &Case, name: &str) -> Vec<Call> {
     let mut rooms = Rooms::most();
     Side::Ordinary.load(&case.bytes, &mut rooms).unwrap();

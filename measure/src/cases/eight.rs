@@ -1,5 +1,5 @@
-//! Eight blocks over the grid's states, each of which leans on the one before, and batches that touch only what the first of them or
-//! the last of them names.
+//! Eight blocks over the grid's states, each of which leans on the one before, and batches that touch only what the first of
+//! them or the last of them names.
 
 use super::{case, Case, ThereAndBack};
 use reference::{Action, Move, State};
@@ -19,10 +19,10 @@ pub enum Touched {
     Last,
 }
 
-/// 256 states, four actions and 1,024 moves, one from each state by each action: actions 0 and 2 take the grid's writer on, actions 1
-/// and 3 its reader. Each block says of the moves of its action: can come to, or stays in, what its proposition and the block before
-/// make of a state. As it stands the last is true everywhere and the others are false; where a move that the first names is led
-/// elsewhere, those between become true.
+/// 256 states, four actions and 1,024 moves, one from each state by each action: actions 0 and 2 take the grid's writer on,
+/// actions 1 and 3 its reader. Each block says of the moves of its action: can come to, or stays in, what its proposition and
+/// the block before make of a state. As it stands the last is true everywhere and the others are false; where a move that the
+/// first names is led elsewhere, those between become true.
 pub fn eight() -> Case {
     let mut moves = Vec::new();
     let mut labels = Vec::new();
@@ -37,8 +37,8 @@ pub fn eight() -> Case {
     case("eight blocks", counts, &labels, &rule, moves)
 }
 
-/// Whether the b-th block's proposition holds where the writer and the reader meet or do not: of the greatest ones where they do not,
-/// of the last where they do, of the others everywhere.
+/// Whether the b-th block's proposition holds where the writer and the reader meet or do not: of the greatest ones where they
+/// do not, of the last where they do, of the others everywhere.
 fn label(b: u8, meet: bool) -> u32 {
     let holds = match b {
         _ if b + 1 == BLOCKS => meet,
@@ -47,8 +47,8 @@ fn label(b: u8, meet: bool) -> u32 {
     holds.into()
 }
 
-/// The b-th block, least and greatest by turns: W = U join Y, where Y is a step back to W, and U joins a proposition with the block
-/// before.
+/// The b-th block, least and greatest by turns: W = U join Y, where Y is a step back to W, and U joins a proposition with the
+/// block before.
 fn block(b: u8) -> (u8, Vec<[u8; 3]>) {
     let greatest = 1 - b % 2;
     let w = 4 * b;

@@ -1,5 +1,5 @@
-//! The changes made in the sorted table of moves: each stretch between two of them is moved once to close the gaps of the deletes, and
-//! once to make room for the inserts.
+//! The changes made in the sorted table of moves: each stretch between two of them is moved once to close the gaps of the
+//! deletes, and once to make room for the inserts.
 
 use super::changes::Changes;
 use crate::ordinary::moves::weight;

@@ -90,8 +90,8 @@ impl Changes {
         good && twos.all(|two| two[0] >> 1 != two[1] >> 1)
     }
 
-    /// Finds the places in the table, and tells whether inserts are absent, deletes present, the room long enough and no state left
-    /// without a move where that must not be.
+    /// Finds the places in the table, and tells whether inserts are absent, deletes present, the room long enough and no
+    /// state left without a move where that must not be.
     fn fit(&mut self, rooms: &Rooms) -> bool {
         let table = rooms.table();
         let mut good = true;

@@ -23,13 +23,13 @@ impl Component {
     }
 }
 
-/// The components of a system; there are no more than variables, and where there are fewer the last ones are empty.
-pub fn components(equations: &[Equation]) -> [Component; MOST_VARIABLES as usize] {
+/// The components of a system, each of which has a variable.
+pub fn components(equations: &[Equation]) -> impl Iterator<Item = Component> {
     let mut components = [Component::default(); MOST_VARIABLES as usize];
     for (x, e) in equations.iter().enumerate() {
         let component = &mut components[e.block as usize];
         component.own = e.greatest.into();
         component.set |= 1 << x;
     }
-    components
+    components.into_iter().take_while(|c| c.set != 0)
 }

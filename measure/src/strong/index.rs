@@ -1,5 +1,6 @@
-//! The moves by action and target, as chains in a lent room: first for each action and target one more than the number of the last
-//! such move, or 0, then for each move the same of the one before it in its chain. A source is read from the move itself.
+//! The moves by action and target, as chains in a lent room: first for each action and target one more than the number of the
+//! last such move, or 0, then for each move the same of the one before it in its chain. A source is read from the move
+//! itself.
 
 use crate::ordinary::moves::{action, source, target};
 

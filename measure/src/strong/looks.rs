@@ -1,5 +1,5 @@
-//! The looks of a phase: which pairs of a variable must turn, told before any pair of the phase has turned. They come to wait in the
-//! queue, and each look answers where the queue ends then.
+//! The looks of a phase: which pairs of a variable must turn, told before any pair of the phase has turned. They come to wait
+//! in the queue, and each look answers where the queue ends then.
 
 use super::changes::Changes;
 use super::names::is_easy;
@@ -54,7 +54,8 @@ fn fails(system: &System, e: &Equation, own: u8, values: &[u8], bad: &mut Row) {
     }
 }
 
-/// Has the pairs of a variable wait that have not the component's own value and that the changes or the earlier components seed.
+/// Has the pairs of a variable wait that have not the component's own value and that the changes or the earlier components
+/// seed.
 pub fn shift(
     system: &System,
     y: usize,
@@ -83,8 +84,8 @@ pub fn shift(
     rows::enqueue(&seeds, system.states, waiting(y, 0), queue, tail)
 }
 
-/// Adds the sources of changes that seed a diamond or a box: an insert where that can help, a delete of a move to a pair that had
-/// not the component's own value where that can. Of the component's own pairs none has turned yet, though some may wait.
+/// Adds the sources of changes that seed a diamond or a box: an insert where that can help, a delete of a move to a pair that
+/// had not the component's own value where that can. Of the component's own pairs none has turned yet, though some may wait.
 fn add_changed(
     system: &System,
     e: &Equation,
@@ -106,8 +107,8 @@ fn add_changed(
     }
 }
 
-/// Adds the pairs that lean on a pair of an earlier component which has gone to this component's own value, and tells whether one
-/// may have.
+/// Adds the pairs that lean on a pair of an earlier component which has gone to this component's own value, and tells whether
+/// one may have.
 fn add_gone(system: &System, e: &Equation, values: &[u8], marks: &[u8], seeds: &mut Row) -> bool {
     let own = u8::from(e.greatest);
     let gone = |x: u32| {

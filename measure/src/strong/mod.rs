@@ -1,7 +1,7 @@
-//! The same calls as good as we can write them in safe Rust: whole rows of pairs at a time, one index of the moves in a lent room,
-//! the pairs that wait in another, and a quick test before the full judge. What is not hot is the ordinary version's own. It answers
-//! as that version does, and asks 13 besides where a work room is too short. A call that is accepted leaves what its sizes need of
-//! the work rooms at 0; one that is refused leaves them as they were.
+//! The same calls as good as we can write them in safe Rust: whole rows of pairs at a time, one index of the moves in a lent
+//! room, the pairs that wait in another, and a quick test before the full judge. What is not hot is the ordinary version's
+//! own. It answers as that version does, and asks 13 besides where a work room is too short. A call that is accepted leaves
+//! what its sizes need of the work rooms at 0; one that is refused leaves them as they were.
 #![forbid(unsafe_code)]
 
 mod apply;

@@ -158,8 +158,8 @@ fn quick_signed<'a>(bytes: &'a [u8], sizes: Sizes, words: &mut Words) -> Option<
     mixed.is_none().then_some(rest)
 }
 
-/// The move records, if they are good and ascend and the end record is all that comes after them. A difference has its highest bit
-/// where what is taken away is larger.
+/// The move records, if they are good and ascend and the end record is all that comes after them. A difference has its
+/// highest bit where what is taken away is larger.
 fn quick_moves(bytes: &[u8], sizes: Sizes, most: usize) -> Option<&[Move]> {
     let (moves, [6]) = bytes.as_chunks::<6>() else {
         return None;

@@ -3,8 +3,8 @@
 use crate::ordinary::moves::{action, source, target};
 use crate::ordinary::sizes::Sizes;
 
-/// Whether all the moves are in range and strictly ascend. A difference has its highest bit where what is taken away is larger, for
-/// numbers below that bit; a move in range is.
+/// Whether all the moves are in range and strictly ascend. A difference has its highest bit where what is taken away is
+/// larger, for numbers below that bit; a move in range is.
 pub fn good(sizes: Sizes, table: &[u32]) -> bool {
     let (state, last) = (sizes.states - 1, sizes.actions - 1);
     let over = table.iter().fold(0, |over, m| {

@@ -1,5 +1,5 @@
-//! A row is a variable at all states. Each loop here goes over whole rows without a jump, so that it becomes vector code; in a row of
-//! answers 1 stands for yes.
+//! A row is a variable at all states. Each loop here goes over whole rows without a jump, so that it becomes vector code; in
+//! a row of answers 1 stands for yes.
 
 use super::index::Into;
 use crate::ordinary::sizes::MOST_STATES;

@@ -1,5 +1,5 @@
-//! The turns of a phase: first come, first served, each pair that waits turns, and the pairs of its component that lean on it are
-//! visited and may come to wait behind the others. A pair that waits is one number, 1,024 × variable + state.
+//! The turns of a phase: first come, first served, each pair that waits turns, and the pairs of its component that lean on it
+//! are visited and may come to wait behind the others. A pair that waits is one number, 1,024 × variable + state.
 
 use super::names::Operand;
 use super::system::System;
@@ -10,7 +10,7 @@ pub const SHIFTING: bool = false;
 pub const SETTLING: bool = true;
 
 /// How many pairs turned in a phase, and how many leanings on them were visited.
-#[derive(Clone, Copy)]
+#[derive(Clone, Copy, Default)]
 pub struct Turned {
     pub pairs: usize,
     pub visits: usize,
@@ -40,7 +40,24 @@ struct Run<'a> {
 }
 
 /// Turns the first so many pairs of the queue, and whoever comes to wait behind them.
+#[inline(always)]
 pub fn turn<const PHASE: bool>(
+    system: &System,
+    own: u8,
+    values: &mut [u8],
+    marks: &mut [u8],
+    queue: &mut [u16],
+    waits: usize,
+) -> Turned {
+    if waits == 0 {
+        return Turned::default();
+    }
+    turn_all::<PHASE>(system, own, values, marks, queue, waits)
+}
+
+/// Turns the pairs of a queue that is not empty.
+#[inline(never)]
+fn turn_all<const PHASE: bool>(
     system: &System,
     own: u8,
     values: &mut [u8],

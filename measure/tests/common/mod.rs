@@ -43,8 +43,8 @@ pub fn refused(bytes: &[u8]) -> Option<(u32, usize)> {
     answer.err().map(|refusal| (refusal.number, refusal.place))
 }
 
-/// Copies of the same rooms for every version. Each call is made by all of them, and they must agree on the answer and on every place
-/// of every room.
+/// Copies of the same rooms for every version. Each call is made by all of them, and they must agree on the answer and on
+/// every place of every room.
 #[derive(Clone)]
 pub struct Sides {
     rooms: [Rooms; SIDES],
