@@ -3,19 +3,19 @@
 //! is lent and builds its own indexes. Each call stays a call, as the library's are, however small.
 #![forbid(unsafe_code)]
 
-mod apply;
-mod changes;
-mod components;
-mod equation;
+pub(crate) mod apply;
+pub(crate) mod changes;
+pub(crate) mod components;
+pub(crate) mod equation;
 mod index;
-mod model;
-mod moves;
-mod records;
-mod session;
-mod sizes;
+pub(crate) mod model;
+pub(crate) mod moves;
+pub(crate) mod records;
+pub(crate) mod session;
+pub(crate) mod sizes;
 mod system;
 mod update;
-mod write;
+pub(crate) mod write;
 
 use crate::answers::{demand, Refusal, Report};
 use crate::rooms::Rooms;

@@ -54,6 +54,11 @@ pub fn read(bytes: &[u8], rooms: &Rooms) -> Result<Model, Refusal> {
     })
 }
 
+/// The sizes of a model whose first record is good for rooms of the lengths lent.
+pub fn first(bytes: &[u8], rooms: &Rooms) -> Result<Sizes, Refusal> {
+    read_sizes(&mut Reader { bytes, at: 0 }, rooms)
+}
+
 /// The sizes record, and whether the rooms fit it.
 fn read_sizes(reader: &mut Reader, rooms: &Rooms) -> Result<Sizes, Refusal> {
     let (Record::Sizes(sizes), next) = reader.peek()? else {

@@ -48,7 +48,7 @@ fn moves_ok(sizes: Sizes, table: &[u32]) -> bool {
 }
 
 /// Whether the equations are ones that load accepts, in either style.
-fn equations_ok(sizes: Sizes, words: &[u32]) -> bool {
+pub fn equations_ok(sizes: Sizes, words: &[u32]) -> bool {
     match sizes.blocks {
         0 => signed_ok(sizes, words),
         _ => blocks_ok(sizes, words),
