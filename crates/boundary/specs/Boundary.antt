@@ -14,7 +14,7 @@ use Rattle.rules.specs.declared.Session.{Session}
 use Rattle.rules.specs.declared.Report.{Report}
 use Rattle.numbers.specs.Numbers.{sessionIn, packed, told, sessionAfter, movedTo, reportAfter}
 
--- What a load leaves: its answer, the room of the session, the five rooms.
+-- What a load leaves: its answer, the room of the session, the rooms lent.
 pub record LoadLeft : Type 0 where
   pub answer : ℕ
   pub session : List ℕ
@@ -33,7 +33,7 @@ unfoldable pub loadCall : List ℕ → Rooms → List ℕ → LoadLeft
 loadCall session l bytes =
     cond (ltb (length session) 8) (loadedTo (packed 13 0) session l) (loadLeft session (load l bytes))
 
--- What a batch leaves: its answer, the room of the session, the five rooms, the room of the report.
+-- What a batch leaves: its answer, the room of the session, the rooms lent, the room of the report.
 pub record BatchLeft : Type 0 where
   pub answer : ℕ
   pub session : List ℕ

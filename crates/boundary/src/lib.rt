@@ -1,7 +1,7 @@
 // The four calls for other languages. A session lies in a room as eight numbers, an answer is one number, and a report is
 // three numbers in a room; what the calls leave stands in specs/Boundary.antt.
 ghost use mathlib.Core.Path.{_≡_};
-ghost use Rattle.rules.specs.Rooms.{roomsOf};
+ghost use Rattle.rules.specs.Rooms.{roomsOf, roomsWith};
 ghost use Rattle.boundary.specs.Boundary.{loadedTo, batchedTo, wroteTo, loadCall, batchCall, writeCall, askCall};
 use rules::State;
 use rules::Variable;
@@ -25,14 +25,16 @@ pub extern "C" fn huepaxochi_load(
     values: &mut [u8],
     marks: &mut [u8],
     moves: &mut [u32],
+    index: &mut [u16],
+    queue: &mut [u16],
 ) -> u64
-    ensures { λ r. ⌜ loadedTo r (now (session .exit)) (roomsOf (now (labels .exit)) (now (equations .exit)) (now (values .exit)) (now (marks .exit)) (now (moves .exit)))
-        ≡ loadCall (now (session .entry)) (roomsOf (now (labels .entry)) (now (equations .entry)) (now (values .entry)) (now (marks .entry)) (now (moves .entry))) (now (bytes .entry)) ⌝ }
+    ensures { λ r. ⌜ loadedTo r (now (session .exit)) (roomsWith (now (labels .exit)) (now (equations .exit)) (now (values .exit)) (now (marks .exit)) (now (moves .exit)) (now (index .exit)) (now (queue .exit)))
+        ≡ loadCall (now (session .entry)) (roomsWith (now (labels .entry)) (now (equations .entry)) (now (values .entry)) (now (marks .entry)) (now (moves .entry)) (now (index .entry)) (now (queue .entry))) (now (bytes .entry)) ⌝ }
 {
     if session.len() < SESSION {
         return SHORT;
     }
-    let found = loads::load(bytes, labels, equations, values, marks, moves);
+    let found = loads::load(bytes, labels, equations, values, marks, moves, index, queue);
     numbers::keep_loaded(found, session)
 }
 
@@ -46,16 +48,28 @@ pub extern "C" fn huepaxochi_batch(
     values: &mut [u8],
     marks: &mut [u8],
     moves: &mut [u32],
+    index: &mut [u16],
+    queue: &mut [u16],
     report: &mut [i64],
 ) -> u64
-    ensures { λ r. ⌜ batchedTo r (now (session .exit)) (roomsOf (now (labels .entry)) (now (equations .entry)) (now (values .exit)) (now (marks .exit)) (now (moves .exit))) (now (report .exit))
-        ≡ batchCall (now (session .entry)) (roomsOf (now (labels .entry)) (now (equations .entry)) (now (values .entry)) (now (marks .entry)) (now (moves .entry))) (now (report .entry)) (now (bytes .entry)) ⌝ }
+    ensures { λ r. ⌜ batchedTo r (now (session .exit)) (roomsWith (now (labels .entry)) (now (equations .entry)) (now (values .exit)) (now (marks .exit)) (now (moves .exit)) (now (index .exit)) (now (queue .exit))) (now (report .exit))
+        ≡ batchCall (now (session .entry)) (roomsWith (now (labels .entry)) (now (equations .entry)) (now (values .entry)) (now (marks .entry)) (now (moves .entry)) (now (index .entry)) (now (queue .entry))) (now (report .entry)) (now (bytes .entry)) ⌝ }
 {
     if (session.len() < SESSION) | (report.len() < REPORT) {
         return SHORT;
     }
     let before = numbers::session_of(session);
-    let found = updates::batch(before, bytes, labels, equations, values, marks, moves);
+    let found = updates::batch(
+        before,
+        bytes,
+        labels,
+        equations,
+        values,
+        marks,
+        moves,
+        index,
+        queue,
+    );
     numbers::keep_updated(found, session, report)
 }
 

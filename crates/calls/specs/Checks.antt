@@ -7,7 +7,7 @@ use Prim.Native.Nat.{ℕ}
 use lib.ListN.{length}
 use Rattle.lists.specs.Tests.{tell, and-true}
 use Rattle.rules.specs.Records.{Outcome, refused, accepted}
-use Rattle.rules.specs.Rooms.{Rooms, roomsOf, roomsWith, roomsOk, lengthsOf}
+use Rattle.rules.specs.Rooms.{Rooms, roomsOk, lengthsOf}
 use Rattle.rules.specs.Session.{countsOk, restOk, sessionDemands}
 use Rattle.rules.specs.Calls.{asked, andThen}
 use Rattle.rules.specs.Answers.{numberOf}
@@ -33,12 +33,6 @@ checkOf work s l = asked (demandsWith work s l) allWell
 pub work-unasked : {B : Type 0} (s : Session) (l : Rooms) (o : Outcome B) → asked (sessionDemands roomsOk s l) o ≡ asked (demandsWith true s l) o
 work-unasked s l o =
     ap (λ (b : Bool). asked ((12, countsOk s l) ∷ (13, b) ∷ (12, restOk s l) ∷ []) o) (sym (and-true (roomsOk (lengthsOf l) (s .sizes))))
-
--- The check looks at no room to work in.
-pub check-with : (work : Bool) (s : Session) (labels equations values marks moves index queue : List ℕ)
-    → checkOf work s (roomsOf labels equations values marks moves) ≡ checkOf work s (roomsWith labels equations values marks moves index queue)
-unfolding countsOk roomsOk restOk
-check-with work s labels equations values marks moves index queue = refl
 
 -- What a check says: its refusal, at place 0, or that all is well.
 abbrev pub checkedSays : Checked → Outcome (Unit {0})

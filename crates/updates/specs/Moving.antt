@@ -9,11 +9,11 @@ use lib.ListN.{length, getD, take, drop, replicate, length-append}
 use lib.Seq.{take-at, length-take-le}
 use lib.Dec.{leb}
 use Rattle.lists.specs.Lists.{all}
-use Rattle.lists.specs.Tests.{tell, and-is, leb-is}
+use Rattle.lists.specs.Tests.{tests, tell, and-is, leb-is}
 use Rattle.rules.specs.Limits.{most-moves, sizesOk}
 use Rattle.rules.specs.Model.{liveOk, wellFormed, WellFormed}
 use Rattle.rules.specs.Records.{accepted}
-use Rattle.rules.specs.Rooms.{Rooms, pairsOf}
+use Rattle.rules.specs.Rooms.{Rooms, lengthsOf, pairsOf, indexNeeds, queueNeeds, workOk}
 use Rattle.rules.specs.Batch.{Change, Batch, changesOk, judge, inserts, edited}
 use Rattle.rules.specs.Session.{held}
 use Rattle.rules.specs.Update.{changed}
@@ -25,7 +25,7 @@ use Rattle.sessions.specs.CheckedMoves as Moves
 use Rattle.applies.specs.Kept.{Kept, appliedTo}
 use Rattle.applies.specs.Applied.{laid, applied-edits}
 use Rattle.calls.specs.Checks.{checkOf, checkedSays}
-use Rattle.calls.specs.Passed.{Fits, passed-fits, passed-holds, passed-moves}
+use Rattle.calls.specs.Passed.{Fits, passed-work, passed-fits, passed-holds, passed-moves}
 use Rattle.calls.specs.declared.Checked.{Checked}
 use Rattle.calls.specs.declared.Checked.the-variants as Found
 use Rattle.pairs.specs.Drawn.{tableOf, Drawn}
@@ -38,10 +38,24 @@ pub record Sane (s : Session) (l : Rooms) : Type 0 where
   pub model : WellFormed (held s l)
   pub moves : Moves.Checked s l
   pub values : all (λ v. leb v 1) (take (pairsOf (s .sizes)) (l .values)) ≡ true
+  pub index-room : indexNeeds (s .sizes) (length (l .moves)) ≤ length (l .index)
+  pub queue-room : queueNeeds (s .sizes) ≤ length (l .queue)
 
 -- The check says so.
-pub sane : (s : Session) (l : Rooms) (k : Checked) → checkedSays k ≡ checkOf s l → k ≡ Found.Good → Sane s l
-sane s l k h g = let p = passed-holds s l k h g in record { fits = passed-fits s l k h g; model = p .0; moves = passed-moves s l k h g; values = p .1 .values }
+pub sane : (s : Session) (l : Rooms) (k : Checked) → checkedSays k ≡ checkOf (workOk (lengthsOf l) (s .sizes)) s l → k ≡ Found.Good → Sane s l
+unfolding workOk
+sane s l k h g =
+    let work = workOk (lengthsOf l) (s .sizes) in
+    let p = passed-holds work s l k h g in
+    let w = simp tests at (passed-work work s l k h g) in
+    record {
+      fits = passed-fits work s l k h g;
+      model = p .0;
+      moves = passed-moves work s l k h g;
+      values = p .1 .values;
+      index-room = w .0;
+      queue-room = w .1;
+    }
 
 -- Its sizes are inside the limits.
 pub sane-sizes : (s : Session) (l : Rooms) → Sane s l → sizesOk (s .sizes) ≡ true

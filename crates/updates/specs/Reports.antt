@@ -12,7 +12,7 @@ use Rattle.lists.specs.Smallest.{at}
 use Rattle.rules.specs.Moves.{stampOf}
 use Rattle.rules.specs.Model.{Model}
 use Rattle.rules.specs.Records.{Outcome, refused, accepted}
-use Rattle.rules.specs.Rooms.{Rooms, pairsOf}
+use Rattle.rules.specs.Rooms.{Rooms, roomsWith, pairsOf, indexAfter, queueAfter}
 use Rattle.rules.specs.Batch.{Change, Batch, readBatch, judge, edited}
 use Rattle.rules.specs.Session.{held}
 use Rattle.rules.specs.Update.{Turned, changed, turnAll, trues}
@@ -28,7 +28,6 @@ use Rattle.edits.specs.Judging.{verdictSays}
 use Rattle.edits.specs.declared.Verdict.{Verdict}
 use Rattle.edits.specs.declared.Verdict.the-variants as Found
 use Rattle.applies.specs.Kept.{Kept, appliedTo}
-use Rattle.rules.specs.Rooms.{roomsOf}
 use Rattle.calls.specs.BatchLaws.{updated}
 use Rattle.pairs.specs.Drawn.{tableOf}
 use Rattle.starts.specs.Differences.{mag-sub}
@@ -61,27 +60,28 @@ leaves-live m cs values₀ marks₀ values marks shift settle net f =
       net-is = g .net-is;
     }
 
--- The values, the marks, the visits and the net that the machine leaves, with the stamp carried.
+-- The values, the marks, the visits and the net that the machine leaves, with the stamp carried and the rooms to work in cleared.
 pub update-reports : (s : Session) (l : Rooms) (cs : List Change) (a : Able s l cs) (ms : List ℕ) (n : ℕ)
     → _≡_ {A = Kept} (record { moves = ms; count = n }) (appliedTo cs (record { moves = l .moves; count = s .moves }))
-    → (values marks : List ℕ) (shift settle : ℕ) (net : ℤ) (stamp : ℕ)
+    → length ms ≡ length (l .moves) → (values marks index queue : List ℕ) (shift settle : ℕ) (net : ℤ) (stamp : ℕ)
     → Leaves (tableOf (s .sizes) (l .labels) (l .equations) ms n) (turnAll (tableOf (s .sizes) (l .labels) (l .equations) ms n) cs (valueAt (l .values))) (l .values) (l .marks) values marks shift settle net
-    → stamp ≡ carry (s .stamp) cs
-    → updated (accepted (record { session = record { sizes = s .sizes; live = s .live; moves = n; stamp = stamp }; visits = record { shift = shift; settle = settle }; net = net })) (roomsOf (l .labels) (l .equations) values marks ms)
+    → index ≡ indexAfter (s .sizes) (length ms) (l .index) → queue ≡ queueAfter (s .sizes) (l .queue) → stamp ≡ carry (s .stamp) cs
+    → updated (accepted (record { session = record { sizes = s .sizes; live = s .live; moves = n; stamp = stamp }; visits = record { shift = shift; settle = settle }; net = net })) (roomsWith (l .labels) (l .equations) values marks ms index queue)
     ≡ batchOf s l cs
-update-reports s l cs a ms n e values marks shift settle net stamp f c =
+update-reports s l cs a ms n e long values marks index queue shift settle net stamp f j q c =
     let g = leaves-live (changed cs (held s l)) cs (l .values) (l .marks) values marks shift settle net
     (subst (λ (m : Model). Leaves m (turnAll m cs (valueAt (l .values))) (l .values) (l .marks) values marks shift settle net) (made-table s l cs a ms n e) f) in
     let k = made s l cs a ms n e in
     let p : stamp ≡ stampOf (edited cs (held s l .moves)) =
     c ∙ ap (λ (x : ℕ). carry x cs) (a .is-sane .moves .stamp) ∙ edited-stamp (s .sizes) (held s l .moves) cs (a .judged) (a .is-sane .moves .in-range) in
+    let js : index ≡ indexAfter (s .sizes) (length (l .moves)) (l .index) = j ∙ ap (λ (n : ℕ). indexAfter (s .sizes) n (l .index)) long in
     λ i. record {
       answer = accepted (record {
         session = record { sizes = s .sizes; live = s .live; moves = k i .count; stamp = p i };
         visits = record { shift = g .shift-is i; settle = g .settle-is i };
         net = g .net-is i;
       });
-      rooms = record { labels = l .labels; equations = l .equations; values = g .values-are i; marks = g .marks-are i; moves = k i .moves };
+      rooms = roomsWith (l .labels) (l .equations) (g .values-are i) (g .marks-are i) (k i .moves) (js i) (q i);
     }
 
 -- At most all pairs are true.

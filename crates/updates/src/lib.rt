@@ -9,13 +9,14 @@ ghost use Rattle.rules.specs.Records.{accepted};
 ghost use Rattle.rules.specs.Answers.{updatedSays};
 ghost use Rattle.rules.specs.Calls.{batch};
 ghost use Rattle.edits.specs.Changes.{changesOf};
-ghost use Rattle.rules.specs.Rooms.{roomsOf};
+ghost use Rattle.rules.specs.Rooms.{roomsWith};
 ghost use Rattle.calls.specs.BatchLaws.{updated};
 ghost use Rattle.updates.specs.Moving.{Sane, Able};
 ghost use Rattle.updates.specs.Reports.{batchOf, batchRead, batchBytes};
 use batches::ReadBatch;
 use calls::Checked;
 use edits::Verdict;
+use limits::Lent;
 use rules::Report;
 use rules::Session;
 use rules::Updated;
@@ -30,11 +31,13 @@ fn move_on(
     values: &mut [u8],
     marks: &mut [u8],
     moves: &mut [u32],
+    index: &mut [u16],
+    queue: &mut [u16],
 ) -> Report
-    requires { ⌜ Able session (roomsOf (now labels) (now equations) (now values) (now marks) (now moves)) (changesOf (take count (now changes))) ⌝ }
+    requires { ⌜ Able session (roomsWith (now labels) (now equations) (now values) (now marks) (now moves) (now index) (now queue)) (changesOf (take count (now changes))) ⌝ }
     requires { ⌜ (count ≤ 64) × (count ≤ length (now changes)) ⌝ }
-    ensures { λ r. ⌜ updated (accepted r) (roomsOf (now (labels .entry)) (now (equations .entry)) (now (values .exit)) (now (marks .exit)) (now (moves .exit)))
-        ≡ batchOf session (roomsOf (now (labels .entry)) (now (equations .entry)) (now (values .entry)) (now (marks .entry)) (now (moves .entry))) (changesOf (take count (now (changes .entry)))) ⌝ }
+    ensures { λ r. ⌜ updated (accepted r) (roomsWith (now (labels .entry)) (now (equations .entry)) (now (values .exit)) (now (marks .exit)) (now (moves .exit)) (now (index .exit)) (now (queue .exit)))
+        ≡ batchOf session (roomsWith (now (labels .entry)) (now (equations .entry)) (now (values .entry)) (now (marks .entry)) (now (moves .entry)) (now (index .entry)) (now (queue .entry))) (changesOf (take count (now (changes .entry)))) ⌝ }
 {
     let sizes = session.sizes;
     let n = applies::apply(changes, count, moves, session.moves as usize);
@@ -48,6 +51,8 @@ fn move_on(
         count,
         values,
         marks,
+        index,
+        queue,
     );
     let visits = done.visits;
     let held = n as u32;
@@ -75,12 +80,14 @@ fn judge_on(
     values: &mut [u8],
     marks: &mut [u8],
     moves: &mut [u32],
+    index: &mut [u16],
+    queue: &mut [u16],
 ) -> Updated
-    requires { ⌜ Sane session (roomsOf (now labels) (now equations) (now values) (now marks) (now moves)) ⌝ }
+    requires { ⌜ Sane session (roomsWith (now labels) (now equations) (now values) (now marks) (now moves) (now index) (now queue)) ⌝ }
     requires { ⌜ (count ≤ 64) × (count ≤ length (now changes)) ⌝ }
     requires { ⌜ changesOk (session .sizes) (changesOf (take count (now changes))) ≡ true ⌝ }
-    ensures { λ r. ⌜ updated (updatedSays r) (roomsOf (now (labels .entry)) (now (equations .entry)) (now (values .exit)) (now (marks .exit)) (now (moves .exit)))
-        ≡ batchRead session (roomsOf (now (labels .entry)) (now (equations .entry)) (now (values .entry)) (now (marks .entry)) (now (moves .entry)))
+    ensures { λ r. ⌜ updated (updatedSays r) (roomsWith (now (labels .entry)) (now (equations .entry)) (now (values .exit)) (now (marks .exit)) (now (moves .exit)) (now (index .exit)) (now (queue .exit)))
+        ≡ batchRead session (roomsWith (now (labels .entry)) (now (equations .entry)) (now (values .entry)) (now (marks .entry)) (now (moves .entry)) (now (index .entry)) (now (queue .entry)))
         (record { stamp = stamp; changes = changesOf (take count (now (changes .entry))) }) ⌝ }
 {
     let room = moves.len();
@@ -96,6 +103,8 @@ fn judge_on(
             values,
             marks,
             moves,
+            index,
+            queue,
         )),
     }
 }
@@ -109,10 +118,12 @@ fn read_on(
     values: &mut [u8],
     marks: &mut [u8],
     moves: &mut [u32],
+    index: &mut [u16],
+    queue: &mut [u16],
 ) -> Updated
-    requires { ⌜ Sane session (roomsOf (now labels) (now equations) (now values) (now marks) (now moves)) ⌝ }
-    ensures { λ r. ⌜ updated (updatedSays r) (roomsOf (now (labels .entry)) (now (equations .entry)) (now (values .exit)) (now (marks .exit)) (now (moves .exit)))
-        ≡ batchBytes session (roomsOf (now (labels .entry)) (now (equations .entry)) (now (values .entry)) (now (marks .entry)) (now (moves .entry))) (now (bytes .entry)) ⌝ }
+    requires { ⌜ Sane session (roomsWith (now labels) (now equations) (now values) (now marks) (now moves) (now index) (now queue)) ⌝ }
+    ensures { λ r. ⌜ updated (updatedSays r) (roomsWith (now (labels .entry)) (now (equations .entry)) (now (values .exit)) (now (marks .exit)) (now (moves .exit)) (now (index .exit)) (now (queue .exit)))
+        ≡ batchBytes session (roomsWith (now (labels .entry)) (now (equations .entry)) (now (values .entry)) (now (marks .entry)) (now (moves .entry)) (now (index .entry)) (now (queue .entry))) (now (bytes .entry)) ⌝ }
 {
     let mut changes = [0u32; 64];
     let read = batches::read_batch(bytes, session.sizes, &mut changes);
@@ -128,6 +139,8 @@ fn read_on(
             values,
             marks,
             moves,
+            index,
+            queue,
         ),
     }
 }
@@ -141,13 +154,35 @@ pub fn batch(
     values: &mut [u8],
     marks: &mut [u8],
     moves: &mut [u32],
+    index: &mut [u16],
+    queue: &mut [u16],
 ) -> Updated
-    ensures { λ r. ⌜ updated (updatedSays r) (roomsOf (now (labels .entry)) (now (equations .entry)) (now (values .exit)) (now (marks .exit)) (now (moves .exit)))
-        ≡ batch session (roomsOf (now (labels .entry)) (now (equations .entry)) (now (values .entry)) (now (marks .entry)) (now (moves .entry))) (now (bytes .entry)) ⌝ }
+    ensures { λ r. ⌜ updated (updatedSays r) (roomsWith (now (labels .entry)) (now (equations .entry)) (now (values .exit)) (now (marks .exit)) (now (moves .exit)) (now (index .exit)) (now (queue .exit)))
+        ≡ batch session (roomsWith (now (labels .entry)) (now (equations .entry)) (now (values .entry)) (now (marks .entry)) (now (moves .entry)) (now (index .entry)) (now (queue .entry))) (now (bytes .entry)) ⌝ }
 {
-    let found = calls::session_refusal(session, labels, equations, values, marks, moves);
+    let lent = Lent {
+        labels: labels.len(),
+        equations: equations.len(),
+        values: values.len(),
+        marks: marks.len(),
+        moves: moves.len(),
+        index: index.len(),
+        queue: queue.len(),
+    };
+    let work = limits::work_ok(lent, session.sizes);
+    let found = calls::session_refusal(session, labels, equations, values, marks, moves, work);
     match found {
         Checked::Refused(why) => Updated::Refused(why, 0),
-        Checked::Good => read_on(session, bytes, labels, equations, values, marks, moves),
+        Checked::Good => read_on(
+            session,
+            bytes,
+            labels,
+            equations,
+            values,
+            marks,
+            moves,
+            index,
+            queue,
+        ),
     }
 }

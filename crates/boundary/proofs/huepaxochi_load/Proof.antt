@@ -1,5 +1,5 @@
 -- Each way out leaves what the call is said to leave there. Assumes nothing.
-use Rattle.rules.specs.Rooms.{roomsOf}
+use Rattle.rules.specs.Rooms.{roomsWith}
 use Rattle.boundary.specs.Ways.{load-short, load-comes}
 use borrow.Author.Needs.{needs}
 use Rattle.boundary.proofs.huepaxochi_load.Statement.{statement}
@@ -7,8 +7,8 @@ use Rattle.boundary.proofs.huepaxochi_load.Tie as tie
 
 returns : tie.Need-returns
 returns c =
-    let a = c .before .before .before .before .before .before .before .before .args in
-    let l = roomsOf (a .labels .now) (a .equations .now) (a .values .now) (a .marks .now) (a .moves .now) in
+    let a = c .before .before .before .before .before .before .before .before .before .before .args in
+    let l = roomsWith (a .labels .now) (a .equations .now) (a .values .now) (a .marks .now) (a .moves .now) (a .index .now) (a .queue .now) in
     load-short (a .session .now) l (a .bytes .now) (c .if1 .taken)
 
 load-requires : tie.Need-load-requires
@@ -35,11 +35,17 @@ same-length-5 c = search needs
 same-length-6 : tie.Need-same-length-6
 same-length-6 c = search needs
 
+same-length-7 : tie.Need-same-length-7
+same-length-7 c = search needs
+
+same-length-8 : tie.Need-same-length-8
+same-length-8 c = search needs
+
 returns-2 : tie.Need-returns-2
 returns-2 c =
-    let a = c .before .before .before .before .before .before .before .before .before .before .before .before .before .before .before .before .before .before .before .before .before .before .before .before .before .before .before .before .args in
-    let l = roomsOf (a .labels .now) (a .equations .now) (a .values .now) (a .marks .now) (a .moves .now) in
-    load-comes (a .session .now) l (a .bytes .now) (c .before .before .before .before .before .before .before .before .before .before .before .before .before .before .load .result) _ _ _ (c .before .before .before .before .before .before .before .before .before .before .before .before .before .before .before .before .before .before .before .before .if1 .left) (c .before .before .before .before .before .before .before .before .before .before .before .before .before .before .load .ensures) (c .before .before .keep-loaded .ensures .0) (c .before .before .keep-loaded .ensures .1)
+    let a = c .before .before .before .before .before .before .before .before .before .before .before .before .before .before .before .before .before .before .before .before .before .before .before .before .before .before .before .before .before .before .before .before .before .before .before .before .args in
+    let l = roomsWith (a .labels .now) (a .equations .now) (a .values .now) (a .marks .now) (a .moves .now) (a .index .now) (a .queue .now) in
+    load-comes (a .session .now) l (a .bytes .now) (c .before .before .before .before .before .before .before .before .before .before .before .before .before .before .before .before .before .before .load .result) _ _ _ (c .before .before .before .before .before .before .before .before .before .before .before .before .before .before .before .before .before .before .before .before .before .before .before .before .before .before .if1 .left) (c .before .before .before .before .before .before .before .before .before .before .before .before .before .before .before .before .before .before .load .ensures) (c .before .before .keep-loaded .ensures .0) (c .before .before .keep-loaded .ensures .1)
 
 pub huepaxochi-load-spec : {M : Type 1} → statement M
 huepaxochi-load-spec =
@@ -54,4 +60,6 @@ huepaxochi-load-spec =
     same-length-4
     same-length-5
     same-length-6
+    same-length-7
+    same-length-8
     returns-2)

@@ -1,11 +1,14 @@
 -- A refusal of the check is the answer; after a good one the rest of the call says what the rule does. Assumes nothing.
 use Rattle.updates.specs.Moving.{sane}
-use Rattle.calls.specs.BatchLaws.{batch-stops, batch-goes}
+use Rattle.calls.specs.BatchLaws.{measured, batch-stops, batch-goes}
 use mathlib.Core.Path.{_∙_}
-use Rattle.rules.specs.Rooms.{roomsOf}
+use Rattle.rules.specs.Rooms.{roomsWith}
 use borrow.Author.Needs.{needs}
 use Rattle.updates.proofs.batch.Statement.{statement}
 use Rattle.updates.proofs.batch.Tie as tie
+
+work-ok-requires : tie.Need-work-ok-requires
+work-ok-requires c κs = search needs
 
 session-refusal-requires : tie.Need-session-refusal-requires
 session-refusal-requires c κs = search needs
@@ -18,10 +21,11 @@ enum-told c = search needs
 
 read-on-requires : tie.Need-read-on-requires
 read-on-requires c κs =
-    let s = c .before .before .before .before .before .before .before .before .before .before .before .before .before .before .before in
+    let s = c .before .before .before .before .before .before .before .before .before .before .before .before .before .before .before .before .before .before .before .before in
     let a = s .args in
-    let l = roomsOf (a .labels .now) (a .equations .now) (a .values .now) (a .marks .now) (a .moves .now) in
-    sane (a .session) l _ (c .before .before .before .before .before .session-refusal .ensures) (c .before .before .before .enum-told .given .1)
+    let l = roomsWith (a .labels .now) (a .equations .now) (a .values .now) (a .marks .now) (a .moves .now) (a .index .now) (a .queue .now) in
+    let h = measured (a .session) l (c .before .before .before .before .before .before .before .session-refusal .result) _ (c .before .before .before .before .before .before .before .before .before .before .before .work-ok .ensures) (c .before .before .before .before .before .before .before .session-refusal .ensures) in
+    sane (a .session) l (c .before .before .before .before .before .before .before .session-refusal .result) h (c .before .before .before .before .before .enum-told .given .1)
 
 same-length : tie.Need-same-length
 same-length c = search needs
@@ -34,10 +38,11 @@ same-length-3 c = search needs
 
 returns : tie.Need-returns
 returns c =
-    let s = c .before .before .before .before .before .before .before .before .before .before .before .before .before in
+    let s = c .before .before .before .before .before .before .before .before .before .before .before .before .before .before .before .before in
     let a = s .args in
-    let l = roomsOf (a .labels .now) (a .equations .now) (a .values .now) (a .marks .now) (a .moves .now) in
-    batch-stops (a .session) l (a .bytes .now) _ (c .before .before .before .session-refusal .ensures) _ (c .before .found .given .1)
+    let l = roomsWith (a .labels .now) (a .equations .now) (a .values .now) (a .marks .now) (a .moves .now) (a .index .now) (a .queue .now) in
+    let h = measured (a .session) l (c .before .before .before .session-refusal .result) _ (c .before .before .before .before .before .before .before .work-ok .ensures) (c .before .before .before .session-refusal .ensures) in
+    batch-stops (a .session) l (a .bytes .now) (c .before .before .before .session-refusal .result) h _ (c .before .found .given .1)
 
 same-length-4 : tie.Need-same-length-4
 same-length-4 c = search needs
@@ -48,17 +53,25 @@ same-length-5 c = search needs
 same-length-6 : tie.Need-same-length-6
 same-length-6 c = search needs
 
+same-length-7 : tie.Need-same-length-7
+same-length-7 c = search needs
+
+same-length-8 : tie.Need-same-length-8
+same-length-8 c = search needs
+
 returns-2 : tie.Need-returns-2
 returns-2 c =
-    let s = c .before .before .before .before .before .before .before .before .before .before .before .before .before .before .before .before .before .before .before .before .before .before in
+    let s = c .before .before .before .before .before .before .before .before .before .before .before .before .before .before .before .before .before .before .before .before .before .before .before .before .before .before .before .before .before .before .before in
     let a = s .args in
-    let l = roomsOf (a .labels .now) (a .equations .now) (a .values .now) (a .marks .now) (a .moves .now) in
-    c .before .before .before .before .before .before .read-on .ensures ∙ batch-goes (a .session) l (a .bytes .now) _ (c .before .before .before .before .before .before .before .before .before .before .before .before .session-refusal .ensures) (c .before .before .before .before .before .before .before .before .before .before .enum-told .given .1)
+    let l = roomsWith (a .labels .now) (a .equations .now) (a .values .now) (a .marks .now) (a .moves .now) (a .index .now) (a .queue .now) in
+    let h = measured (a .session) l (c .before .before .before .before .before .before .before .before .before .before .before .before .before .before .before .before .before .before .session-refusal .result) _ (c .before .before .before .before .before .before .before .before .before .before .before .before .before .before .before .before .before .before .before .before .before .before .work-ok .ensures) (c .before .before .before .before .before .before .before .before .before .before .before .before .before .before .before .before .before .before .session-refusal .ensures) in
+    c .before .before .before .before .before .before .before .before .before .before .read-on .ensures ∙ batch-goes (a .session) l (a .bytes .now) (c .before .before .before .before .before .before .before .before .before .before .before .before .before .before .before .before .before .before .session-refusal .result) h (c .before .before .before .before .before .before .before .before .before .before .before .before .before .before .before .before .enum-told .given .1)
 
 pub batch-spec : {M : Type 1} → statement M
 batch-spec =
     tie.close
     (tie.spec
+    work-ok-requires
     session-refusal-requires
     enum-known-found
     enum-told
@@ -70,4 +83,6 @@ batch-spec =
     same-length-4
     same-length-5
     same-length-6
+    same-length-7
+    same-length-8
     returns-2)

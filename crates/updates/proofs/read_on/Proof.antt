@@ -8,7 +8,7 @@ use lib.ListN.{length, length-replicate}
 use Rattle.rules.specs.Limits.{most-changes}
 use native.Mathlib.Omega.{arith}
 use mathlib.Core.Path.{_∙_}
-use Rattle.rules.specs.Rooms.{roomsOf}
+use Rattle.rules.specs.Rooms.{roomsWith}
 use borrow.Author.Needs.{needs}
 use Rattle.updates.proofs.read_on.Statement.{statement}
 use Rattle.updates.proofs.read_on.Tie as tie
@@ -30,20 +30,20 @@ slice-aggregate-judge-on c = search needs
 
 judge-on-requires : tie.Need-judge-on-requires
 judge-on-requires c κs =
-    let s = c .before .before .before .before .before .before .before .before .before .before .before .before .before .before .before .before in
+    let s = c .before .before .before .before .before .before .before .before .before .before .before .before .before .before .before .before .before .before .before .before in
     let a = s .args in
-    let l = roomsOf (a .labels .now) (a .equations .now) (a .values .now) (a .marks .now) (a .moves .now) in
-    let at-read = c .before .before .before .before .before .before .before .before in
+    let l = roomsWith (a .labels .now) (a .equations .now) (a .values .now) (a .marks .now) (a .moves .now) (a .index .now) (a .queue .now) in
+    let at-read = c .before .before .before .before .before .before .before .before .before .before in
     let k = simp length-replicate at (at-read .read-batch .kept) in
     let long : most-changes ≤ length (at-read .read-batch .last .1 .1 .0) = omega (arith, k) in
-    let w = good-read (a .session .sizes) (a .bytes .now) (sane-sizes (a .session) l (s .pre)) (are-bytes (a .bytes .now) (λ i. omega (arith, c .before .before .before .before .before .before .before .before .before .before .before .before .before .before .before .shared-slice-known .given i))) _ _ _ _ _ (at-read .read-batch .ensures) long (c .before .before .before .before .before .read2 .given .1) in
+    let w = good-read (a .session .sizes) (a .bytes .now) (sane-sizes (a .session) l (s .pre)) (are-bytes (a .bytes .now) (λ i. omega (arith, c .before .before .before .before .before .before .before .before .before .before .before .before .before .before .before .before .before .before .before .shared-slice-known .given i))) _ _ _ _ _ (at-read .read-batch .ensures) long (c .before .before .before .before .before .before .before .read2 .given .1) in
     (s .pre, ((w .few, omega (arith, k, w .few)), w .in-range))
 
 returns : tie.Need-returns
 returns c =
-    let s = c .before .before .before .before .before .before .before .before .before .before .before .before in
+    let s = c .before .before .before .before .before .before .before .before .before .before .before .before .before .before in
     let a = s .args in
-    let l = roomsOf (a .labels .now) (a .equations .now) (a .values .now) (a .marks .now) (a .moves .now) in
+    let l = roomsWith (a .labels .now) (a .equations .now) (a .values .now) (a .marks .now) (a .moves .now) (a .index .now) (a .queue .now) in
     bytes-bad (a .session) l (a .bytes .now) _ _ (bad-read (a .session .sizes) (a .bytes .now) _ _ _ _ _ (c .before .before .before .before .read-batch .ensures) (c .before .read .given .1))
 
 same-length : tie.Need-same-length
@@ -55,16 +55,22 @@ same-length-2 c = search needs
 same-length-3 : tie.Need-same-length-3
 same-length-3 c = search needs
 
+same-length-4 : tie.Need-same-length-4
+same-length-4 c = search needs
+
+same-length-5 : tie.Need-same-length-5
+same-length-5 c = search needs
+
 returns-2 : tie.Need-returns-2
 returns-2 c =
-    let s = c .before .before .before .before .before .before .before .before .before .before .before .before .before .before .before .before .before .before .before .before .before .before .before in
+    let s = c .before .before .before .before .before .before .before .before .before .before .before .before .before .before .before .before .before .before .before .before .before .before .before .before .before .before .before .before .before .before .before in
     let a = s .args in
-    let l = roomsOf (a .labels .now) (a .equations .now) (a .values .now) (a .marks .now) (a .moves .now) in
-    let at-read = c .before .before .before .before .before .before .before .before .before .before .before .before .before .before .before in
+    let l = roomsWith (a .labels .now) (a .equations .now) (a .values .now) (a .marks .now) (a .moves .now) (a .index .now) (a .queue .now) in
+    let at-read = c .before .before .before .before .before .before .before .before .before .before .before .before .before .before .before .before .before .before .before .before .before in
     let k = simp length-replicate at (at-read .read-batch .kept) in
     let long : most-changes ≤ length (at-read .read-batch .last .1 .1 .0) = omega (arith, k) in
-    let w = good-read (a .session .sizes) (a .bytes .now) (sane-sizes (a .session) l (s .pre)) (are-bytes (a .bytes .now) (λ i. omega (arith, c .before .before .before .before .before .before .before .before .before .before .before .before .before .before .before .before .before .before .before .before .before .before .shared-slice-known .given i))) _ _ _ _ _ (at-read .read-batch .ensures) long (c .before .before .before .before .before .before .before .before .before .before .before .before .read2 .given .1) in
-    c .before .before .before .before .before .before .judge-on .ensures ∙ bytes-good (a .session) l (a .bytes .now) _ (w .read)
+    let w = good-read (a .session .sizes) (a .bytes .now) (sane-sizes (a .session) l (s .pre)) (are-bytes (a .bytes .now) (λ i. omega (arith, c .before .before .before .before .before .before .before .before .before .before .before .before .before .before .before .before .before .before .before .before .before .before .before .before .before .before .before .before .before .before .shared-slice-known .given i))) _ _ _ _ _ (at-read .read-batch .ensures) long (c .before .before .before .before .before .before .before .before .before .before .before .before .before .before .before .before .before .before .read2 .given .1) in
+    c .before .before .before .before .before .before .before .before .before .before .judge-on .ensures ∙ bytes-good (a .session) l (a .bytes .now) _ (w .read)
 
 pub read-on-spec : {M : Type 1} → statement M
 read-on-spec =
@@ -80,4 +86,6 @@ read-on-spec =
     same-length
     same-length-2
     same-length-3
+    same-length-4
+    same-length-5
     returns-2)
