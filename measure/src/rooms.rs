@@ -39,6 +39,13 @@ impl Work {
         let [index, queue] = Work::needs(sizes, room);
         (&mut self.index[..index], &mut self.queue[..queue])
     }
+
+    /// Leaves what is needed of both rooms at 0.
+    pub fn clear(&mut self, sizes: Sizes, room: usize) {
+        let (index, queue) = self.cut(sizes, room);
+        index.fill(0);
+        queue.fill(0);
+    }
 }
 
 /// The session's eight numbers and the rooms lent with it.

@@ -55,6 +55,8 @@ fn run(bytes: &[u8], random: &mut Random, seen: &mut Seen) {
     rooms.values.fill(9);
     rooms.marks.fill(9);
     rooms.moves.fill(77);
+    rooms.work.index.fill(7_777);
+    rooms.work.queue.fill(7_777);
     let mut sides = Sides::of(&rooms);
     let parts = parts(bytes);
     let Some((model, batches)) = parts.split_first() else {
@@ -89,7 +91,8 @@ fn spoil(rooms: &mut Rooms, random: &mut Random) {
     let states = rooms.session[0] as usize;
     let pairs = states * rooms.session[3] as usize;
     let count = rooms.session[5] as usize;
-    match random.below(11) {
+    let index = states * rooms.session[1] as usize + 1_024;
+    match random.below(13) {
         0 => rooms.session[random.below(8)] = random.bits() as u32 >> random.below(32),
         1 => rooms.session[5] = random.below(1_030) as u32,
         9 => rooms.session[7] ^= 1,
@@ -102,6 +105,11 @@ fn spoil(rooms: &mut Rooms, random: &mut Random) {
         5 => rooms.marks[random.below(pairs)] = random.below(5) as u8,
         6 if count > 0 => rooms.moves[random.below(count)] ^= 1 << random.below(32),
         7 => rooms.values.truncate(random.between(pairs / 2, pairs)),
+        10 => rooms.work.index.truncate(random.between(index / 2, index)),
+        11 => rooms
+            .work
+            .queue
+            .truncate(random.between(pairs / 2, pairs + 1)),
         8 => rooms.marks.truncate(random.between(pairs / 2, pairs)),
         _ => rooms.labels.truncate(random.between(states / 2, states)),
     }
@@ -169,7 +177,16 @@ fn short_rooms_agree() {
         let most = [256, 32, 8_192, 8_192, 1_024];
         let least = random.pick(&[0, 50, 95]);
         let lengths = most.map(|n: usize| n * random.between(least, 100) / 100);
-        let mut sides = Sides::of(&Rooms::of(lengths));
+        let mut rooms = Rooms::of(lengths);
+        rooms
+            .work
+            .index
+            .truncate(5_120 * random.between(least, 100) / 100);
+        rooms
+            .work
+            .queue
+            .truncate(8_193 * random.between(least, 100) / 100);
+        let mut sides = Sides::of(&rooms);
         let parts = parts(&bytes);
         if seen.load(&mut sides, parts[0]) {
             parts[1..].iter().for_each(|b| seen.batch(&mut sides, b));

@@ -1,24 +1,16 @@
-//! The work rooms of the strong version: whatever they hold, its answers are the same; what the sizes need of them is 0 after
-//! an accepted call, and they are as they were after a refused one or where a place is past that. Too short, they are refused
-//! with 13.
+//! The work rooms, on all sides: whatever they hold, the answers are the same; what the sizes need of them is 0 after an accepted
+//! call, and they are as they were after a refused one or where a place is past that. Too short, they are refused with 13.
 
 mod common;
 
-use common::{at_start, parts};
-use measure::cases::{grid, maximal, signs, STRICT_RULE};
+use common::{at_start, parts, Sides, LONG};
+use measure::answers::Refusal;
+use measure::cases::{grid, maximal, signs, Case, STRICT_RULE};
 use measure::rooms::Rooms;
-use measure::sides::Side;
 use reference::generate::generate;
 
 /// What unused places of the work rooms hold.
 const FILL: u16 = 0xa5a5;
-
-/// Rooms for any model whose work rooms hold something.
-fn filled() -> Rooms {
-    let mut rooms = Rooms::most();
-    refill(&mut rooms);
-    rooms
-}
 
 /// Has the work rooms hold something.
 fn refill(rooms: &mut Rooms) {
@@ -39,24 +31,14 @@ fn cleared(room: &[u16], needed: usize) -> bool {
     front.iter().all(|place| *place == 0) && rest.iter().all(|place| *place == FILL)
 }
 
-/// Makes the same call of the ordinary version and of the strong one, and looks at the work rooms.
-fn same<T: PartialEq + std::fmt::Debug>(
-    ordinary: &mut Rooms,
-    strong: &mut Rooms,
-    call: impl Fn(Side, &mut Rooms) -> Result<T, measure::answers::Refusal>,
-) -> bool {
-    refill(strong);
-    let answer = call(Side::Strong, strong);
-    assert_eq!(answer, call(Side::Ordinary, ordinary));
-    let [index, queue] = if answer.is_ok() {
-        needs(strong)
-    } else {
-        [0; 2]
-    };
-    assert!(cleared(&strong.work.index, index) && cleared(&strong.work.queue, queue));
-    ordinary.work = strong.work.clone();
-    assert_eq!(ordinary, strong);
-    answer.is_ok()
+/// Makes a call of every side in work rooms that hold something, looks at them, and tells whether it was accepted.
+fn worked<T>(sides: &mut Sides, call: impl Fn(&mut Sides) -> Result<T, Refusal>) -> bool {
+    sides.change(refill);
+    let accepted = call(sides).is_ok();
+    let rooms = sides.rooms();
+    let [index, queue] = if accepted { needs(rooms) } else { [0; 2] };
+    assert!(cleared(&rooms.work.index, index) && cleared(&rooms.work.queue, queue));
+    accepted
 }
 
 #[test]
@@ -64,44 +46,62 @@ fn work_rooms_may_hold_anything_and_end_at_0() {
     for seed in 0..500 {
         let bytes = generate(seed).bytes;
         let parts = parts(&bytes);
-        let (mut ordinary, mut strong) = (Rooms::most(), filled());
-        let (model, batches) = parts
-            .split_first()
-            .map_or((&[][..], &[][..]), |(m, b)| (*m, b));
-        if same(&mut ordinary, &mut strong, |side, rooms| {
-            side.load(model, rooms)
-        }) {
+        let mut sides = Sides::new();
+        let Some((model, batches)) = parts.split_first() else {
+            continue;
+        };
+        if worked(&mut sides, |sides| sides.load(model)) {
             for batch in batches {
-                same(&mut ordinary, &mut strong, |side, rooms| {
-                    side.batch(batch, rooms)
-                });
+                worked(&mut sides, |sides| sides.batch(batch));
             }
         }
     }
+}
+
+/// Cuts the work rooms.
+fn cut(sides: &mut Sides, [index, queue]: [usize; 2]) {
+    sides.change(|rooms| {
+        rooms.work.index.truncate(index);
+        rooms.work.queue.truncate(queue);
+    });
+}
+
+/// The model, with its room for moves and the work rooms just as long as it needs, or with so many places for moves.
+fn just_enough(case: &Case, moves: usize) -> Sides {
+    let mut sides = Sides::loaded(&case.bytes);
+    sides.change(|rooms| rooms.moves.resize(moves, 0));
+    let enough = needs(sides.rooms());
+    cut(&mut sides, enough);
+    sides
 }
 
 #[test]
 fn work_rooms_that_are_too_short_are_13() {
     for case in [grid(16, &STRICT_RULE), maximal(), signs(&maximal())] {
         let single = case.changes(&case.spread(1), &[]);
-        let mut rooms = Rooms::most();
-        Side::Strong.load(&case.bytes, &mut rooms).unwrap();
-        let [index, queue] = needs(&rooms);
-        rooms.work.index.truncate(index);
-        rooms.work.queue.truncate(queue);
-        Side::Strong.load(&case.bytes, &mut rooms).unwrap();
-        for [index, queue] in [[index - 1, queue], [index, queue - 1], [0, 0]] {
-            let mut short = rooms.clone();
-            short.work.index.truncate(index);
-            short.work.queue.truncate(queue);
-            let before = short.clone();
-            assert_eq!(Side::Strong.batch(&single.there, &mut short), at_start(13));
-            assert_eq!(Side::Strong.load(&case.bytes, &mut short), at_start(13));
-            assert_eq!(Side::Strong.load(&[2; 7], &mut short), at_start(2));
-            assert_eq!(short, before);
-            Side::Strong.write(&short, &mut [0; 9_000]).unwrap();
+        for moves in [case.moves.len(), 1_023.max(case.moves.len()), 1_024, 1_100] {
+            let mut sides = just_enough(&case, moves);
+            sides.load(&case.bytes).unwrap();
+            let [index, queue] = needs(sides.rooms());
+            for less in [[index - 1, queue], [index, queue - 1], [0, 0]] {
+                let mut short = sides.clone();
+                cut(&mut short, less);
+                let before = short.rooms().clone();
+                assert_eq!(short.batch(&single.there), at_start(13));
+                assert_eq!(short.batch(&[]), at_start(13));
+                assert_eq!(short.load(&case.bytes), at_start(13));
+                assert_eq!(short.load(&case.bytes[..7]), at_start(13));
+                assert_eq!(short.load(&[2; 7]), at_start(2));
+                assert_eq!(*short.rooms(), before);
+                short.write(LONG).unwrap();
+                short.ask(0, 0).unwrap();
+                short.change(|rooms| rooms.session[6] ^= 1);
+                assert_eq!(short.batch(&single.there), at_start(13));
+                short.change(|rooms| rooms.session[7] = 2);
+                assert_eq!(short.batch(&single.there), at_start(12));
+            }
+            sides.batch(&single.there).unwrap();
+            sides.batch(&single.back).unwrap();
         }
-        Side::Strong.batch(&single.there, &mut rooms).unwrap();
-        Side::Strong.batch(&single.back, &mut rooms).unwrap();
     }
 }

@@ -54,18 +54,13 @@ pub fn read(bytes: &[u8], rooms: &Rooms) -> Result<Model, Refusal> {
     })
 }
 
-/// The sizes of a model whose first record is good for rooms of the lengths lent.
-pub fn first(bytes: &[u8], rooms: &Rooms) -> Result<Sizes, Refusal> {
-    read_sizes(&mut Reader { bytes, at: 0 }, rooms)
-}
-
 /// The sizes record, and whether the rooms fit it.
 fn read_sizes(reader: &mut Reader, rooms: &Rooms) -> Result<Sizes, Refusal> {
     let (Record::Sizes(sizes), next) = reader.peek()? else {
         return refuse(2, 0);
     };
     demand(sizes.in_limits(), 3, 0)?;
-    demand(sizes.fit(rooms), 13, 0)?;
+    demand(sizes.fit(rooms) && sizes.fit_work(rooms), 13, 0)?;
     reader.at = next;
     Ok(sizes)
 }

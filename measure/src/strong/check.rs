@@ -3,19 +3,8 @@
 use super::moves;
 use crate::answers::{demand, Refusal};
 use crate::ordinary::session::equations_ok;
-use crate::ordinary::sizes::{Sizes, MOST_MOVES};
+use crate::ordinary::sizes::Sizes;
 use crate::rooms::Rooms;
-
-/// Asks 12 for the sizes, the number of moves and the live flag, and 13 for the rooms.
-pub fn sizes(rooms: &Rooms) -> Result<Sizes, Refusal> {
-    let sizes = Sizes::of(&rooms.session);
-    let count = rooms.session[5] as usize;
-    demand(sizes.in_limits(), 12, 0)?;
-    demand(count <= MOST_MOVES.min(rooms.moves.len()), 12, 0)?;
-    demand(rooms.session[7] <= 1, 12, 0)?;
-    demand(sizes.fit(rooms), 13, 0)?;
-    Ok(sizes)
-}
 
 /// Asks 12 for what the rooms hold.
 pub fn contents(sizes: Sizes, rooms: &Rooms) -> Result<(), Refusal> {

@@ -1,7 +1,7 @@
 //! The same calls as good as we can write them in safe Rust: whole rows of pairs at a time, one index of the moves in a lent
 //! room, the pairs that wait in another, and a quick test before the full judge. What is not hot is the ordinary version's
-//! own. It answers as that version does, and asks 13 besides where a work room is too short. A call that is accepted leaves
-//! what its sizes need of the work rooms at 0; one that is refused leaves them as they were.
+//! own. It answers as that version does. A call that is accepted leaves what its sizes need of the work rooms at 0; one that
+//! is refused leaves them as they were.
 #![forbid(unsafe_code)]
 
 mod apply;
@@ -20,6 +20,7 @@ mod update;
 mod write;
 
 use crate::answers::{demand, Refusal, Report};
+use crate::ordinary::session;
 use crate::ordinary::sizes::Sizes;
 use crate::rooms::Rooms;
 use system::System;
@@ -37,8 +38,8 @@ pub fn load(bytes: &[u8], rooms: &mut Rooms) -> Result<(), Refusal> {
 /// Applies a batch of inserts and deletes. A refusal leaves the rooms as they were.
 #[inline(never)]
 pub fn batch(bytes: &[u8], rooms: &mut Rooms) -> Result<Report, Refusal> {
-    let sizes = check::sizes(rooms)?;
-    demand(rooms.work.fits(sizes, rooms.moves.len()), 13, 0)?;
+    let sizes = session::sizes(rooms)?;
+    demand(sizes.fit_work(rooms), 13, 0)?;
     check::contents(sizes, rooms)?;
     let changes = changes::read(bytes, sizes, rooms)?;
     apply::apply(&changes, rooms);
@@ -51,7 +52,7 @@ pub fn batch(bytes: &[u8], rooms: &mut Rooms) -> Result<Report, Refusal> {
 /// Writes the model that the rooms hold into the front of `out`, and answers how many bytes it has.
 #[inline(never)]
 pub fn write(rooms: &Rooms, out: &mut [u8]) -> Result<usize, Refusal> {
-    let sizes = check::sizes(rooms)?;
+    let sizes = session::sizes(rooms)?;
     check::contents(sizes, rooms)?;
     let length = write::length(sizes, rooms);
     demand(length <= out.len(), 13, 0)?;

@@ -1,7 +1,7 @@
 //! A model taken from its bytes: a quick test of them, with the ordinary judge behind it for the refusal, then the storing.
 
 use super::moves::Sums;
-use crate::answers::{demand, Refusal};
+use crate::answers::Refusal;
 use crate::ordinary::components;
 use crate::ordinary::equation::Equation;
 use crate::ordinary::model as full;
@@ -29,8 +29,6 @@ struct Parts<'a> {
 /// Stores a good model, or answers what it is refused with.
 pub fn take(bytes: &[u8], rooms: &mut Rooms) -> Result<Sizes, Refusal> {
     let Some(parts) = quick(bytes, rooms) else {
-        let sizes = full::first(bytes, rooms)?;
-        demand(rooms.work.fits(sizes, rooms.moves.len()), 13, 0)?;
         full::read(bytes, rooms)?;
         unreachable!("the quick test takes every good model")
     };
@@ -43,8 +41,7 @@ fn quick<'a>(bytes: &'a [u8], rooms: &Rooms) -> Option<Parts<'a>> {
     let (records::Record::Sizes(sizes), at) = records::read(bytes, 0)? else {
         return None;
     };
-    let work = |sizes| rooms.work.fits(sizes, rooms.moves.len());
-    if !(sizes.in_limits() && sizes.fit(rooms) && work(sizes)) {
+    if !(sizes.in_limits() && sizes.fit(rooms) && sizes.fit_work(rooms)) {
         return None;
     }
     let live = *bytes.get(at)? == 10;
