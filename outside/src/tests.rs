@@ -332,6 +332,9 @@ fn rooms_to_work_in() {
     }
 }
 
+/// A change to lent rooms.
+type Change = fn(&mut Rooms);
+
 /// 13 for the rooms to work in comes after 1 to 3 of the sizes record and before the next record; in a batch after 12 for the
 /// sizes, the move count and the flag, before 12 for the rest and before the bytes. A writing and a question have none.
 #[test]
@@ -356,7 +359,7 @@ fn where_rooms_to_work_in_are_asked() {
             .is_accepted());
         let asked = both(&Proved, Call::Ask(0, 0), &mut rooms);
         assert_eq!(asked, Ok(Answer::accepted(1)));
-        let damages: [(fn(&mut Rooms), u32); 7] = [
+        let damages: [(Change, u32); 7] = [
             (|rooms| rooms.session[0] = 257, 12),
             (|rooms| rooms.session[MOVES] = 1_025, 12),
             (|rooms| rooms.session[LIVE] = 2, 12),
