@@ -69,7 +69,7 @@
    Load and batch are lent two more rooms, to work in. These grow with the table and are no part of a session: nothing is kept
    there, what they hold before a call does not matter, and between calls they may serve anything else, other sessions too. After
    an accepted call the places needed are 0; a refusal leaves them as they were.
-   index      states x actions + the length of moves, or + 1,024 where that is longer:
+   index      states x actions + the length of moves, which counts as 1,024 where it is more:
               HUEPAXOCHI_INDEX(states, actions, length of moves).
    queue      states x variables + 1: HUEPAXOCHI_QUEUE(states, variables). */
 #ifndef HUEPAXOCHI_H
