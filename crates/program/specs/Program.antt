@@ -1,9 +1,9 @@
 -- The program: bytes read, lines printed. Definitions only.
 use mathlib.Core.List.{List, [], _∷_, _++_}
-use Prim.Native.Nat.{ℕ, _*_}
+use Prim.Native.Nat.{ℕ, suc, _+_, _*_}
 use lib.ListN.{take, drop, replicate}
 use Rattle.rules.specs.Calls.{load, batch}
-use Rattle.rules.specs.Limits.{most-states, most-variables, most-moves}
+use Rattle.rules.specs.Limits.{most-states, most-actions, most-variables, most-moves}
 use Rattle.rules.specs.Records.{Outcome, refused, accepted}
 use Rattle.rules.specs.Rooms.{Rooms}
 use Rattle.rules.specs.declared.Report.{Report}
@@ -19,6 +19,8 @@ freshRooms = record {
   values = replicate (most-states * most-variables) 0;
   marks = replicate (most-states * most-variables) 0;
   moves = replicate most-moves 0;
+  index = replicate (most-states * most-actions + most-moves) 0;
+  queue = replicate (suc (most-states * most-variables)) 0;
 }
 
 -- The session after a batch: a refused one leaves it.

@@ -12,7 +12,7 @@ use Rattle.rules.specs.Limits.{sizesOk}
 use Rattle.rules.specs.Model.{Model}
 use Rattle.rules.specs.Records.{Rec, widths, known, bodyOf, bytes, bytesOf, Parts, ends, broken, part, partsFrom, parts, Outcome, refused, accepted, Turn, no, back, next, over, onto, atEnd, onTurn, run}
 use Rattle.rules.specs.Spelling.{records, encode}
-use Rattle.rules.specs.Rooms.{Rooms, Lengths, lengthsOf}
+use Rattle.rules.specs.Rooms.{Rooms, Lengths, lengthsOf, lentOk}
 use Rattle.rules.specs.Load.{readModel, step, put, last, before, settleStyle}
 use Rattle.rules.specs.Batch.{Change, Batch, changeRecs, encodeBatch, stepBatch, putBatch, emptyBatch, first, readBatch, judge}
 use Rattle.rules.specs.Session.{held, countsOk, sessionDemands}
@@ -135,7 +135,7 @@ short-judged s l w y h =
       | inr t ↦ rw t (omega arith)
       | inl t ↦
           let ok = and-left (sizesOk (s .sizes)) _ t in
-          asked-short (sessionDemands s l) _ (then-short (readBatch (s .sizes) w) (judge s (length (l .moves)) (held s l .moves)) (short-batch (s .sizes) w ok y h))
+          asked-short (sessionDemands lentOk s l) _ (then-short (readBatch (s .sizes) w) (judge s (length (l .moves)) (held s l .moves)) (short-batch (s .sizes) w ok y h))
     ]
 
 -- The paper's numbers have at most two digits.

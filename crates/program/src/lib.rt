@@ -5,7 +5,7 @@ ghost use lib.ListN.{length, drop};
 ghost use Rattle.io.specs.Counts.{Counts};
 ghost use Rattle.lists.specs.Lists.{fill};
 ghost use Rattle.rules.specs.Answers.{updatedSays};
-ghost use Rattle.rules.specs.Rooms.{roomsOf};
+ghost use Rattle.rules.specs.Rooms.{roomsWith};
 ghost use Rattle.writer.specs.Spelled.{Wrote};
 ghost use Rattle.program.specs.Program.{sessionAfter, printedIn, printed};
 ghost use Rattle.program.specs.Steps.{Stepped, batchesFrom};
@@ -39,13 +39,15 @@ fn step(
     values: &mut [u8],
     marks: &mut [u8],
     moves: &mut [u32],
+    index: &mut [u16],
+    queue: &mut [u16],
     out: &mut [u8],
     at: usize,
 ) -> Went
     requires { ⌜ at < 2000000 ⌝ }
-    ensures { λ r. ⌜ Stepped session (roomsOf (now (labels .entry)) (now (equations .entry)) (now (values .entry)) (now (marks .entry)) (now (moves .entry)))
+    ensures { λ r. ⌜ Stepped session (roomsWith (now (labels .entry)) (now (equations .entry)) (now (values .entry)) (now (marks .entry)) (now (moves .entry)) (now (index .entry)) (now (queue .entry)))
         (now (rest .entry)) (now (out .entry)) at r
-        (roomsOf (now (labels .entry)) (now (equations .entry)) (now (values .exit)) (now (marks .exit)) (now (moves .exit))) (now (out .exit)) ⌝ }
+        (roomsWith (now (labels .entry)) (now (equations .entry)) (now (values .exit)) (now (marks .exit)) (now (moves .exit)) (now (index .exit)) (now (queue .exit))) (now (out .exit)) ⌝ }
 {
     let taken = cuts::first_part(rest);
     let said = updates::batch(
@@ -56,6 +58,8 @@ fn step(
         values,
         marks,
         moves,
+        index,
+        queue,
     );
     let next = answers::put_update(out, at, said, values);
     let after = session_after(session, said);
@@ -76,12 +80,14 @@ fn print_batches(
     values: &mut [u8],
     marks: &mut [u8],
     moves: &mut [u32],
+    index: &mut [u16],
+    queue: &mut [u16],
     out: &mut [u8],
     place: usize,
 ) -> usize
     requires { ⌜ (length (now input) ≤ 65536) × (start ≤ length (now input)) × (place ≤ 16 + 16 * start) ⌝ }
     ensures { λ r. ⌜ Wrote (now (out .entry)) place (batchesFrom first
-        (roomsOf (now (labels .entry)) (now (equations .entry)) (now (values .entry)) (now (marks .entry)) (now (moves .entry)))
+        (roomsWith (now (labels .entry)) (now (equations .entry)) (now (values .entry)) (now (marks .entry)) (now (moves .entry)) (now (index .entry)) (now (queue .entry)))
         (drop start (now (input .entry)))) (now (out .exit)) r × (r ≤ 16 + 16 * length (now (input .entry))) ⌝ }
 {
     let mut session = first;
@@ -96,6 +102,8 @@ fn print_batches(
             values,
             marks,
             moves,
+            index,
+            queue,
             out,
             at,
         );
@@ -114,15 +122,26 @@ fn run_in(
     values: &mut [u8],
     marks: &mut [u8],
     moves: &mut [u32],
+    index: &mut [u16],
+    queue: &mut [u16],
     out: &mut [u8],
 ) -> usize
     requires { ⌜ length (now input) ≤ 65536 ⌝ }
     ensures { λ r. ⌜ Wrote (now (out .entry)) 0 (printedIn
-        (roomsOf (now (labels .entry)) (now (equations .entry)) (now (values .entry)) (now (marks .entry)) (now (moves .entry)))
+        (roomsWith (now (labels .entry)) (now (equations .entry)) (now (values .entry)) (now (marks .entry)) (now (moves .entry)) (now (index .entry)) (now (queue .entry)))
         (now (input .entry))) (now (out .exit)) r × (r ≤ 16 + 16 * length (now (input .entry))) ⌝ }
 {
     let end = cuts::first_part(input);
-    let said = loads::load(&input[..end], labels, equations, values, marks, moves);
+    let said = loads::load(
+        &input[..end],
+        labels,
+        equations,
+        values,
+        marks,
+        moves,
+        index,
+        queue,
+    );
     let at = answers::put_load(out, 0, said, values);
     match said {
         Loaded::Refused(_why, _place) => at,
@@ -135,6 +154,8 @@ fn run_in(
             values,
             marks,
             moves,
+            index,
+            queue,
             out,
             at,
         ),
@@ -154,6 +175,8 @@ pub fn run(input: &[u8], out: &mut [u8]) -> usize
     let mut values = [0u8; 8192];
     let mut marks = [0u8; 8192];
     let mut moves = [0u32; 1024];
+    let mut index = [0u16; 5120];
+    let mut queue = [0u16; 8193];
     run_in(
         input,
         &mut labels,
@@ -161,6 +184,8 @@ pub fn run(input: &[u8], out: &mut [u8]) -> usize
         &mut values,
         &mut marks,
         &mut moves,
+        &mut index,
+        &mut queue,
         out,
     )
 }

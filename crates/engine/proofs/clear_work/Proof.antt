@@ -27,9 +27,10 @@ same-length-2 c = search needs
 
 returns : tie.Need-returns
 returns c =
-    let a = c .before .before .before .before .before .before .before .before .before .before .before .before .args in
-    (c .before .before .before .before .before .before .clear-halves .ensures ∙ ap (λ (n : ℕ). fill (replicate n 0) (a .index .now)) (c .before .before .before .before .before .before .before .before .before .index-needs .ensures .0),
-        c .before .before .clear-halves2 .ensures ∙ ap (λ (n : ℕ). fill (replicate n 0) (a .queue .now)) (c .before .before .before .before .before .before .before .before .queue-needs .ensures .0))
+    let a = c .before .before .before .before .before .before .before .before .before .before .before .before .args in (
+      c .before .before .before .before .before .before .clear-halves .ensures ∙ ap (λ (n : ℕ). fill (replicate n 0) (a .index .now)) (c .before .before .before .before .before .before .before .before .before .index-needs .ensures .0),
+      c .before .before .clear-halves2 .ensures ∙ ap (λ (n : ℕ). fill (replicate n 0) (a .queue .now)) (c .before .before .before .before .before .before .before .before .queue-needs .ensures .0),
+    )
 
 pub clear-work-spec : {M : Type 1} → statement M
 clear-work-spec =

@@ -20,6 +20,12 @@ slice-aggregate-run-in-4 c = search needs
 slice-aggregate-run-in-5 : tie.Need-slice-aggregate-run-in-5
 slice-aggregate-run-in-5 c = search needs
 
+slice-aggregate-run-in-6 : tie.Need-slice-aggregate-run-in-6
+slice-aggregate-run-in-6 c = search needs
+
+slice-aggregate-run-in-7 : tie.Need-slice-aggregate-run-in-7
+slice-aggregate-run-in-7 c = search needs
+
 run-in-requires : tie.Need-run-in-requires
 run-in-requires c κs = search needs
 
@@ -29,9 +35,9 @@ same-length c = search needs
 returns : tie.Need-returns
 unfolding freshRooms
 returns c =
-    let s = c .before .before .before .before .before .before .before .before .before .before .before .before .before .before .before .before in
+    let s = c .before .before .before .before .before .before .before .before .before .before .before .before .before .before .before .before .before .before .before .before in
     let a = s .args in
-    let r = c .before .before .before .before .before .before .before .run-in in
+    let r = c .before .before .before .before .before .before .before .before .before .run-in in
     let f = fresh-run (a .input .now) (a .out .now) _ _ (r .ensures .0) (r .ensures .1) (s .pre .1) in
     (f .0, (f .1, f .2))
 
@@ -44,6 +50,8 @@ run-spec =
     slice-aggregate-run-in-3
     slice-aggregate-run-in-4
     slice-aggregate-run-in-5
+    slice-aggregate-run-in-6
+    slice-aggregate-run-in-7
     run-in-requires
     same-length
     returns)
