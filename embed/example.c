@@ -10,12 +10,13 @@ static const uint8_t insert[] = {7, 0, 0, 0, 0, 8, 0, 0, 0, 0, 0, 6};
 static uint32_t session[HUEPAXOCHI_SESSION], labels[HUEPAXOCHI_LABELS], equations[HUEPAXOCHI_EQUATIONS];
 static uint8_t values[HUEPAXOCHI_PAIRS], marks[HUEPAXOCHI_PAIRS];
 static uint32_t moves[HUEPAXOCHI_MOVES];
+static uint16_t index_room[HUEPAXOCHI_MOST_INDEX], queue[HUEPAXOCHI_MOST_QUEUE];
 static int64_t report[HUEPAXOCHI_REPORT];
 
 static uint64_t batch(const uint8_t *bytes, size_t length) {
     return huepaxochi_batch(session, HUEPAXOCHI_SESSION, bytes, length, labels, HUEPAXOCHI_LABELS, equations,
                             HUEPAXOCHI_EQUATIONS, values, HUEPAXOCHI_PAIRS, marks, HUEPAXOCHI_PAIRS, moves, HUEPAXOCHI_MOVES,
-                            report, HUEPAXOCHI_REPORT);
+                            index_room, HUEPAXOCHI_MOST_INDEX, queue, HUEPAXOCHI_MOST_QUEUE, report, HUEPAXOCHI_REPORT);
 }
 
 static uint64_t value(uint16_t state) {
@@ -33,7 +34,7 @@ int main(void) {
 
     uint64_t answer = huepaxochi_load(model, sizeof model, session, HUEPAXOCHI_SESSION, labels, HUEPAXOCHI_LABELS, equations,
                                       HUEPAXOCHI_EQUATIONS, values, HUEPAXOCHI_PAIRS, marks, HUEPAXOCHI_PAIRS, moves,
-                                      HUEPAXOCHI_MOVES);
+                                      HUEPAXOCHI_MOVES, index_room, HUEPAXOCHI_MOST_INDEX, queue, HUEPAXOCHI_MOST_QUEUE);
     printf("load: refusal %u, %u states, %u moves, stamp %u\n", huepaxochi_number(answer), session[0], session[5], session[6]);
     wrong += expect("G loads", answer == 0 && session[0] == 2 && session[5] == 0 && session[6] == 0);
     wrong += expect("both pairs are false", value(0) == 0 && value(1) == 0);

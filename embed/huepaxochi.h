@@ -64,7 +64,14 @@
    values     one per pair, 0 or 1; the pair of state s and variable x lies at x x states + s.
    marks      one per pair: 0 never turned, 1 shifted and stayed, 2 shifted and came back, 3 turned by settling only.
    moves      one per move, ascending: 65536 x source + 1024 x action + target. Its length is the room for moves, at
-              most 1,024 of which are used; places that a batch frees at the end become 0. */
+              most 1,024 of which are used; places that a batch frees at the end become 0.
+
+   Load and batch are lent two more rooms, to work in. These grow with the table and are no part of a session: nothing is kept
+   there, what they hold before a call does not matter, and between calls they may serve anything else, other sessions too. After
+   an accepted call the places needed are 0; a refusal leaves them as they were.
+   index      states x actions + the length of moves, which counts as 1,024 where it is more:
+              HUEPAXOCHI_INDEX(states, actions, length of moves).
+   queue      states x variables + 1: HUEPAXOCHI_QUEUE(states, variables). */
 #ifndef HUEPAXOCHI_H
 #define HUEPAXOCHI_H
 
@@ -74,6 +81,11 @@
 extern "C" {
 #endif
 
+/* How long the rooms to work in must be. A table of 10 states and 3 actions with 4 variables in a move room of 50 places needs 80 of
+   the index and 41 of the queue. */
+#define HUEPAXOCHI_INDEX(states, actions, move_room) ((states) * (actions) + ((move_room) < 1024 ? (move_room) : 1024))
+#define HUEPAXOCHI_QUEUE(states, variables) ((states) * (variables) + 1)
+
 /* The most that any model within the limits needs of each room. */
 enum {
     HUEPAXOCHI_SESSION = 8,
@@ -81,6 +93,8 @@ enum {
     HUEPAXOCHI_EQUATIONS = 32,
     HUEPAXOCHI_PAIRS = 8192,
     HUEPAXOCHI_MOVES = 1024,
+    HUEPAXOCHI_MOST_INDEX = HUEPAXOCHI_INDEX(256, 16, 1024),
+    HUEPAXOCHI_MOST_QUEUE = HUEPAXOCHI_QUEUE(256, 32),
     HUEPAXOCHI_REPORT = 3,
     HUEPAXOCHI_BYTES = 8105
 };
@@ -93,14 +107,16 @@ static inline uint32_t huepaxochi_told(uint64_t answer) { return (uint32_t)(answ
    rooms held before does not matter. Accepted, the high 32 bits are 0. */
 uint64_t huepaxochi_load(const uint8_t *bytes, uint64_t bytes_len, uint32_t *session, uint64_t session_len, uint32_t *labels,
                          uint64_t labels_len, uint32_t *equations, uint64_t equations_len, uint8_t *values,
-                         uint64_t values_len, uint8_t *marks, uint64_t marks_len, uint32_t *moves, uint64_t moves_len);
+                         uint64_t values_len, uint8_t *marks, uint64_t marks_len, uint32_t *moves, uint64_t moves_len,
+                         uint16_t *index, uint64_t index_len, uint16_t *queue, uint64_t queue_len);
 
 /* Applies a batch of inserts and deletes: moves, values, marks and session follow. Accepted, the high 32 bits are 0 and the
    report is: shift visits, settle visits, net change in the number of true pairs. */
 uint64_t huepaxochi_batch(uint32_t *session, uint64_t session_len, const uint8_t *bytes, uint64_t bytes_len,
                           const uint32_t *labels, uint64_t labels_len, const uint32_t *equations, uint64_t equations_len,
                           uint8_t *values, uint64_t values_len, uint8_t *marks, uint64_t marks_len, uint32_t *moves,
-                          uint64_t moves_len, int64_t *report, uint64_t report_len);
+                          uint64_t moves_len, uint16_t *index, uint64_t index_len, uint16_t *queue, uint64_t queue_len,
+                          int64_t *report, uint64_t report_len);
 
 /* Writes the model that the session holds, in the style in which it was loaded and live if it was, into the front of out.
    Accepted, the high 32 bits are the number of bytes written, at most HUEPAXOCHI_BYTES. */

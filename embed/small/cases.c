@@ -1,5 +1,5 @@
 /* The bench cases A to F of document 01 on a 32-bit machine, A again with a sign in place of the block, and live models, with
-   rooms that are exactly long enough, and each room but the moves' once one place too short. Says what is not as it should be, and
+   rooms that are exactly long enough, the two to work in too, and each room but the moves' once one place too short. Says what is not as it should be, and
    how much stack each call took; the exit status is 1 where something is not. */
 #include "rooms.h"
 
@@ -44,6 +44,8 @@ static void fill_all(void) {
     fill(values, sizeof values);
     fill(marks, sizeof marks);
     fill(moves, sizeof moves);
+    fill(index, sizeof index);
+    fill(queue, sizeof queue);
     fill(report, sizeof report);
     fill(out, sizeof out);
 }
@@ -55,21 +57,35 @@ static int is_filled(const void *room, size_t from, size_t size) {
     return 1;
 }
 
-/* Whether each room holds its filling past so many places. */
-static int filled_past(size_t states, size_t variables, size_t count) {
-    size_t pairs = states * variables;
-    return is_filled(session, 4 * length[SESSION], sizeof session) && is_filled(labels, 4 * states, sizeof labels) &&
-           is_filled(equations, 4 * variables, sizeof equations) && is_filled(values, pairs, sizeof values) &&
-           is_filled(marks, pairs, sizeof marks) && is_filled(moves, 4 * count, sizeof moves);
+/* The rooms to work in, for so many states with one action each, variables and places for moves: what is needed is 0. */
+static int worked(size_t states, size_t variables, size_t count) {
+    for (size_t i = 0; i < HUEPAXOCHI_INDEX(states, 1, count); i++) {
+        if (index[i] != 0) return 0;
+    }
+    for (size_t i = 0; i < HUEPAXOCHI_QUEUE(states, variables); i++) {
+        if (queue[i] != 0) return 0;
+    }
+    return 1;
 }
 
-/* Rooms that are exactly long enough. */
+/* Whether each room holds its filling past so many places; with no state, from its first place on. */
+static int filled_past(size_t states, size_t variables, size_t count) {
+    size_t pairs = states * variables, waiting = states == 0 ? 0 : HUEPAXOCHI_QUEUE(states, variables);
+    return is_filled(session, 4 * length[SESSION], sizeof session) && is_filled(labels, 4 * states, sizeof labels) &&
+           is_filled(equations, 4 * variables, sizeof equations) && is_filled(values, pairs, sizeof values) &&
+           is_filled(marks, pairs, sizeof marks) && is_filled(moves, 4 * count, sizeof moves) &&
+           is_filled(index, 2 * HUEPAXOCHI_INDEX(states, 1, count), sizeof index) && is_filled(queue, 2 * waiting, sizeof queue);
+}
+
+/* Rooms that are exactly long enough for one action. */
 static void lend(size_t states, size_t variables, size_t count) {
     length[SESSION] = HUEPAXOCHI_SESSION;
     length[LABELS] = states;
     length[EQUATIONS] = variables;
     length[VALUES] = length[MARKS] = states * variables;
     length[MOVES] = count;
+    length[INDEX] = HUEPAXOCHI_INDEX(states, 1, count);
+    length[QUEUE] = HUEPAXOCHI_QUEUE(states, variables);
     length[REPORT] = HUEPAXOCHI_REPORT;
     length[OUT] = sizeof out;
 }
@@ -99,7 +115,7 @@ static uint64_t insert_a(void) { return batch(case_a, sizeof case_a); }
 static uint64_t ask_one(void) { return ask(1, 0); }
 
 static void loads(void) {
-    static const int rooms[] = {SESSION, LABELS, EQUATIONS, VALUES, MARKS};
+    static const int rooms[] = {SESSION, LABELS, EQUATIONS, VALUES, MARKS, INDEX, QUEUE};
     fill_all();
     lend(2, 1, 0);
     refused_short("load with a room one too short gives 13", load_g, rooms, sizeof rooms / sizeof rooms[0]);
@@ -111,18 +127,23 @@ static void loads(void) {
            session[0] == 2 && session[1] == 1 && session[2] == 0 && session[3] == 1 && session[4] == 1 && session[5] == 0 &&
                session[6] == 0 && session[7] == 0);
     expect("load leaves the places past its own", filled_past(2, 1, 0));
+    expect("load leaves the rooms to work in at 0", worked(2, 1, 0));
     expect("both pairs of G are false", holds(0, 0, 0) && holds(1, 0, 0));
     expect("a state that is none gives 4", ask(2, 0) == 4);
 }
 
 static void a_to_d(void) {
-    static const int of_batch[] = {SESSION, LABELS, EQUATIONS, VALUES, MARKS, REPORT};
+    static const int of_batch[] = {SESSION, LABELS, EQUATIONS, VALUES, MARKS, INDEX, QUEUE, REPORT};
     static const int of_write[] = {SESSION, LABELS, EQUATIONS, VALUES, MARKS, OUT};
     static const int of_ask[] = {SESSION, VALUES};
     lend(2, 1, 2);
+    fill(index, sizeof index);
+    fill(queue, sizeof queue);
     refused_short("batch with a room one too short gives 13", insert_a, of_batch, sizeof of_batch / sizeof of_batch[0]);
     expect("a refused batch leaves the report", is_filled(report, 0, sizeof report));
+    expect("a refused batch leaves the rooms to work in", is_filled(index, 0, sizeof index) && is_filled(queue, 0, sizeof queue));
     expect("A: net 1, visits 1 and 0", insert_a() == 0 && reports(1, 0, 1));
+    expect("A: the rooms to work in are 0 again", worked(2, 1, 2));
     expect("A: mark 1, stamp 1, one move", marked(1, 0) && session[6] == 1 && session[5] == 1 && moves[0] == 0);
     expect("A: state 0 is true, state 1 false", holds(0, 0, 1) && holds(1, 0, 0));
     expect("A again: the stamp is old, 11", insert_a() == 11);
@@ -160,7 +181,7 @@ static void e(void) {
     expect("E: net -2, visits 2 and 0", batch(case_e, sizeof case_e) == 0 && reports(2, 0, -2));
     expect("E: X0 and X2 at 0 get mark 1", marked(1, 0) && marks[2] == 0 && marks[3] == 0 && marks[4] == 1 && marks[5] == 0);
     expect("E: the place past the report is left", is_filled(report, 8 * HUEPAXOCHI_REPORT, sizeof report));
-    expect("E: the places past the rooms are left", filled_past(2, 3, 2));
+    expect("E: the places past the rooms are left, and those to work in are 0", filled_past(2, 3, 2) && worked(2, 3, 2));
 }
 
 /* Signs in place of blocks. */

@@ -1,15 +1,11 @@
-//! Times of both versions on the same calls, taken in turns.
+//! Times of all versions on the same calls, taken in turns.
 
 use std::time::Instant;
 
-use crate::sides::Side;
+use crate::sides::{Side, SIDES};
 
-/// Microseconds of the proved library and of the ordinary version.
-#[derive(Clone, Copy, Debug, PartialEq)]
-pub struct Timed {
-    pub ours: f64,
-    pub ordinary: f64,
-}
+/// Microseconds of each version, in the order of `Side::ALL`.
+pub type Timed = [f64; SIDES];
 
 /// How long a call takes, in microseconds.
 pub fn microseconds(call: impl FnOnce()) -> f64 {
@@ -31,42 +27,30 @@ pub fn in_turns<const N: usize>(
     rounds: usize,
     mut calls: impl FnMut(Side) -> [f64; N],
 ) -> [Timed; N] {
-    let mut ours = vec![Vec::new(); N];
-    let mut ordinary = vec![Vec::new(); N];
+    let mut kept = [const { Vec::new() }; SIDES];
     for round in 0..rounds / 10 + 1 + rounds {
-        let mut sides = [Side::Ours, Side::Ordinary];
-        sides.rotate_left(round % 2);
-        for side in sides {
-            let times = calls(side);
-            let kept = match side {
-                Side::Ours => &mut ours,
-                Side::Ordinary => &mut ordinary,
-            };
+        for turn in round..round + SIDES {
+            let times = calls(Side::ALL[turn % SIDES]);
             if round > rounds / 10 {
-                (0..N).for_each(|i| kept[i].push(times[i]));
+                kept[turn % SIDES].push(times);
             }
         }
     }
-    std::array::from_fn(|i| Timed {
-        ours: median(&ours[i]),
-        ordinary: median(&ordinary[i]),
-    })
+    let of = |times: &Vec<[f64; N]>, i: usize| times.iter().map(|n| n[i]).collect::<Vec<_>>();
+    std::array::from_fn(|i| kept.each_ref().map(|times| median(&of(times, i))))
 }
 
-/// The medians of many figures, each version by itself.
+/// One figure of many, each version by itself.
+fn each(figures: &[Timed], one: fn(&[f64]) -> f64) -> Timed {
+    std::array::from_fn(|side| one(&figures.iter().map(|timed| timed[side]).collect::<Vec<_>>()))
+}
+
+/// The medians of many figures.
 pub fn middle(figures: &[Timed]) -> Timed {
-    let of = |side: fn(&Timed) -> f64| median(&figures.iter().map(side).collect::<Vec<_>>());
-    Timed {
-        ours: of(|t| t.ours),
-        ordinary: of(|t| t.ordinary),
-    }
+    each(figures, median)
 }
 
-/// The longest of many figures, each version by itself.
+/// The longest of many figures.
 pub fn worst(figures: &[Timed]) -> Timed {
-    let of = |side: fn(&Timed) -> f64| figures.iter().map(side).fold(0.0, f64::max);
-    Timed {
-        ours: of(|t| t.ours),
-        ordinary: of(|t| t.ordinary),
-    }
+    each(figures, |times| times.iter().copied().fold(0.0, f64::max))
 }

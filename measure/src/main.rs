@@ -1,45 +1,52 @@
-//! Times the proved library beside the ordinary version and prints one table.
+//! Times the proved library beside the ordinary version and the strong one, and prints one table.
 
 use std::hint::black_box;
 
-use measure::cases::{grid, live, maximal, signs, Case, MIXED_RULE, STRICT_RULE};
+use measure::cases::{
+    eight, grid, led_elsewhere, live, maximal, signs, Case, ThereAndBack, Touched, MIXED_RULE,
+    STRICT_RULE,
+};
 use measure::clock::{in_turns, microseconds, middle, worst, Timed};
 use measure::rooms::Rooms;
-use measure::sides::Side;
+use measure::sides::{Side, SIDES};
 
 /// How many different moves are deleted and inserted again, one at a time.
 const SPREAD: usize = 32;
 
 /// Prints one row.
 fn row(name: &str, timed: Timed) {
-    let ratio = timed.ours / timed.ordinary;
-    let (ours, ordinary) = (timed.ours, timed.ordinary);
-    println!("{name:<52} {ours:>10.3} {ordinary:>12.3} {ratio:>8.2}");
+    let [ours, ordinary, strong] = timed;
+    let (over, beside) = (ours / ordinary, ours / strong);
+    println!("{name:<60} {ours:>10.3} {ordinary:>12.3} {strong:>10.3} {over:>14.2} {beside:>12.2}");
 }
 
-/// Rooms of both versions with a model loaded.
+/// Rooms of each version with a model loaded.
 struct Loaded {
-    ours: Rooms,
-    ordinary: Rooms,
+    rooms: [Rooms; SIDES],
 }
 
 impl Loaded {
-    /// Loads a model into both.
+    /// Loads a model into all.
     fn new(case: &Case) -> Loaded {
-        let mut rooms = Rooms::most();
-        Side::Ours.load(&case.bytes, &mut rooms).unwrap();
-        Loaded {
-            ours: rooms.clone(),
-            ordinary: rooms,
-        }
+        let rooms = Side::ALL.map(|side| {
+            let mut rooms = Rooms::most();
+            side.load(&case.bytes, &mut rooms).unwrap();
+            rooms
+        });
+        let loaded = Loaded { rooms };
+        loaded.agree();
+        loaded
     }
 
     /// The rooms of one version.
     fn of(&mut self, side: Side) -> &mut Rooms {
-        match side {
-            Side::Ours => &mut self.ours,
-            Side::Ordinary => &mut self.ordinary,
-        }
+        &mut self.rooms[side as usize]
+    }
+
+    /// All rooms must be equal.
+    fn agree(&self) {
+        let [first, others @ ..] = &self.rooms;
+        others.iter().for_each(|other| assert_eq!(first, other));
     }
 
     /// Times N batches, each applied where the one before it left the rooms; the last one leaves them as they were.
@@ -53,8 +60,22 @@ impl Loaded {
                 })
             })
         });
-        assert_eq!(self.ours, self.ordinary);
+        self.agree();
         times
+    }
+
+    /// Times batches and their undoings, so many times each. Every round goes through all of them, so that a busy moment of
+    /// the machine does not fall on one of them alone. The first is made and undone once in front and not counted: the calls
+    /// that a version makes directly after another are slower, and the worst would be these, whatever they change.
+    fn there_and_back(&mut self, rounds: usize, changes: &[ThereAndBack]) -> Vec<Timed> {
+        let batches: [&[u8]; 2 + 2 * SPREAD] = std::array::from_fn(|i| {
+            let one = &changes[(i / 2).saturating_sub(1)];
+            match i % 2 {
+                0 => &one.there[..],
+                _ => &one.back,
+            }
+        });
+        self.batches(rounds, batches)[2..].to_vec()
     }
 }
 
@@ -67,20 +88,15 @@ fn time_load(case: &Case, rounds: usize) -> Timed {
             black_box(side.load(black_box(&case.bytes), rooms)).unwrap();
         })]
     });
-    assert_eq!(loaded.ours, loaded.ordinary);
+    loaded.agree();
     timed
 }
 
-/// Deletes and inserts single moves, spread over the table: the figures of the deletes and those of the inserts. Every round
-/// goes through all the moves, so that a busy moment of the machine does not fall on one of them alone.
+/// Deletes and inserts single moves, spread over the table: the figures of the deletes and those of the inserts.
 fn time_single(case: &Case, rounds: usize) -> [Vec<Timed>; 2] {
     let moves = case.spread(SPREAD);
     let singles: Vec<_> = moves.iter().map(|m| case.changes(&[*m], &[])).collect();
-    let batches: [&[u8]; 2 * SPREAD] = std::array::from_fn(|i| match i % 2 {
-        0 => &singles[i / 2].there[..],
-        _ => &singles[i / 2].back,
-    });
-    let times = Loaded::new(case).batches(rounds, batches);
+    let times = Loaded::new(case).there_and_back(rounds, &singles);
     [0, 1].map(|back| times.iter().skip(back).step_by(2).copied().collect())
 }
 
@@ -109,6 +125,23 @@ fn row_of_64(case: &Case, rounds: usize) {
         &format!("{}: batch of 64 changes", case.name),
         middle(&times),
     );
+}
+
+/// Batches that touch only what the first of eight blocks names, only what the last names, or nothing.
+fn rows_of_eight(rounds: usize) {
+    let case = eight();
+    let name = &case.name;
+    for (touched, which) in [(Touched::First, "first"), (Touched::Last, "last")] {
+        let changes = led_elsewhere(&case, touched, SPREAD as u16);
+        let times = Loaded::new(&case).there_and_back(rounds, &changes);
+        row(
+            &format!("{name}: a batch that touches only what the {which} names"),
+            middle(&times),
+        );
+    }
+    let nothing = case.changes(&[], &[]).there;
+    let [timed] = Loaded::new(&case).batches(rounds, [&nothing]);
+    row(&format!("{name}: a batch of no changes"), timed);
 }
 
 /// Questions about every pair, and the writing of the model.
@@ -163,13 +196,14 @@ fn main() {
     let argument = std::env::args().nth(1);
     let rounds = argument.map_or(51, |word| word.parse().expect("a number of rounds"));
     println!(
-        "{:<52} {:>10} {:>12} {:>8}",
-        "case", "ours µs", "ordinary µs", "ratio"
+        "{:<60} {:>10} {:>12} {:>10} {:>14} {:>12}",
+        "case", "ours µs", "ordinary µs", "strong µs", "ours/ordinary", "ours/strong"
     );
     rows_of(&grid(16, &STRICT_RULE), rounds);
     rows_of(&grid(16, &MIXED_RULE), rounds);
     rows_of(&maximal(), rounds);
     row_of_64(&maximal(), rounds);
+    rows_of_eight(rounds);
     rows_of_growth(rounds);
     rows_of_reading(&grid(16, &STRICT_RULE), rounds);
     rows_of_reading(&maximal(), rounds);

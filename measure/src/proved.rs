@@ -29,6 +29,8 @@ pub fn load(bytes: &[u8], rooms: &mut Rooms) -> Result<(), Refusal> {
         &mut rooms.values,
         &mut rooms.marks,
         &mut rooms.moves,
+        &mut rooms.work.index,
+        &mut rooms.work.queue,
     ))
     .map(|_| ())
 }
@@ -44,6 +46,8 @@ pub fn batch(bytes: &[u8], rooms: &mut Rooms) -> Result<Report, Refusal> {
         &mut rooms.values,
         &mut rooms.marks,
         &mut rooms.moves,
+        &mut rooms.work.index,
+        &mut rooms.work.queue,
         &mut report,
     ))?;
     let [shift_visits, settle_visits, net] = report;

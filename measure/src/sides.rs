@@ -1,22 +1,30 @@
-//! The two versions by one name each, so that whatever is done to one is done to the other.
+//! The versions by one name each, so that whatever is done to one is done to the others.
 
 use crate::answers::{Refusal, Report};
 use crate::rooms::Rooms;
-use crate::{ordinary, proved};
+use crate::{ordinary, proved, strong};
 
-/// The proved library, or the ordinary version.
+/// The proved library, the ordinary version or the strong one.
 #[derive(Clone, Copy, Debug, PartialEq, Eq)]
 pub enum Side {
     Ours,
     Ordinary,
+    Strong,
 }
 
+/// How many versions there are.
+pub const SIDES: usize = 3;
+
 impl Side {
+    /// All of them.
+    pub const ALL: [Side; SIDES] = [Side::Ours, Side::Ordinary, Side::Strong];
+
     /// Reads a model into the rooms.
     pub fn load(self, bytes: &[u8], rooms: &mut Rooms) -> Result<(), Refusal> {
         match self {
             Side::Ours => proved::load(bytes, rooms),
             Side::Ordinary => ordinary::load(bytes, rooms),
+            Side::Strong => strong::load(bytes, rooms),
         }
     }
 
@@ -25,6 +33,7 @@ impl Side {
         match self {
             Side::Ours => proved::batch(bytes, rooms),
             Side::Ordinary => ordinary::batch(bytes, rooms),
+            Side::Strong => strong::batch(bytes, rooms),
         }
     }
 
@@ -33,6 +42,7 @@ impl Side {
         match self {
             Side::Ours => proved::write(rooms, out),
             Side::Ordinary => ordinary::write(rooms, out),
+            Side::Strong => strong::write(rooms, out),
         }
     }
 
@@ -41,6 +51,7 @@ impl Side {
         match self {
             Side::Ours => proved::ask(rooms, state, variable),
             Side::Ordinary => ordinary::ask(rooms, state, variable),
+            Side::Strong => strong::ask(rooms, state, variable),
         }
     }
 }

@@ -1,19 +1,12 @@
-//! The ordinary version and the proved library agree on every answer and on every room, so that nobody compares the speed of
-//! a wrong program.
+//! All versions agree on every answer and on every room, so that nobody compares the speed of a wrong program.
 
 mod common;
 
-use common::parts;
+use common::{parts, Sides, LONG};
+use measure::answers::Refusal;
 use measure::rooms::Rooms;
-use measure::sides::Side;
 use reference::generate::{generate, generate_family, Family};
 use reference::random::Random;
-
-/// The rooms of both versions, which must stay equal.
-struct Both {
-    ours: Rooms,
-    ordinary: Rooms,
-}
 
 /// How often each thing was seen, so that a test knows that it tested something.
 #[derive(Default)]
@@ -24,85 +17,61 @@ struct Seen {
 }
 
 impl Seen {
-    /// Counts an answer, accepted or refused.
-    fn count(&mut self, answer: Option<u32>, accepted: fn(&mut Seen) -> &mut usize) {
-        match answer {
-            None => *accepted(self) += 1,
-            Some(number) => self.refusals[number as usize] += 1,
+    /// Counts an answer, and tells whether it was accepted.
+    fn count<T>(
+        &mut self,
+        answer: Result<T, Refusal>,
+        accepted: fn(&mut Seen) -> &mut usize,
+    ) -> bool {
+        match &answer {
+            Ok(_) => *accepted(self) += 1,
+            Err(refusal) => self.refusals[refusal.number as usize] += 1,
         }
+        answer.is_ok()
+    }
+
+    /// Loads a model, and tells whether it was accepted.
+    fn load(&mut self, sides: &mut Sides, bytes: &[u8]) -> bool {
+        self.count(sides.load(bytes), |seen| &mut seen.loads)
+    }
+
+    /// Applies a batch.
+    fn batch(&mut self, sides: &mut Sides, bytes: &[u8]) {
+        self.count(sides.batch(bytes), |seen| &mut seen.batches);
     }
 }
 
-impl Both {
-    /// Two copies of the same rooms.
-    fn of(rooms: Rooms) -> Both {
-        Both {
-            ours: rooms.clone(),
-            ordinary: rooms,
-        }
-    }
-
-    /// Loads into both, and answers whether it was accepted.
-    fn load(&mut self, bytes: &[u8], seen: &mut Seen) -> bool {
-        let ours = Side::Ours.load(bytes, &mut self.ours);
-        let ordinary = Side::Ordinary.load(bytes, &mut self.ordinary);
-        assert_eq!(ours, ordinary, "load {bytes:?}");
-        assert_eq!(self.ours, self.ordinary, "rooms after load {bytes:?}");
-        seen.count(ours.err().map(|r| r.number), |s| &mut s.loads);
-        ours.is_ok()
-    }
-
-    /// Applies a batch to both.
-    fn batch(&mut self, bytes: &[u8], seen: &mut Seen) {
-        let before = self.ours.clone();
-        let ours = Side::Ours.batch(bytes, &mut self.ours);
-        let ordinary = Side::Ordinary.batch(bytes, &mut self.ordinary);
-        assert_eq!(ours, ordinary, "batch {bytes:?} on {before:?}");
-        assert_eq!(
-            self.ours, self.ordinary,
-            "rooms after {bytes:?} on {before:?}"
-        );
-        seen.count(ours.err().map(|r| r.number), |s| &mut s.batches);
-    }
-
-    /// Writes both into rooms of a length, and compares all of what they hold.
-    fn write(&self, room: usize) {
-        let (mut ours, mut ordinary) = (vec![7; room], vec![7; room]);
-        let answer = Side::Ours.write(&self.ours, &mut ours);
-        assert_eq!(answer, Side::Ordinary.write(&self.ordinary, &mut ordinary));
-        assert_eq!(ours, ordinary);
-    }
-
-    /// Asks both for a pair, in range or just past it.
-    fn ask(&self, random: &mut Random) {
-        let state = random.below(self.ours.session[0] as usize % 300 + 2) as u16;
-        let variable = random.below(self.ours.session[3] as usize % 40 + 2) as u8;
-        let ours = Side::Ours.ask(&self.ours, state, variable);
-        assert_eq!(ours, Side::Ordinary.ask(&self.ordinary, state, variable));
-    }
+/// Asks for a pair, in range or just past it.
+fn ask_some(sides: &mut Sides, random: &mut Random) {
+    let session = sides.rooms().session;
+    let state = random.below(session[0] as usize % 300 + 2) as u16;
+    let variable = random.below(session[3] as usize % 40 + 2) as u8;
+    let _ = sides.ask(state, variable);
 }
 
-/// Runs a stream through both versions, with rooms full of what no load may depend on.
+/// Runs a stream, with rooms full of what no load may depend on.
 fn run(bytes: &[u8], random: &mut Random, seen: &mut Seen) {
     let mut rooms = Rooms::most();
     rooms.values.fill(9);
     rooms.marks.fill(9);
     rooms.moves.fill(77);
-    let mut both = Both::of(rooms);
+    rooms.work.index.fill(7_777);
+    rooms.work.queue.fill(7_777);
+    let mut sides = Sides::of(&rooms);
     let parts = parts(bytes);
     let Some((model, batches)) = parts.split_first() else {
-        both.load(&[], seen);
+        seen.load(&mut sides, &[]);
         return;
     };
-    if !both.load(model, seen) {
+    if !seen.load(&mut sides, model) {
         return;
     }
     for batch in batches {
-        both.batch(batch, seen);
-        both.ask(random);
+        seen.batch(&mut sides, batch);
+        ask_some(&mut sides, random);
     }
-    both.write(9_000);
-    both.write(random.below(3_000));
+    sides.write(LONG).unwrap();
+    let _ = sides.write(random.below(3_000));
 }
 
 #[test]
@@ -122,7 +91,8 @@ fn spoil(rooms: &mut Rooms, random: &mut Random) {
     let states = rooms.session[0] as usize;
     let pairs = states * rooms.session[3] as usize;
     let count = rooms.session[5] as usize;
-    match random.below(11) {
+    let index = states * rooms.session[1] as usize + 1_024;
+    match random.below(13) {
         0 => rooms.session[random.below(8)] = random.bits() as u32 >> random.below(32),
         1 => rooms.session[5] = random.below(1_030) as u32,
         9 => rooms.session[7] ^= 1,
@@ -135,6 +105,11 @@ fn spoil(rooms: &mut Rooms, random: &mut Random) {
         5 => rooms.marks[random.below(pairs)] = random.below(5) as u8,
         6 if count > 0 => rooms.moves[random.below(count)] ^= 1 << random.below(32),
         7 => rooms.values.truncate(random.between(pairs / 2, pairs)),
+        10 => rooms.work.index.truncate(random.between(index / 2, index)),
+        11 => rooms
+            .work
+            .queue
+            .truncate(random.between(pairs / 2, pairs + 1)),
         8 => rooms.marks.truncate(random.between(pairs / 2, pairs)),
         _ => rooms.labels.truncate(random.between(states / 2, states)),
     }
@@ -155,18 +130,18 @@ fn run_meddled(seed: u64, family: Family, meddle: fn(&mut Rooms, &mut Random), s
     let bytes = generate_family(seed, family).bytes;
     let mut random = Random::new(seed);
     let parts = parts(&bytes);
-    let mut good = Both::of(Rooms::most());
-    if !good.load(parts[0], seen) {
+    let mut good = Sides::new();
+    if !seen.load(&mut good, parts[0]) {
         return;
     }
     for batch in &parts[1..] {
-        let mut rooms = good.ours.clone();
+        let mut rooms = good.rooms().clone();
         meddle(&mut rooms, &mut random);
-        let mut both = Both::of(rooms);
-        both.ask(&mut random);
-        both.write(9_000);
-        both.batch(batch, seen);
-        good.batch(batch, seen);
+        let mut meddled = Sides::of(&rooms);
+        ask_some(&mut meddled, &mut random);
+        let _ = meddled.write(LONG);
+        seen.batch(&mut meddled, batch);
+        seen.batch(&mut good, batch);
     }
 }
 
@@ -202,10 +177,19 @@ fn short_rooms_agree() {
         let most = [256, 32, 8_192, 8_192, 1_024];
         let least = random.pick(&[0, 50, 95]);
         let lengths = most.map(|n: usize| n * random.between(least, 100) / 100);
-        let mut both = Both::of(Rooms::of(lengths));
+        let mut rooms = Rooms::of(lengths);
+        rooms
+            .work
+            .index
+            .truncate(5_120 * random.between(least, 100) / 100);
+        rooms
+            .work
+            .queue
+            .truncate(8_193 * random.between(least, 100) / 100);
+        let mut sides = Sides::of(&rooms);
         let parts = parts(&bytes);
-        if both.load(parts[0], &mut seen) {
-            parts[1..].iter().for_each(|b| both.batch(b, &mut seen));
+        if seen.load(&mut sides, parts[0]) {
+            parts[1..].iter().for_each(|b| seen.batch(&mut sides, b));
         }
     }
     assert!(seen.loads > 100 && seen.refusals[13] > 100 && seen.refusals[10] > 10);

@@ -1,14 +1,11 @@
-//! Models with a sign on each equation in place of blocks. The ordinary version alone gives them the values of the same drawing
-//! with blocks and refuses what document 02 refuses; the proved library agrees with it on every answer and on every room.
+//! Models with a sign on each equation in place of blocks: all versions give them the values of the same drawing with blocks,
+//! and refuse what document 02 refuses.
 
 mod common;
 
-use common::parts;
-use measure::answers::{Refusal, Report};
-use measure::cases::rewritten;
-use measure::rooms::Rooms;
-use measure::sides::Side;
-use reference::generate::generate;
+use common::{at_start, loaded_parts, refused, Sides, LONG};
+use measure::answers::Report;
+use measure::cases::{eight, maximal, rewritten};
 
 /// Two states, one action, one greatest variable: model G of document 01 without its block.
 const G: [u8; 13] = [1, 2, 0, 1, 0, 1, 0, 11, 1, 6, 0, 0, 6];
@@ -26,86 +23,69 @@ fn model(equations: &[[u8; 4]]) -> Vec<u8> {
 
 /// A stream of the generator whose model has blocks and loads, cut into its parts.
 fn with_blocks(seed: u64) -> Option<Vec<Vec<u8>>> {
-    let bytes = generate(seed).bytes;
-    let parts: Vec<Vec<u8>> = parts(&bytes).iter().map(|part| part.to_vec()).collect();
-    let model = parts.first()?;
-    let loads = Side::Ordinary.load(model, &mut Rooms::most()).is_ok();
-    (loads && model[6] != 0).then_some(parts)
+    loaded_parts(seed, |rooms| rooms.session[4] != 0)
 }
 
-/// What the ordinary version refuses a model with.
-fn refused(bytes: &[u8]) -> Option<(u32, usize)> {
-    let answer = Side::Ordinary.load(bytes, &mut Rooms::most());
-    answer.err().map(|refusal| (refusal.number, refusal.place))
-}
-
-/// What a model that loads is written as.
-fn written(side: Side, rooms: &Rooms) -> Vec<u8> {
-    let mut out = vec![0; 9_000];
-    let length = side.write(rooms, &mut out).unwrap();
-    out.truncate(length);
-    out
+/// The largest models that are timed, with a batch and the way back.
+fn timed() -> [Vec<Vec<u8>>; 2] {
+    [maximal(), eight()].map(|case| {
+        let many = case.changes(&case.spread(32), &case.absent(32));
+        vec![case.bytes, many.there, many.back]
+    })
 }
 
 #[test]
 fn the_same_drawing_has_the_same_values() {
     let mut batches = 0;
-    for parts in (0..600).filter_map(with_blocks) {
-        let (mut blocks, mut signs) = (Rooms::most(), Rooms::most());
+    for parts in (0..600).filter_map(with_blocks).chain(timed()) {
         let bytes = rewritten(&parts[0]);
-        Side::Ordinary.load(&parts[0], &mut blocks).unwrap();
-        Side::Ordinary.load(&bytes, &mut signs).unwrap();
-        assert_eq!(written(Side::Ordinary, &signs), bytes);
-        assert_eq!(signs.values, blocks.values);
+        let mut blocks = Sides::loaded(&parts[0]);
+        let mut signs = Sides::loaded(&bytes);
+        assert_eq!(signs.write(LONG).unwrap(), bytes);
+        assert_eq!(signs.rooms().values, blocks.rooms().values);
         for batch in &parts[1..] {
-            let one = Side::Ordinary.batch(batch, &mut blocks).map(|r| r.net);
-            let other = Side::Ordinary.batch(batch, &mut signs).map(|r| r.net);
-            assert_eq!(one, other);
+            let one = blocks.batch(batch).map(|r| r.net);
+            assert_eq!(one, signs.batch(batch).map(|r| r.net));
+            let (blocks, signs) = (blocks.rooms(), signs.rooms());
             assert_eq!(signs.values, blocks.values);
             assert_eq!(signs.moves, blocks.moves);
             assert_eq!(signs.session[5..], blocks.session[5..]);
             batches += 1;
         }
+        signs.write(LONG).unwrap();
     }
     assert!(batches > 1_000);
 }
 
 #[test]
 fn case_a_goes_as_with_a_block() {
-    let mut rooms = Rooms::most();
-    Side::Ordinary.load(&G, &mut rooms).unwrap();
-    assert_eq!(rooms.session, [2, 1, 0, 1, 0, 0, 0, 0]);
-    assert_eq!(rooms.equations[0], 6 + (1 << 24));
+    let mut sides = Sides::loaded(&G);
+    assert_eq!(sides.rooms().session, [2, 1, 0, 1, 0, 0, 0, 0]);
+    assert_eq!(sides.rooms().equations[0], 6 + (1 << 24));
     let batch = [7, 0, 0, 0, 0, 8, 0, 0, 0, 0, 0, 6];
     let report = Report {
         shift_visits: 1,
         settle_visits: 0,
         net: 1,
     };
-    assert_eq!(Side::Ordinary.batch(&batch, &mut rooms), Ok(report));
-    assert_eq!(
-        (&rooms.values[..2], &rooms.marks[..2]),
-        (&[1, 0][..], &[1, 0][..])
-    );
-    assert_eq!(written(Side::Ordinary, &rooms).len(), 19);
+    assert_eq!(sides.batch(&batch), Ok(report));
+    assert_eq!(sides.rooms().values[..2], [1, 0]);
+    assert_eq!(sides.rooms().marks[..2], [1, 0]);
+    assert_eq!(sides.write(LONG).unwrap().len(), 19);
 }
 
 #[test]
 fn components_are_numbered_by_what_they_lead_to() {
-    let mut rooms = Rooms::most();
     // X0 names X1 and X3, X1 and X2 name each other, X3 names nothing: they reach 1111, 0110, 0110 and 1000.
     let equations = [[1, 4, 1, 3], [0, 6, 0, 2], [0, 7, 0, 1], [1, 0, 0, 0]];
-    Side::Ordinary.load(&model(&equations), &mut rooms).unwrap();
-    let tops: Vec<u32> = rooms.equations[..4].iter().map(|word| word >> 24).collect();
+    let sides = Sides::loaded(&model(&equations));
+    let words = &sides.rooms().equations[..4];
+    let tops: Vec<u32> = words.iter().map(|word| word >> 24).collect();
     assert_eq!(tops, [2 * 2 + 1, 0, 0, 2 + 1]);
     for x in 0..4 {
-        let mut spoiled = rooms.clone();
-        spoiled.equations[x] ^= 2 << 24;
-        let refusal = Refusal {
-            number: 12,
-            place: 0,
-        };
-        assert_eq!(Side::Ordinary.write(&spoiled, &mut [0; 99]), Err(refusal));
+        let mut spoiled = sides.clone();
+        spoiled.change(|rooms| rooms.equations[x] ^= 2 << 24);
+        assert_eq!(spoiled.write(LONG), at_start(12));
     }
 }
 
@@ -132,24 +112,4 @@ fn signs_are_refused_as_document_02_says() {
     let mut sign = G.to_vec();
     sign[6] = 1;
     assert_eq!(refused(&sign), Some((2, 7)));
-}
-
-#[test]
-fn both_versions_agree() {
-    for parts in (0..600).filter_map(with_blocks) {
-        let (mut ours, mut ordinary) = (Rooms::most(), Rooms::most());
-        let bytes = rewritten(&parts[0]);
-        Side::Ours.load(&bytes, &mut ours).unwrap();
-        Side::Ordinary.load(&bytes, &mut ordinary).unwrap();
-        assert_eq!(ours, ordinary);
-        for batch in &parts[1..] {
-            let answer = Side::Ours.batch(batch, &mut ours);
-            assert_eq!(answer, Side::Ordinary.batch(batch, &mut ordinary));
-            assert_eq!(ours, ordinary);
-        }
-        assert_eq!(
-            written(Side::Ours, &ours),
-            written(Side::Ordinary, &ordinary)
-        );
-    }
 }

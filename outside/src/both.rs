@@ -35,6 +35,8 @@ pub fn same(call: Call, wanted: &Rooms, found: &Rooms) -> Result<(), String> {
         .or_else(|| differs("values", &wanted.values, &found.values))
         .or_else(|| differs("marks", &wanted.marks, &found.marks))
         .or_else(|| differs("moves", &wanted.moves, &found.moves))
+        .or_else(|| differs("index", &wanted.index, &found.index))
+        .or_else(|| differs("queue", &wanted.queue, &found.queue))
         .or_else(|| differs("report", &wanted.report, &found.report))
         .or_else(|| differs("out", &wanted.out, &found.out));
     match unlike {

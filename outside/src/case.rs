@@ -94,10 +94,28 @@ impl<'a> Run<'a> {
         Ok(answer)
     }
 
+    /// Lends other rooms to work in, of other lengths and full of other numbers, but for now and then those that the call before
+    /// has left.
+    fn other_work(&mut self, call: Call) {
+        if self.random.chance(90) {
+            let needs = self.needs(call);
+            self.rooms.lend_work(&mut self.random, needs);
+        }
+    }
+
+    /// How long the rooms must be for a call.
+    fn needs(&self, call: Call) -> Needs {
+        match call {
+            Call::Load(bytes) => Needs::of_model(bytes),
+            _ => Needs::of_session(&self.rooms.session),
+        }
+    }
+
     /// Hands one part over and looks at what is there then; after a refusal, which has left everything alone, only now and
     /// then. Before that it may be tried on damaged rooms, and with bytes behind it.
     fn part(&mut self, is_model: bool, part: &[u8]) -> Result<bool, String> {
         let call = handing(is_model, part);
+        self.other_work(call);
         let tries = if is_model {
             4
         } else {
@@ -132,10 +150,7 @@ impl<'a> Run<'a> {
     /// Damages the rooms in one way or more, makes the call and looks, and puts the rooms back.
     fn aside(&mut self, call: Call) -> Result<(), String> {
         let (rooms, solved) = (self.rooms.clone(), self.solved);
-        let needs = match call {
-            Call::Load(bytes) => Needs::of_model(bytes),
-            _ => Needs::of_session(&self.rooms.session),
-        };
+        let needs = self.needs(call);
         let mut ways = vec![self.random.pick(&DAMAGES)];
         while self.random.chance(30) {
             ways.push(self.random.pick(&DAMAGES));
@@ -226,7 +241,7 @@ impl<'a> Run<'a> {
         let call = Call::Load(&signs);
         let needs = Needs::of_model(&signs);
         let mut fresh = Rooms::lend(&mut self.random, needs);
-        fresh.moves.resize(fresh.moves.len().max(needs.moves), 0);
+        fresh.make_move_room(fresh.moves.len().max(needs.moves), needs);
         let told = |what: String| format!("of the model in signs: {what}");
         let answer = both(self.boundary, call, &mut fresh).map_err(told)?;
         self.tally.add(call, answer, &fresh);
@@ -261,7 +276,7 @@ impl<'a> Run<'a> {
     }
 }
 
-/// Puts a session and its model from one set of rooms into the front of others, with all marks 0.
+/// Puts a session and its model from one set of rooms into the front of others, with all marks 0, and clears the rooms to work in.
 fn give_again(from: &Rooms, needs: Needs, to: &mut Rooms) {
     to.session[..SESSION].copy_from_slice(&from.session[..SESSION]);
     to.labels[..needs.labels].copy_from_slice(&from.labels[..needs.labels]);
@@ -269,4 +284,7 @@ fn give_again(from: &Rooms, needs: Needs, to: &mut Rooms) {
     to.values[..needs.pairs].copy_from_slice(&from.values[..needs.pairs]);
     to.marks[..needs.pairs].fill(0);
     to.moves[..needs.moves].copy_from_slice(&from.moves[..needs.moves]);
+    let index = needs.index(to.moves.len());
+    to.index[..index].fill(0);
+    to.queue[..needs.queue()].fill(0);
 }

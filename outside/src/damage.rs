@@ -17,6 +17,8 @@ pub enum Damage {
     ShortEquations,
     ShortValues,
     ShortMarks,
+    ShortIndex,
+    ShortQueue,
     /// The move room is shorter than the moves.
     ShortMoves,
     /// The move room has no place, or few, past the moves.
@@ -63,13 +65,15 @@ pub enum Damage {
 use Damage::*;
 
 /// All ways.
-pub const DAMAGES: [Damage; 29] = [
+pub const DAMAGES: [Damage; 31] = [
     ShortSession,
     ShortReport,
     ShortLabels,
     ShortEquations,
     ShortValues,
     ShortMarks,
+    ShortIndex,
+    ShortQueue,
     ShortMoves,
     TightMoves,
     Value,
@@ -104,6 +108,8 @@ pub fn damage(way: Damage, rooms: &mut Rooms, needs: Needs, random: &mut Random)
         ShortEquations => shorten(&mut rooms.equations, needs.equations, random),
         ShortValues => shorten(&mut rooms.values, needs.pairs, random),
         ShortMarks => shorten(&mut rooms.marks, needs.pairs, random),
+        ShortIndex => shorten(&mut rooms.index, needs.index(rooms.moves.len()), random),
+        ShortQueue => shorten(&mut rooms.queue, needs.queue(), random),
         ShortMoves => shorten(&mut rooms.moves, needs.moves, random),
         TightMoves => rooms.moves.truncate(needs.moves + random.below(3)),
         Value => put_byte(&mut rooms.values, needs.pairs, &[2, 2, 3, 128, 255], random),

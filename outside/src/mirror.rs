@@ -32,12 +32,18 @@ fn refused(refusal: Refusal) -> Answer {
     Answer::refused(u32::from(refusal.number), refusal.place as u32)
 }
 
-/// Load, into a session whose rooms are as long as those lent. What they held does not matter.
+/// Load, into a session whose rooms are as long as those lent. What they held does not matter, but that the rooms to work in are
+/// cleared as far as the second program clears them.
 fn load(rooms: &mut Rooms, bytes: &[u8]) -> Result<u32, Refusal> {
-    let mut session = Session::new(lengths(rooms));
+    let mut session = Session {
+        index: rooms.index.clone(),
+        queue: rooms.queue.clone(),
+        ..Session::new(lengths(rooms))
+    };
     reference::load(&mut session, bytes)?;
     put_model(&session, rooms);
     put_table(&session, rooms);
+    put_work(session, rooms);
     Ok(0)
 }
 
@@ -56,12 +62,17 @@ fn batch(rooms: &mut Rooms, bytes: &[u8]) -> Result<u32, Refusal> {
     rooms.report[0] = updated.shift_visits as i64;
     rooms.report[1] = updated.settle_visits as i64;
     rooms.report[2] = updated.net;
+    put_work(session, rooms);
     Ok(0)
 }
 
-/// Write. The answer tells the number of bytes.
+/// Write. No room to work in is lent. The answer tells the number of bytes.
 fn write(rooms: &mut Rooms) -> Result<u32, Refusal> {
-    let session = session_in(rooms);
+    let session = Session {
+        index: vec![],
+        queue: vec![],
+        ..session_in(rooms)
+    };
     reference::write(&session, &mut rooms.out).map(|written| written as u32)
 }
 
@@ -75,6 +86,8 @@ fn ask(rooms: &Rooms, state: State, variable: Variable) -> Result<u32, Refusal> 
         ..Session::new(reference::Rooms {
             values: 0,
             moves: 0,
+            index: 0,
+            queue: 0,
             ..reference::Rooms::most()
         })
     };
@@ -89,6 +102,8 @@ fn lengths(rooms: &Rooms) -> reference::Rooms {
         values: rooms.values.len(),
         marks: rooms.marks.len(),
         moves: rooms.moves.len(),
+        index: rooms.index.len(),
+        queue: rooms.queue.len(),
     }
 }
 
@@ -125,6 +140,8 @@ fn session_in(rooms: &Rooms) -> Session {
         move_count: rooms.session[MOVES] as usize,
         values: by_states(&rooms.values, sizes),
         marks: by_states(&rooms.marks, sizes),
+        index: rooms.index.clone(),
+        queue: rooms.queue.clone(),
         stamp: Some(rooms.session[STAMP]),
     }
 }
@@ -231,6 +248,11 @@ fn tops(session: &Session) -> Vec<u8> {
         tops.extend(vec![top; usize::from(block.variables)]);
     }
     tops
+}
+
+/// Puts the rooms to work in back as the second program left them.
+fn put_work(session: Session, rooms: &mut Rooms) {
+    (rooms.index, rooms.queue) = (session.index, session.queue);
 }
 
 /// Puts the values, the marks, the moves and the numbers of a session into the rooms.

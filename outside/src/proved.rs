@@ -49,6 +49,8 @@ struct Lent {
     values: Fenced<u8>,
     marks: Fenced<u8>,
     moves: Fenced<u32>,
+    index: Fenced<u16>,
+    queue: Fenced<u16>,
     report: Fenced<i64>,
     out: Fenced<u8>,
 }
@@ -63,6 +65,8 @@ impl Lent {
             values: Fenced::of(&rooms.values),
             marks: Fenced::of(&rooms.marks),
             moves: Fenced::of(&rooms.moves),
+            index: Fenced::of(&rooms.index),
+            queue: Fenced::of(&rooms.queue),
             report: Fenced::of(&rooms.report),
             out: Fenced::of(&rooms.out),
         }
@@ -73,12 +77,15 @@ impl Lent {
         let session = self.session.lent();
         let (labels, equations) = (self.labels.lent(), self.equations.lent());
         let (values, marks) = (self.values.lent(), self.marks.lent());
+        let (index, queue) = (self.index.lent(), self.queue.lent());
         let (moves, report) = (self.moves.lent(), self.report.lent());
         let out = self.out.lent();
         match call {
-            Call::Load(bytes) => ffi::load(bytes, session, labels, equations, values, marks, moves),
+            Call::Load(bytes) => ffi::load(
+                bytes, session, labels, equations, values, marks, moves, index, queue,
+            ),
             Call::Batch(bytes) => ffi::batch(
-                session, bytes, labels, equations, values, marks, moves, report,
+                session, bytes, labels, equations, values, marks, moves, index, queue, report,
             ),
             Call::Write => ffi::write(session, labels, equations, values, marks, moves, out),
             Call::Ask(state, variable) => ffi::ask(session, values, state, variable),
@@ -93,6 +100,8 @@ impl Lent {
         self.values.give_back(&mut rooms.values);
         self.marks.give_back(&mut rooms.marks);
         self.moves.give_back(&mut rooms.moves);
+        self.index.give_back(&mut rooms.index);
+        self.queue.give_back(&mut rooms.queue);
         self.report.give_back(&mut rooms.report);
         self.out.give_back(&mut rooms.out);
     }

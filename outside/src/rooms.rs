@@ -23,6 +23,9 @@ pub struct Rooms {
     pub values: Vec<u8>,
     pub marks: Vec<u8>,
     pub moves: Vec<u32>,
+    /// The rooms to work in.
+    pub index: Vec<u16>,
+    pub queue: Vec<u16>,
     pub report: Vec<i64>,
     pub out: Vec<u8>,
 }
@@ -34,36 +37,51 @@ pub struct Needs {
     pub equations: usize,
     pub pairs: usize,
     pub moves: usize,
+    /// How many places there are of a state and an action.
+    pub heads: usize,
 }
 
+/// The most states, actions and variables by which a room is lent, all of them past their limits.
+const WIDEST: [usize; 3] = [300, 20, 40];
+
 impl Needs {
-    /// What the sizes record and the move records of a model ask for, whether or not they are good. Numbers far past every
-    /// limit are cut, so that no room is huge.
-    pub fn of_model(bytes: &[u8]) -> Needs {
-        let [1, low, high, _, _, variables, _, ..] = *bytes else {
-            return Needs::default();
-        };
-        let labels = usize::from(u16::from_le_bytes([low, high])).min(300);
-        let equations = usize::from(variables).min(40);
+    /// What so many states, actions, variables and moves ask for, whether or not they are good. Numbers far past every limit are
+    /// cut, so that no room is huge.
+    fn new(sizes: [usize; 3], moves: usize) -> Needs {
+        let [labels, actions, equations] = [0, 1, 2].map(|at| sizes[at].min(WIDEST[at]));
         Needs {
             labels,
             equations,
             pairs: labels * equations,
-            moves: count_moves(bytes),
+            moves,
+            heads: labels * actions,
         }
     }
 
-    /// What the sizes of a session ask for, cut in the same way.
+    /// How long the index must be where the room for moves is so long.
+    pub fn index(&self, move_room: usize) -> usize {
+        self.heads + move_room.min(1_024)
+    }
+
+    /// How long the queue must be.
+    pub fn queue(&self) -> usize {
+        self.pairs + 1
+    }
+
+    /// What the sizes record and the move records of a model ask for.
+    pub fn of_model(bytes: &[u8]) -> Needs {
+        let [1, low, high, actions, _, variables, _, ..] = *bytes else {
+            return Needs::default();
+        };
+        let states = u16::from_le_bytes([low, high]);
+        let sizes = [states, u16::from(actions), u16::from(variables)];
+        Needs::new(sizes.map(usize::from), count_moves(bytes))
+    }
+
+    /// What the sizes of a session ask for.
     pub fn of_session(session: &[u32]) -> Needs {
-        let number =
-            |at: usize, most: usize| session.get(at).map_or(0, |n| (*n as usize).min(most));
-        let (labels, equations) = (number(0, 300), number(3, 40));
-        Needs {
-            labels,
-            equations,
-            pairs: labels * equations,
-            moves: number(MOVES, 2_000),
-        }
+        let number = |at: usize| session.get(at).map_or(0, |n| *n as usize);
+        Needs::new([0, 1, 3].map(number), number(MOVES).min(2_000))
     }
 }
 
@@ -101,6 +119,15 @@ fn known_words(random: &mut Random, length: usize) -> Vec<u32> {
         .collect()
 }
 
+/// The same as words of 16 bits.
+fn known_halves(random: &mut Random, length: usize) -> Vec<u16> {
+    let start = random.bits() as u16;
+    let places = 0..length;
+    places
+        .map(|at| start.wrapping_add((at as u16).wrapping_mul(0x9e37)))
+        .collect()
+}
+
 /// How much longer than needed a room is to be.
 fn extra(random: &mut Random) -> usize {
     match random.below(10) {
@@ -127,16 +154,34 @@ impl Rooms {
     pub fn lend(random: &mut Random, needs: Needs) -> Rooms {
         let [session, labels, equations, values, marks, report] = [(); 6].map(|_| extra(random));
         let moves = room_for_moves(random, needs.moves);
-        Rooms {
+        let mut rooms = Rooms {
             session: known_words(random, SESSION + session),
             labels: known_words(random, needs.labels + labels),
             equations: known_words(random, needs.equations + equations),
             values: known_bytes(random, needs.pairs + values),
             marks: known_bytes(random, needs.pairs + marks),
             moves: known_words(random, moves),
+            index: vec![],
+            queue: vec![],
             report: (0..REPORT + report).map(|_| random.bits() as i64).collect(),
             out: vec![],
-        }
+        };
+        rooms.lend_work(random, needs);
+        rooms
+    }
+
+    /// Lends other rooms to work in, at least as long as a model needs in the room for moves that there is.
+    pub fn lend_work(&mut self, random: &mut Random, needs: Needs) {
+        let [index, queue] = [(); 2].map(|_| extra(random));
+        self.index = known_halves(random, needs.index(self.moves.len()) + index);
+        self.queue = known_halves(random, needs.queue() + queue);
+    }
+
+    /// Makes the room for moves so long, and the index long enough for it.
+    pub fn make_move_room(&mut self, places: usize, needs: Needs) {
+        self.moves.resize(places, 0xfafa_fafa);
+        let index = needs.index(places).max(self.index.len());
+        self.index.resize(index, 0xfafa);
     }
 
     /// The most bytes that the model of this session can be spelled with.

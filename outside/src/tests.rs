@@ -23,7 +23,7 @@ const BACK: [u8; 12] = [7, 1, 0, 0, 0, 9, 0, 0, 0, 0, 0, 6];
 /// Rooms for G, longer than needed, with G loaded and A applied by a boundary.
 fn after_a(boundary: &dyn Boundary) -> Rooms {
     let mut rooms = Rooms::lend(&mut Random::new(1), Needs::of_model(&G));
-    rooms.moves.resize(1_030, 0xfafa_fafa);
+    rooms.make_move_room(1_030, Needs::of_model(&G));
     assert_eq!(boundary.call(Call::Load(&G), &mut rooms).number, 0);
     assert_eq!(boundary.call(Call::Batch(&A), &mut rooms).number, 0);
     rooms
@@ -61,7 +61,7 @@ const E_BATCH: [u8; 12] = [7, 3, 1, 0, 0, 9, 0, 0, 0, 1, 0, 6];
 /// Rooms with a model loaded by a boundary.
 fn with_model(boundary: &dyn Boundary, model: &[u8]) -> Rooms {
     let mut rooms = Rooms::lend(&mut Random::new(1), Needs::of_model(model));
-    rooms.moves.resize(1_030, 0xfafa_fafa);
+    rooms.make_move_room(1_030, Needs::of_model(model));
     rooms.out = vec![0; 99];
     assert_eq!(boundary.call(Call::Load(model), &mut rooms).number, 0);
     rooms
@@ -268,6 +268,8 @@ fn each_damage_has_its_number() {
         (ShortEquations, 13),
         (ShortValues, 13),
         (ShortMarks, 13),
+        (ShortIndex, 13),
+        (ShortQueue, 13),
         (ShortMoves, 12),
         (Stamp, 12),
         (Flag, 12),
@@ -282,6 +284,98 @@ fn each_damage_has_its_number() {
         damage(way, &mut rooms, needs, &mut Random::new(5));
         let answer = both(&Proved, Call::Batch(&BACK), &mut rooms).unwrap();
         assert_eq!((answer.number, answer.told), (number, 0), "{way:?}");
+    }
+}
+
+/// Cuts the rooms to work in, or makes them longer.
+fn cut_work(rooms: &mut Rooms, index: usize, queue: usize) {
+    rooms.index.resize(index, 0xfafa);
+    rooms.queue.resize(queue, 0xfafa);
+}
+
+/// Both sides ask for states × actions places of the index and one for each of at most 1,024 moves that there is room for, and
+/// for states × variables places of the queue and one more; they leave these at 0 and no other place changed. E has 2 states, 1
+/// action and 3 variables.
+#[test]
+fn rooms_to_work_in() {
+    let signs = in_signs(&E).unwrap();
+    for (moves, index) in [
+        (2, 4),
+        (3, 5),
+        (1_023, 1_025),
+        (1_024, 1_026),
+        (1_025, 1_026),
+    ] {
+        for model in [&E[..], &signs] {
+            for call in [Call::Load(model), Call::Batch(&E_BATCH)] {
+                let mut lent = with_model(&Proved, model);
+                lent.moves.resize(moves, 0xfafa_fafa);
+                for (less, fewer) in [(1, 0), (0, 1), (1, 1), (index, 7)] {
+                    let mut rooms = lent.clone();
+                    cut_work(&mut rooms, index - less, 7 - fewer);
+                    let answer = both(&Proved, call, &mut rooms);
+                    assert_eq!(answer, Ok(Answer::refused(13, 0)));
+                }
+                for (more, further) in [(0, 0), (1, 0), (0, 1), (90, 9)] {
+                    let mut rooms = lent.clone();
+                    cut_work(&mut rooms, 0, 0);
+                    cut_work(&mut rooms, index + more, 7 + further);
+                    let answer = both(&Proved, call, &mut rooms);
+                    assert_eq!(answer, Ok(Answer::accepted(0)));
+                    let (used, past) = rooms.index.split_at(index);
+                    assert!(used == vec![0; index] && past == vec![0xfafa; more]);
+                    let (used, past) = rooms.queue.split_at(7);
+                    assert!(used == [0; 7] && past == vec![0xfafa; further]);
+                }
+            }
+        }
+    }
+}
+
+/// A change to lent rooms.
+type Change = fn(&mut Rooms);
+
+/// 13 for the rooms to work in comes after 1 to 3 of the sizes record and before the next record; in a batch after 12 for the
+/// sizes, the move count and the flag, before 12 for the rest and before the bytes. A writing and a question have none.
+#[test]
+fn where_rooms_to_work_in_are_asked() {
+    for (index, queue) in [(0, 999), (1_025, 999), (9_999, 0), (9_999, 6)] {
+        let mut rooms = with_model(&Proved, &E);
+        cut_work(&mut rooms, index, queue);
+        let mut bad = E;
+        bad[3] = 17;
+        for (bytes, number) in [
+            (&E[..6], 1),
+            (&E[7..], 2),
+            (&bad, 3),
+            (&E[..7], 13),
+            (&[&E[..7], &[0]].concat(), 13),
+        ] {
+            let due = Answer::refused(number, 0);
+            assert_eq!(both(&Proved, Call::Load(bytes), &mut rooms), Ok(due));
+        }
+        assert!(both(&Proved, Call::Write, &mut rooms)
+            .unwrap()
+            .is_accepted());
+        let asked = both(&Proved, Call::Ask(0, 0), &mut rooms);
+        assert_eq!(asked, Ok(Answer::accepted(1)));
+        let damages: [(Change, u32); 7] = [
+            (|rooms| rooms.session[0] = 257, 12),
+            (|rooms| rooms.session[MOVES] = 1_025, 12),
+            (|rooms| rooms.session[LIVE] = 2, 12),
+            (|rooms| rooms.session[LIVE] = 1, 13),
+            (|rooms| rooms.session[STAMP] += 1, 13),
+            (|rooms| rooms.values[0] = 2, 13),
+            (|rooms| rooms.labels[0] = 2, 13),
+        ];
+        for (damaged, number) in damages {
+            let mut rooms = rooms.clone();
+            damaged(&mut rooms);
+            for bytes in [&E_BATCH[..], &[], &[0]] {
+                let due = Answer::refused(number, 0);
+                assert_eq!(both(&Proved, Call::Batch(bytes), &mut rooms), Ok(due));
+            }
+        }
     }
 }
 
@@ -336,8 +430,57 @@ fn keep_freed(_: Call, _: &mut Answer, before: &Rooms, rooms: &mut Rooms) {
     }
 }
 
+/// How many places of the rooms to work in the session asks for.
+fn work(rooms: &Rooms) -> (usize, usize) {
+    let needs = Needs::of_session(&rooms.session);
+    (needs.index(rooms.moves.len()), needs.queue())
+}
+
 /// Wrong things, each with its name.
-const WRONGS: [(&str, Fault); 18] = [
+const WRONGS: [(&str, Fault); 24] = [
+    (
+        "an index not cleared by a load",
+        |call, answer, before, rooms| {
+            if call.index() == 0 && answer.number == 0 {
+                rooms.index.clone_from(&before.index);
+            }
+        },
+    ),
+    (
+        "the queue's last place not cleared by a batch",
+        |call, answer, before, rooms| {
+            if call.index() == 1 && answer.number == 0 {
+                let (_, queue) = work(rooms);
+                rooms.queue[queue - 1] = before.queue[queue - 1];
+            }
+        },
+    ),
+    ("a place past the index", |call, answer, _, rooms| {
+        if call.index() == 1 && answer.number == 0 {
+            let (index, _) = work(rooms);
+            touch(&mut rooms.index, index);
+        }
+    }),
+    ("a queue cleared by a refusal", |call, answer, _, rooms| {
+        if call.index() == 1 && answer.number == 11 {
+            rooms.queue.fill(0);
+        }
+    }),
+    ("a short queue accepted", |call, answer, before, _| {
+        let (_, queue) = work(before);
+        if call.index() == 1 && answer.number == 13 && before.queue.len() + 1 == queue {
+            *answer = Answer::accepted(0);
+        }
+    }),
+    (
+        "a writing that asks for the index",
+        |call, answer, before, _| {
+            let (index, _) = work(before);
+            if call.index() == 2 && answer.number == 0 && before.index.len() < index {
+                *answer = Answer::refused(13, 0);
+            }
+        },
+    ),
     ("a stamp off by one", |_, answer, _, rooms| {
         touch(
             &mut rooms.session,

@@ -6,7 +6,7 @@ use crate::limits::{MOST_CHANGES, MOST_MOVES};
 use crate::model::Model;
 use crate::records::{Reader, Record, Sizes};
 use crate::refusal::{demand, refuse, Refusal};
-use crate::session::{check, Session};
+use crate::session::{check_to_work, Session};
 use crate::table::{stamp, Move};
 use crate::update::{update, Act, Change};
 
@@ -93,9 +93,10 @@ fn edited(batch: &Batch, table: &[Move]) -> Result<Vec<Move>, Refusal> {
 }
 
 /// Carries out a batch on the session: asks 12, 13 and 12, reads and judges the batch, then moves
-/// the table, the values and the marks. The flag stays. A refusal changes nothing.
+/// the table, the values and the marks, and leaves the rooms to work in cleared. The flag stays. A
+/// refusal changes nothing.
 pub fn batch(session: &mut Session, bytes: &[u8]) -> Result<Updated, Refusal> {
-    let model = check(session)?;
+    let model = check_to_work(session)?;
     let batch = read_batch(bytes, &model.sizes)?;
     let model = judge(&batch, model, session.moves.len())?;
     let pairs = model.sizes.pairs();
@@ -108,6 +109,7 @@ pub fn batch(session: &mut Session, bytes: &[u8]) -> Result<Updated, Refusal> {
     for place in model.moves.len()..places_before {
         session.moves[place] = Move::default();
     }
+    session.clear_work();
     let stamp = stamp(&model.moves);
     session.stamp = session.stamp.map(|_| stamp);
     Ok(Updated {

@@ -16,3 +16,7 @@ pub const MOST_MOVES: usize = 1_024;
 pub const MOST_CHANGES: usize = 64;
 /// The most pairs of a state and a variable.
 pub const MOST_PAIRS: usize = MOST_STATES as usize * MOST_VARIABLES as usize;
+/// The most places that any model needs of the index, one of the two rooms to work in.
+pub const MOST_INDEX: usize = MOST_STATES as usize * MOST_ACTIONS as usize + MOST_MOVES;
+/// The most places that any model needs of the queue, the other room to work in.
+pub const MOST_QUEUE: usize = MOST_PAIRS + 1;

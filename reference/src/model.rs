@@ -220,10 +220,12 @@ impl Reading<'_> {
         }
     }
 
-    /// Takes the sizes: 3 where one lies outside the table, then 13 where a room is too short.
+    /// Takes the sizes: 3 where one lies outside the table, then 13 where a room is too short, one
+    /// to work in like any other.
     fn take_sizes(&mut self, place: usize, sizes: Sizes) -> Result<(), Refusal> {
         demand(sizes.in_table(), 3, place)?;
         demand(self.rooms.hold(&sizes), 13, 0)?;
+        demand(self.rooms.hold_work(&sizes), 13, 0)?;
         self.after_sizes = true;
         self.model.sizes = sizes;
         self.model.labels = vec![0; usize::from(sizes.states)];
@@ -323,8 +325,8 @@ pub struct Loaded {
     pub stamp: u32,
 }
 
-/// Loads a model into the session's rooms with its values solved and all marks 0. A refusal
-/// changes nothing.
+/// Loads a model into the session's rooms with its values solved and all marks 0, and leaves the rooms
+/// to work in cleared. A refusal changes nothing.
 pub fn load(session: &mut Session, bytes: &[u8]) -> Result<Loaded, Refusal> {
     let model = read_model(bytes, &session.rooms())?;
     let values = solve(&model);
@@ -336,6 +338,7 @@ pub fn load(session: &mut Session, bytes: &[u8]) -> Result<Loaded, Refusal> {
     session.store_model(&model);
     session.store_values(&values, &vec![0; values.len()]);
     session.store_moves(&model.moves);
+    session.clear_work();
     session.stamp = Some(loaded.stamp);
     Ok(loaded)
 }

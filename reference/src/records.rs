@@ -87,6 +87,17 @@ impl Sizes {
         usize::from(self.states) * usize::from(self.variables)
     }
 
+    /// How many places of the index a load or a batch needs, where the room for moves is so long:
+    /// states times actions, and one for each move that the room can take.
+    pub fn index(&self, move_room: usize) -> usize {
+        usize::from(self.states) * usize::from(self.actions) + move_room.min(MOST_MOVES)
+    }
+
+    /// How many places of the queue a load or a batch needs: one for each pair, and one more.
+    pub fn queue(&self) -> usize {
+        self.pairs() + 1
+    }
+
     /// Where the value and the mark of a pair are kept: states in order, and for each state
     /// its variables in order.
     pub fn pair(&self, state: State, variable: Variable) -> usize {

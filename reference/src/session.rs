@@ -32,6 +32,10 @@ pub struct Session {
     pub values: Vec<u8>,
     /// For each pair its mark, at the same index as its value.
     pub marks: Vec<u8>,
+    /// The rooms to work in. Nothing is kept there: a load and a batch ask how long they are, and
+    /// leave the places that the sizes need at 0.
+    pub index: Vec<u16>,
+    pub queue: Vec<u16>,
     /// The stamp, if one is kept. A load keeps one; a batch renews it where one is kept.
     pub stamp: Option<u32>,
 }
@@ -44,6 +48,8 @@ pub struct Rooms {
     pub values: usize,
     pub marks: usize,
     pub moves: usize,
+    pub index: usize,
+    pub queue: usize,
 }
 
 impl Rooms {
@@ -55,6 +61,8 @@ impl Rooms {
             values: MOST_PAIRS,
             marks: MOST_PAIRS,
             moves: MOST_MOVES,
+            index: MOST_INDEX,
+            queue: MOST_QUEUE,
         }
     }
 
@@ -64,6 +72,11 @@ impl Rooms {
             && self.equations >= usize::from(sizes.variables)
             && self.values >= sizes.pairs()
             && self.marks >= sizes.pairs()
+    }
+
+    /// Whether the rooms to work in are as long as the sizes and the room for moves need.
+    pub fn hold_work(&self, sizes: &Sizes) -> bool {
+        self.index >= sizes.index(self.moves) && self.queue >= sizes.queue()
     }
 }
 
@@ -82,6 +95,8 @@ impl Session {
             move_count: 0,
             values: vec![0; rooms.values],
             marks: vec![0; rooms.marks],
+            index: vec![0; rooms.index],
+            queue: vec![0; rooms.queue],
             stamp: None,
         }
     }
@@ -99,6 +114,8 @@ impl Session {
             values: self.values.len(),
             marks: self.marks.len(),
             moves: self.moves.len(),
+            index: self.index.len(),
+            queue: self.queue.len(),
         }
     }
 
@@ -140,9 +157,17 @@ impl Session {
         self.moves[..moves.len()].copy_from_slice(moves);
         self.move_count = moves.len();
     }
+
+    /// Leaves the places of the rooms to work in that the sizes need at 0, and no other.
+    pub(crate) fn clear_work(&mut self) {
+        let (index, queue) = (self.sizes.index(self.moves.len()), self.sizes.queue());
+        self.index[..index].fill(0);
+        self.queue[..queue].fill(0);
+    }
 }
 
-/// Asks 12 for the sizes and the move count, then 13 for the rooms. The flag isn't looked at.
+/// Asks 12 for the sizes and the move count, then 13 for the rooms that hold the session. Neither
+/// the flag nor the rooms to work in are looked at.
 fn check_sizes_and_rooms(session: &Session) -> Result<(), Refusal> {
     let most = MOST_MOVES.min(session.moves.len());
     demand(session.sizes.in_table(), 12, 0)?;
@@ -161,10 +186,15 @@ fn right_components(session: &Session) -> bool {
 }
 
 /// Asks 12 for the rest: whether load accepts what the session holds, and whether its components,
-/// its values, its marks and the stamp it keeps are good. Gives the model.
+/// its values, its marks and the stamp it keeps are good. Gives the model. How long the rooms are was
+/// asked before, but for the moves'.
 fn check_rest(session: &Session) -> Result<Model, Refusal> {
     let pairs = session.sizes.pairs();
-    let read = read_model(&spell_session(session), &session.rooms());
+    let rooms = Rooms {
+        moves: session.moves.len(),
+        ..Rooms::most()
+    };
+    let read = read_model(&spell_session(session), &rooms);
     demand(read.is_ok(), 12, 0)?;
     demand(right_components(session), 12, 0)?;
     demand(session.values[..pairs].iter().all(|v| *v <= 1), 12, 0)?;
@@ -174,11 +204,21 @@ fn check_rest(session: &Session) -> Result<Model, Refusal> {
     read
 }
 
-/// Asks 12 for the flag and the sizes, 13 for the rooms and 12 for the rest, and gives the model
-/// held. A live session in which a state has no move is no model that load accepts.
+/// What a writing asks of a session: 12 for the flag and the sizes, 13 for the rooms and 12 for the
+/// rest. Gives the model held. A live session in which a state has no move is no model that load
+/// accepts.
 pub fn check(session: &Session) -> Result<Model, Refusal> {
     demand(session.live <= 1, 12, 0)?;
     check_sizes_and_rooms(session)?;
+    check_rest(session)
+}
+
+/// What a batch asks of a session: the same, and 13 for the rooms to work in with that for the other
+/// rooms.
+pub fn check_to_work(session: &Session) -> Result<Model, Refusal> {
+    demand(session.live <= 1, 12, 0)?;
+    check_sizes_and_rooms(session)?;
+    demand(session.rooms().hold_work(&session.sizes), 13, 0)?;
     check_rest(session)
 }
 

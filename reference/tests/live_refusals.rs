@@ -54,6 +54,8 @@ fn session(blocks: u8) -> Session {
         values: 6,
         marks: 6,
         moves: 6,
+        index: 12,
+        queue: 7,
     });
     load(&mut session, &model(blocks)).unwrap();
     session

@@ -399,18 +399,22 @@ fn just_enough() -> Rooms {
         values: 12,
         marks: 12,
         moves: 0,
+        index: 6,
+        queue: 13,
     }
 }
 
 /// Rooms that are each one place too short for `front`.
-fn short_rooms() -> [Rooms; 4] {
+fn short_rooms() -> [Rooms; 6] {
     let enough = just_enough();
-    let [mut labels, mut equations, mut values, mut marks] = [enough; 4];
+    let [mut labels, mut equations, mut values, mut marks, mut index, mut queue] = [enough; 6];
     labels.labels -= 1;
     equations.equations -= 1;
     values.values -= 1;
     marks.marks -= 1;
-    [labels, equations, values, marks]
+    index.index -= 1;
+    queue.queue -= 1;
+    [labels, equations, values, marks, index, queue]
 }
 
 /// A room that is one place too short is 13 at 0, and just enough is enough.
@@ -438,11 +442,13 @@ fn reading_13_13_before_the_next_record() {
 /// Bad sizes are 3, and cut or missing sizes 1, before any room is looked at.
 #[test]
 fn reading_13_1_and_3_before_13() {
-    let session = Session::new(short_rooms()[0]);
-    assert_eq!(load_refusal_in(&session, &sizes(257, 1, 0, 1, 1)), (3, 0));
-    assert_eq!(load_refusal_in(&session, &front()[..6]), (1, 0));
-    assert_eq!(load_refusal_in(&session, &end()), (2, 0));
-    assert_eq!(load_refusal_in(&session, &[]), (1, 0));
+    for rooms in short_rooms() {
+        let session = Session::new(rooms);
+        assert_eq!(load_refusal_in(&session, &sizes(257, 1, 0, 1, 1)), (3, 0));
+        assert_eq!(load_refusal_in(&session, &front()[..6]), (1, 0));
+        assert_eq!(load_refusal_in(&session, &end()), (2, 0));
+        assert_eq!(load_refusal_in(&session, &[]), (1, 0));
+    }
 }
 
 /// The earlier record wins over a lower number at a later one.

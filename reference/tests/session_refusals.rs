@@ -27,6 +27,8 @@ fn session() -> Session {
         values: 6,
         marks: 6,
         moves: 4,
+        index: 8,
+        queue: 7,
     });
     reference::load(&mut session, &model).unwrap();
     session

@@ -39,6 +39,8 @@ fn session() -> Session {
         values: 12,
         marks: 12,
         moves: 4,
+        index: 10,
+        queue: 13,
     });
     load(&mut session, &model()).unwrap();
     session

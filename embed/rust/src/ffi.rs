@@ -25,6 +25,10 @@ mod raw {
             marks_len: u64,
             moves: *mut u32,
             moves_len: u64,
+            index: *mut u16,
+            index_len: u64,
+            queue: *mut u16,
+            queue_len: u64,
         ) -> u64;
         pub fn huepaxochi_batch(
             session: *mut u32,
@@ -41,6 +45,10 @@ mod raw {
             marks_len: u64,
             moves: *mut u32,
             moves_len: u64,
+            index: *mut u16,
+            index_len: u64,
+            queue: *mut u16,
+            queue_len: u64,
             report: *mut i64,
             report_len: u64,
         ) -> u64;
@@ -71,7 +79,8 @@ mod raw {
     }
 }
 
-/// Reads a model into the rooms.
+/// Reads a model into the rooms. The last two are rooms to work in.
+#[allow(clippy::too_many_arguments)]
 pub fn load(
     bytes: &[u8],
     session: &mut [u32],
@@ -80,6 +89,8 @@ pub fn load(
     values: &mut [u8],
     marks: &mut [u8],
     moves: &mut [u32],
+    index: &mut [u16],
+    queue: &mut [u16],
 ) -> u64 {
     // SAFETY: each pointer and length come from one slice, and the borrows keep the slices apart until the call is over.
     unsafe {
@@ -98,11 +109,15 @@ pub fn load(
             marks.len() as u64,
             moves.as_mut_ptr(),
             moves.len() as u64,
+            index.as_mut_ptr(),
+            index.len() as u64,
+            queue.as_mut_ptr(),
+            queue.len() as u64,
         )
     }
 }
 
-/// Applies a batch to the rooms.
+/// Applies a batch to the rooms. The last two before the report are rooms to work in.
 #[allow(clippy::too_many_arguments)]
 pub fn batch(
     session: &mut [u32],
@@ -112,6 +127,8 @@ pub fn batch(
     values: &mut [u8],
     marks: &mut [u8],
     moves: &mut [u32],
+    index: &mut [u16],
+    queue: &mut [u16],
     report: &mut [i64],
 ) -> u64 {
     // SAFETY: each pointer and length come from one slice, and the borrows keep those that are written apart from all others
@@ -132,6 +149,10 @@ pub fn batch(
             marks.len() as u64,
             moves.as_mut_ptr(),
             moves.len() as u64,
+            index.as_mut_ptr(),
+            index.len() as u64,
+            queue.as_mut_ptr(),
+            queue.len() as u64,
             report.as_mut_ptr(),
             report.len() as u64,
         )

@@ -1,4 +1,4 @@
-//! The proved checker for Rust: a [`Checker`] owns the rooms that the four proved calls are lent.
+//! The proved checker for Rust: a [`Checker`] owns the rooms that the four proved calls are lent, also those that they only work in.
 //!
 //! A model has its equations in blocks, or a sign on each equation and no blocks; `write` gives back the style that was loaded.
 //! A model may be live: each of its states has a move then, and what would leave a state without one is refused with 16.
@@ -51,7 +51,7 @@ pub struct Report {
     pub net: i64,
 }
 
-/// How long each room is.
+/// How long each room is that a session lies in. The rooms to work in follow from these.
 #[derive(Clone, Copy, Debug, PartialEq, Eq)]
 pub struct Lengths {
     pub labels: usize,
@@ -70,6 +70,19 @@ impl Lengths {
         marks: 8192,
         moves: 1024,
     };
+
+    /// How many places any model that fits into these rooms needs of the index: one for each state and action, and one for each
+    /// move that there is room for.
+    fn index(&self) -> usize {
+        const MOST_ACTIONS: usize = 16;
+        let states = self.labels.min(Lengths::MOST.labels);
+        states * MOST_ACTIONS + self.moves.min(Lengths::MOST.moves)
+    }
+
+    /// How many it needs of the queue: one for each pair, and one more.
+    fn queue(&self) -> usize {
+        self.values.min(self.marks).min(Lengths::MOST.values) + 1
+    }
 }
 
 /// How many numbers a session and a report are.
@@ -79,7 +92,8 @@ const REPORT: usize = 3;
 /// The most bytes that a model within the limits is spelled with: a live one whose 32 equations have signs.
 const MOST_BYTES: usize = 9 + 7 * 256 + 5 * 32 + 6 * 1024;
 
-/// A session with its rooms. A refusal leaves all of them as they were.
+/// A session with its rooms, and the two rooms that a load and a batch work in, which are 0 between calls. A refusal leaves all of
+/// them as they were.
 #[derive(Clone, Debug, PartialEq, Eq)]
 pub struct Checker {
     session: Vec<u32>,
@@ -88,6 +102,8 @@ pub struct Checker {
     values: Vec<u8>,
     marks: Vec<u8>,
     moves: Vec<u32>,
+    index: Vec<u16>,
+    queue: Vec<u16>,
 }
 
 /// What an answer's high half tells where its low half is 0, else the refusal.
@@ -109,7 +125,8 @@ impl Checker {
         Checker::with_rooms(Lengths::MOST)
     }
 
-    /// A checker whose rooms have these lengths.
+    /// A checker whose rooms have these lengths. Its rooms to work in are as long as any model that fits there needs, so that they
+    /// are never why one is refused.
     pub fn with_rooms(lengths: Lengths) -> Checker {
         Checker {
             session: vec![0; SESSION],
@@ -118,6 +135,8 @@ impl Checker {
             values: vec![0; lengths.values],
             marks: vec![0; lengths.marks],
             moves: vec![0; lengths.moves],
+            index: vec![0; lengths.index()],
+            queue: vec![0; lengths.queue()],
         }
     }
 
@@ -131,6 +150,8 @@ impl Checker {
             &mut self.values,
             &mut self.marks,
             &mut self.moves,
+            &mut self.index,
+            &mut self.queue,
         ))
         .map(|_| ())
     }
@@ -146,6 +167,8 @@ impl Checker {
             &mut self.values,
             &mut self.marks,
             &mut self.moves,
+            &mut self.index,
+            &mut self.queue,
             &mut report,
         ))?;
         let [shift_visits, settle_visits, net] = report;

@@ -44,7 +44,23 @@ fn filled() -> Checker {
         values: vec![0xd8; 6],
         marks: vec![0xe9; 7],
         moves: vec![0xfafa_fafa; 4],
+        index: vec![0x8b8b; G_INDEX + 3],
+        queue: vec![0x9c9c; G_QUEUE + 2],
     }
+}
+
+/// How many places of the rooms to work in G needs with a room for 4 moves.
+const G_INDEX: usize = 2 + 4;
+const G_QUEUE: usize = 2 + 1;
+
+/// Whether the rooms to work in are 0 where G needs them, and hold their fillings past that.
+fn worked(checker: &Checker) -> bool {
+    let (index, past_index) = checker.index.split_at(G_INDEX);
+    let (queue, past_queue) = checker.queue.split_at(G_QUEUE);
+    index == [0; G_INDEX]
+        && queue == [0; G_QUEUE]
+        && past_index == [0x8b8b; 3]
+        && past_queue == [0x9c9c; 2]
 }
 
 #[test]
@@ -141,6 +157,7 @@ fn an_accepted_load_leaves_the_places_past_it() {
     assert_eq!(checker.marks[..2], [0, 0]);
     assert_eq!(checker.marks[2..], before.marks[2..]);
     assert_eq!(checker.moves, before.moves);
+    assert!(worked(&checker));
 }
 
 #[test]
@@ -176,6 +193,8 @@ fn a_refused_batch_changes_nothing() {
             &mut tried.values,
             &mut tried.marks,
             &mut tried.moves,
+            &mut tried.index,
+            &mut tried.queue,
             &mut out,
         );
         let number = if number == 0 { 10 } else { number };
@@ -190,6 +209,8 @@ fn a_refused_batch_changes_nothing() {
 fn an_accepted_batch_leaves_the_places_past_it() {
     let mut checker = filled();
     checker.load(&G).unwrap();
+    checker.index[..G_INDEX].fill(0x8b8b);
+    checker.queue[..G_QUEUE].fill(0x9c9c);
     let before = checker.clone();
     let mut out = [-7i64; 5];
     let bytes = changes(0, &[(8, 0, 0, 0), (8, 1, 0, 0)]);
@@ -201,9 +222,12 @@ fn an_accepted_batch_leaves_the_places_past_it() {
         &mut checker.values,
         &mut checker.marks,
         &mut checker.moves,
+        &mut checker.index,
+        &mut checker.queue,
         &mut out,
     );
     assert_eq!(answer, 0);
+    assert!(worked(&checker));
     assert_eq!(out[..3], [2, 0, 2]);
     assert_eq!(out[3..], [-7, -7]);
     assert_eq!(checker.session[..8], [2, 1, 0, 1, 1, 2, 65_539, 0]);
@@ -239,7 +263,9 @@ fn a_short_room_is_13_before_all_else() {
                 &mut rooms.equations,
                 &mut rooms.values,
                 &mut rooms.marks,
-                &mut rooms.moves
+                &mut rooms.moves,
+                &mut rooms.index,
+                &mut rooms.queue
             ),
             short
         );
@@ -252,6 +278,8 @@ fn a_short_room_is_13_before_all_else() {
                 &mut rooms.values,
                 &mut rooms.marks,
                 &mut rooms.moves,
+                &mut rooms.index,
+                &mut rooms.queue,
                 &mut out
             ),
             short
@@ -284,6 +312,8 @@ fn a_short_room_is_13_before_all_else() {
             &mut checker.values,
             &mut checker.marks,
             &mut checker.moves,
+            &mut checker.index,
+            &mut checker.queue,
             &mut out[..n],
         );
         assert_eq!(answer, short);
@@ -308,6 +338,62 @@ fn a_short_room_is_13_before_all_else() {
             place: 0
         })
     );
+}
+
+#[test]
+fn a_short_room_to_work_in_is_13() {
+    let short = Refusal {
+        number: 13,
+        place: 0,
+    };
+    for (index, queue) in [(G_INDEX - 1, G_QUEUE), (G_INDEX, G_QUEUE - 1), (0, 0)] {
+        let mut checker = filled();
+        checker.index.truncate(index);
+        checker.queue.truncate(queue);
+        let before = checker.clone();
+        assert_eq!(checker.load(&G), Err(short));
+        assert_eq!(checker, before);
+        let mut checker = filled();
+        checker.load(&G).unwrap();
+        checker.index.truncate(index);
+        checker.queue.truncate(queue);
+        let before = checker.clone();
+        assert_eq!(checker.batch(&changes(0, &[(8, 0, 0, 0)])), Err(short));
+        assert_eq!(checker, before);
+        assert_eq!(checker.write().unwrap(), G);
+        assert_eq!(checker.ask(State(0), Variable(0)), Ok(false));
+    }
+    let mut checker = filled();
+    checker.index.truncate(G_INDEX);
+    checker.queue.truncate(G_QUEUE);
+    checker.load(&G).unwrap();
+    assert_eq!(checker.batch(&changes(0, &[(8, 0, 0, 0)])), report(1, 0, 1));
+}
+
+/// Rooms that G just fits, and those of two models with more actions and more variables than G has.
+#[test]
+fn rooms_to_work_in_follow_from_the_others() {
+    let lengths = |labels, equations, moves| Lengths {
+        labels,
+        equations,
+        values: labels * equations,
+        marks: labels * equations,
+        moves,
+    };
+    let mut wide = G;
+    wide[3] = 16;
+    for (rooms, model) in [
+        (lengths(2, 1, 0), &G[..]),
+        (lengths(2, 1, 2_000), &G),
+        (lengths(2, 1, 0), &wide),
+        (lengths(300, 40, 0), &wide),
+        (lengths(2, 5, 3), &with_signs(&RULES)),
+    ] {
+        let mut checker = Checker::with_rooms(rooms);
+        checker.load(model).unwrap();
+        checker.batch(&changes(0, &[])).unwrap();
+        assert_eq!(checker.write().unwrap(), model);
+    }
 }
 
 #[test]

@@ -1,7 +1,7 @@
 //! Makes one call of one version so many times: for a profiler, which takes the difference of two runs, so that whatever is
 //! done once falls out.
 //!
-//! `repeat ours|ordinary strict|mixed|maximal|signs|live load|delete|insert|many|write TIMES`
+//! `repeat ours|ordinary|strong strict|mixed|maximal|signs|live load|delete|insert|many|write TIMES`
 
 use measure::cases::{grid, live, maximal, signs, Case, ThereAndBack, MIXED_RULE, STRICT_RULE};
 use measure::rooms::Rooms;
@@ -25,10 +25,11 @@ struct Call {
     bytes: Vec<u8>,
 }
 
-/// The calls of a name, one for each of 32 moves.
+/// The calls of a name, one for each of 32 moves. What comes before them is done by the ordinary version, so that only the
+/// calls themselves are calls of another.
 fn calls(case: &Case, name: &str) -> Vec<Call> {
     let mut rooms = Rooms::most();
-    Side::Ours.load(&case.bytes, &mut rooms).unwrap();
+    Side::Ordinary.load(&case.bytes, &mut rooms).unwrap();
     let moves = case.spread(32);
     let many = case.changes(&moves, &case.absent(32));
     let singles = moves.iter().map(|m| case.changes(&[*m], &[]));
@@ -38,7 +39,7 @@ fn calls(case: &Case, name: &str) -> Vec<Call> {
             "load" | "write" => case.bytes.clone(),
             "delete" => one.there,
             "insert" => {
-                Side::Ours.batch(&one.there, &mut rooms).unwrap();
+                Side::Ordinary.batch(&one.there, &mut rooms).unwrap();
                 one.back
             }
             "many" => many.there.clone(),
@@ -57,7 +58,9 @@ fn main() {
     };
     let side = match side.as_str() {
         "ours" => Side::Ours,
-        _ => Side::Ordinary,
+        "ordinary" => Side::Ordinary,
+        "strong" => Side::Strong,
+        _ => panic!("ours, ordinary or strong"),
     };
     let calls = calls(&case_named(model), name);
     for i in 0..times.parse().expect("a number") {

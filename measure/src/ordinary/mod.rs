@@ -1,21 +1,22 @@
 //! Document 01, with document 02's signs on equations and its live models, in ordinary Rust: safe, quick, and with no more care
 //! than a test asks for. It keeps nothing between calls but the rooms, as the proved library does, so every call checks what it
-//! is lent and builds its own indexes. Each call stays a call, as the library's are, however small.
+//! is lent and builds its own indexes. It needs no work rooms, but asks for them and clears them as the others do. Each call
+//! stays a call, as the library's are, however small.
 #![forbid(unsafe_code)]
 
-mod apply;
-mod changes;
-mod components;
-mod equation;
+pub(crate) mod apply;
+pub(crate) mod changes;
+pub(crate) mod components;
+pub(crate) mod equation;
 mod index;
-mod model;
-mod moves;
-mod records;
-mod session;
-mod sizes;
+pub(crate) mod model;
+pub(crate) mod moves;
+pub(crate) mod records;
+pub(crate) mod session;
+pub(crate) mod sizes;
 mod system;
 mod update;
-mod write;
+pub(crate) mod write;
 
 use crate::answers::{demand, Refusal, Report};
 use crate::rooms::Rooms;
@@ -31,13 +32,16 @@ pub fn load(bytes: &[u8], rooms: &mut Rooms) -> Result<(), Refusal> {
     let system = System::new(model.sizes, &rooms.labels, &rooms.equations, &model.moves);
     let (values, marks) = (&mut rooms.values[..pairs], &mut rooms.marks[..pairs]);
     update::solve(&system, values, marks);
+    rooms.work.clear(model.sizes, rooms.moves.len());
     Ok(())
 }
 
 /// Applies a batch of inserts and deletes. A refusal leaves the rooms as they were.
 #[inline(never)]
 pub fn batch(bytes: &[u8], rooms: &mut Rooms) -> Result<Report, Refusal> {
-    let sizes = session::check(rooms)?;
+    let sizes = session::sizes(rooms)?;
+    demand(sizes.fit_work(rooms), 13, 0)?;
+    session::contents(sizes, rooms)?;
     let (stamp, changes) = changes::read(bytes, sizes)?;
     changes::judge(stamp, &changes, rooms)?;
     apply::apply(&changes, rooms);
@@ -45,13 +49,16 @@ pub fn batch(bytes: &[u8], rooms: &mut Rooms) -> Result<Report, Refusal> {
     let system = System::new(sizes, &rooms.labels, &rooms.equations, moves);
     let pairs = sizes.pairs();
     let (values, marks) = (&mut rooms.values[..pairs], &mut rooms.marks[..pairs]);
-    Ok(update::update(&system, &changes, values, marks))
+    let report = update::update(&system, &changes, values, marks);
+    rooms.work.clear(sizes, rooms.moves.len());
+    Ok(report)
 }
 
 /// Writes the model that the rooms hold into the front of `out`, and answers how many bytes it has.
 #[inline(never)]
 pub fn write(rooms: &Rooms, out: &mut [u8]) -> Result<usize, Refusal> {
-    let sizes = session::check(rooms)?;
+    let sizes = session::sizes(rooms)?;
+    session::contents(sizes, rooms)?;
     let length = write::length(sizes, rooms);
     demand(length <= out.len(), 13, 0)?;
     write::spell(sizes, rooms, &mut out[..length]);

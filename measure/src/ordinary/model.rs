@@ -60,7 +60,7 @@ fn read_sizes(reader: &mut Reader, rooms: &Rooms) -> Result<Sizes, Refusal> {
         return refuse(2, 0);
     };
     demand(sizes.in_limits(), 3, 0)?;
-    demand(sizes.fit(rooms), 13, 0)?;
+    demand(sizes.fit(rooms) && sizes.fit_work(rooms), 13, 0)?;
     reader.at = next;
     Ok(sizes)
 }

@@ -7,14 +7,19 @@ use super::sizes::{Sizes, MOST_MOVES};
 use crate::answers::{demand, Refusal};
 use crate::rooms::Rooms;
 
-/// Asks 12 for the sizes, the number of moves and the live flag, 13 for the rooms and 12 for the rest.
-pub fn check(rooms: &Rooms) -> Result<Sizes, Refusal> {
+/// Asks 12 for the sizes, the number of moves and the live flag, and 13 for the rooms that hold the session.
+pub fn sizes(rooms: &Rooms) -> Result<Sizes, Refusal> {
     let sizes = Sizes::of(&rooms.session);
     let count = rooms.session[5] as usize;
     demand(sizes.in_limits(), 12, 0)?;
     demand(count <= MOST_MOVES.min(rooms.moves.len()), 12, 0)?;
     demand(rooms.session[7] <= 1, 12, 0)?;
     demand(sizes.fit(rooms), 13, 0)?;
+    Ok(sizes)
+}
+
+/// Asks 12 for what the rooms hold.
+pub fn contents(sizes: Sizes, rooms: &Rooms) -> Result<(), Refusal> {
     let good = labels_ok(sizes, &rooms.labels[..sizes.states as usize])
         && equations_ok(sizes, &rooms.equations[..sizes.variables as usize])
         && none_over(1, &rooms.values[..sizes.pairs()])
@@ -22,8 +27,7 @@ pub fn check(rooms: &Rooms) -> Result<Sizes, Refusal> {
         && moves_ok(sizes, rooms.table())
         && moves::stamp(rooms.table()) == rooms.stamp()
         && (!rooms.is_live() || moves::leave_all(rooms.table(), sizes.states));
-    demand(good, 12, 0)?;
-    Ok(sizes)
+    demand(good, 12, 0)
 }
 
 /// Whether every set holds known propositions only.
@@ -48,7 +52,7 @@ fn moves_ok(sizes: Sizes, table: &[u32]) -> bool {
 }
 
 /// Whether the equations are ones that load accepts, in either style.
-fn equations_ok(sizes: Sizes, words: &[u32]) -> bool {
+pub fn equations_ok(sizes: Sizes, words: &[u32]) -> bool {
     match sizes.blocks {
         0 => signed_ok(sizes, words),
         _ => blocks_ok(sizes, words),

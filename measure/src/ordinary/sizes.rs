@@ -56,6 +56,11 @@ impl Sizes {
             && self.pairs() <= rooms.marks.len()
     }
 
+    /// Whether the work rooms are as long as the sizes and the room for moves need.
+    pub fn fit_work(&self, rooms: &Rooms) -> bool {
+        rooms.work.fits(*self, rooms.moves.len())
+    }
+
     /// Whether the highest proposition of a set lies below the count.
     pub fn hold_set(&self, set: u32) -> bool {
         32 - set.leading_zeros() <= self.propositions

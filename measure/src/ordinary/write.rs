@@ -35,6 +35,19 @@ impl Out<'_> {
 
 /// Writes the spelling of a checked session into a room of just its length.
 pub fn spell(sizes: Sizes, rooms: &Rooms, out: &mut [u8]) {
+    let mut out = Out {
+        left: spell_front(sizes, rooms, out),
+    };
+    for packed in rooms.table() {
+        let [s, t, ..] = moves::source(*packed).to_le_bytes();
+        let [u, v, ..] = moves::target(*packed).to_le_bytes();
+        out.put([5, s, t, moves::action(*packed) as u8, u, v]);
+    }
+    out.put([6]);
+}
+
+/// Writes all that comes before the moves, and gives what is left of the room.
+pub fn spell_front<'a>(sizes: Sizes, rooms: &Rooms, out: &'a mut [u8]) -> &'a mut [u8] {
     let mut out = Out { left: out };
     let [low, high, ..] = sizes.states.to_le_bytes();
     let [actions, propositions, variables, blocks] = [
@@ -54,12 +67,7 @@ pub fn spell(sizes: Sizes, rooms: &Rooms, out: &mut [u8]) {
         0 => spell_signed(equations, &mut out),
         _ => spell_blocks(equations, &mut out),
     }
-    for packed in rooms.table() {
-        let [s, t, ..] = moves::source(*packed).to_le_bytes();
-        let [u, v, ..] = moves::target(*packed).to_le_bytes();
-        out.put([5, s, t, moves::action(*packed) as u8, u, v]);
-    }
-    out.put([6]);
+    out.left
 }
 
 /// The label records.
