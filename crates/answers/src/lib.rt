@@ -27,7 +27,7 @@ fn put_session(out: &mut [u8], at: usize, session: Session, values: &[u8]) -> us
     ensures { λ r. ⌜ Wrote (now (out .entry)) at (loadPrints (accepted session) (now (values .entry))) (now (out .exit)) r × (r ≤ at + 96) ⌝ }
 {
     let n = limits::pairs_of(session.sizes);
-    let t = starts::count_true(values, n);
+    let t = engine_values::count_true(values, n);
     lines::put_loaded(out, at, t as u64, n as u64, session.stamp as u64)
 }
 
@@ -39,7 +39,7 @@ fn put_report(out: &mut [u8], at: usize, report: Report, values: &[u8]) -> usize
     let session = report.session;
     let visits = report.visits;
     let n = limits::pairs_of(session.sizes);
-    let t = starts::count_true(values, n);
+    let t = engine_values::count_true(values, n);
     lines::put_batch(
         out,
         at,

@@ -256,7 +256,17 @@ pub fn update(
     let p = limits::pairs_of(sizes);
     let before = engine_values::count_true(values, p);
     let visits = move_in_rooms(
-        sizes, labels, equations, moves, n, changes, count, values, marks, index, queue,
+        sizes,
+        labels,
+        equations,
+        moves,
+        n,
+        changes,
+        count,
+        values,
+        marks,
+        index,
+        queue,
     );
     let after = engine_values::count_true(values, p);
     Effects {
@@ -287,7 +297,17 @@ pub fn load_values(
     let p = limits::pairs_of(sizes);
     engine_values::own_values(sizes, equations, p, values);
     move_in_rooms(
-        sizes, labels, equations, moves, n, labels, 0, values, marks, index, queue,
+        sizes,
+        labels,
+        equations,
+        moves,
+        n,
+        labels,
+        0,
+        values,
+        marks,
+        index,
+        queue,
     );
     engine_values::clear(marks, p);
 }

@@ -29,7 +29,7 @@ use Rattle.judge.specs.Turning.{Summary, summary}
 use Rattle.judge.specs.declared.ReadModel.{ReadModel}
 use Rattle.judge.specs.declared.ReadModel.the-variants as M
 use Rattle.store.specs.Stored.{Stored, three, storedBy, ReadInto}
-use Rattle.pairs.specs.Drawn.{tableOf, Drawn}
+use Rattle.words.specs.Lent.{tableOf, Drawn}
 
 -- The call left this answer and these rooms.
 abbrev pub loaded : Outcome Session → Rooms → Left Session Rooms

@@ -28,9 +28,9 @@ use Rattle.calls.specs.Checks.{checkOf, checkedSays}
 use Rattle.calls.specs.Passed.{Fits, passed-work, passed-fits, passed-holds, passed-moves}
 use Rattle.calls.specs.declared.Checked.{Checked}
 use Rattle.calls.specs.declared.Checked.the-variants as Found
-use Rattle.pairs.specs.Drawn.{tableOf, Drawn}
+use Rattle.words.specs.Lent.{tableOf, Drawn}
 use Rattle.edits.specs.Fits.{Held}
-use Rattle.engine.specs.Runs.{Started, withMoves}
+use Rattle.engine_phase.specs.Started.{Started, withMoves}
 
 -- What a session that was checked is known to be.
 pub record Sane (s : Session) (l : Rooms) : Type 0 where

@@ -29,8 +29,8 @@ use Rattle.edits.specs.declared.Verdict.{Verdict}
 use Rattle.edits.specs.declared.Verdict.the-variants as Found
 use Rattle.applies.specs.Kept.{Kept, appliedTo}
 use Rattle.calls.specs.BatchLaws.{updated}
-use Rattle.pairs.specs.Drawn.{tableOf}
-use Rattle.starts.specs.Differences.{mag-sub}
+use Rattle.words.specs.Lent.{tableOf}
+use Rattle.engine_values.specs.Differences.{mag-sub}
 use Rattle.engine.specs.Updates.{Leaves}
 use Rattle.updates.specs.Moving.{Able, made, made-table}
 

@@ -66,9 +66,13 @@ turn-blocks-requires c κs =
     let t = tableIn (a .sizes) (a .labels .now) (a .equations .now) (a .moves .now) in
     let pre = at-start .pre in
     let room = pre .1 .1 .1 in
-    let few = limits (pre .0) .0 .1 in
-    (pre .0, (((indexed t (a .index .now) _ (drawn-headed (pre .0)) (room .0 .0) (room .0 .1) (at-index .index-moves .ensures), at-names .name-operands .ensures), pre .1 .0),
-    ((length-take-le (a .sizes .states) (replicate 256 0) (omega arith), room .1), pre .1 .1 .0)))
+    let few = limits (pre .0) .0 .1 in (
+      pre .0,
+      (
+        ((indexed t (a .index .now) _ (drawn-headed (pre .0)) (room .0 .0) (room .0 .1) (at-index .index-moves .ensures), at-names .name-operands .ensures), pre .1 .0),
+        ((length-take-le (a .sizes .states) (replicate 256 0) (omega arith), room .1), pre .1 .1 .0),
+      ),
+    )
 
 same-length : tie.Need-same-length
 same-length c = search needs

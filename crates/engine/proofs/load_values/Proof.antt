@@ -91,9 +91,13 @@ returns c =
     let kept = at-own .own-values .kept .1 .1 .1 .0 in
     let at-clear = c .before .before in
     let at-move = at-clear .before .before .before .before .before .before .before .before .before .before in
-    let moved = at-move .move-in-rooms .ensures in
-    ((load-leaves m ok (a .values .now) _ (rooms .0) is-own (a .marks .now) _ _ _ _ (moved .0),
-    load-clears m ok (a .values .now) _ (rooms .0) is-own (a .marks .now) _ _ _ _ _ (at-pairs .pairs-of .result) (moved .0) is-pairs (at-clear .clear .ensures)), moved .1)
+    let moved = at-move .move-in-rooms .ensures in (
+      (
+        load-leaves m ok (a .values .now) _ (rooms .0) is-own (a .marks .now) _ _ _ _ (moved .0),
+        load-clears m ok (a .values .now) _ (rooms .0) is-own (a .marks .now) _ _ _ _ _ (at-pairs .pairs-of .result) (moved .0) is-pairs (at-clear .clear .ensures),
+      ),
+      moved .1,
+    )
 
 pub load-values-spec : {M : Type 1} → statement M
 load-values-spec =

@@ -130,12 +130,15 @@ returns c =
     let at-move = c .before .before .before .before .before .before .before .before .before .before .before .before .before .before .before in
     let at-work = c .before .before .before .before in
     let part = at-move .move-values .kept .1 .1 .1 .1 .1 .1 .1 .1 .1 .0 ∙ length-take-le (at-index .index-needs .result) (at-clear .clear-halves .last .0) (omega (arith, work .0)) in
-    let queued = at-move .move-values .kept .1 .1 .1 .1 .1 .1 .1 .1 .1 .1 .0 ∙ length-take-le (at-queue .queue-needs .result) (a .queue .now) (omega (arith, work .1)) in
-    (at-move .move-values .ensures,
-    (cleared-again (indexNeeds (a .sizes) (length (a .moves .now))) (a .index .now) (at-clear .clear-halves .last .0) (at-move .move-values .last .1 .1 .1 .1 .1 .1 .1 .1 .1 .0) _ (at-clear .clear-halves .ensures ∙ ap (λ (n : ℕ). fill (replicate n 0) (a .index .now)) links) (part ∙ links)
-    (at-work .clear-work .ensures .0 ∙ ap (λ (n : ℕ). indexAfter (a .sizes) (length (a .moves .now)) (at-move .move-values .last .1 .1 .1 .1 .1 .1 .1 .1 .1 .0 ++ drop n (at-clear .clear-halves .last .0))) links),
-    at-work .clear-work .ensures .1 ∙ ap (λ (n : ℕ). queueAfter (a .sizes) (at-move .move-values .last .1 .1 .1 .1 .1 .1 .1 .1 .1 .1 .0 ++ drop n (a .queue .now))) waiting
-    ∙ fill-over (queueNeeds (a .sizes)) (a .queue .now) (at-move .move-values .last .1 .1 .1 .1 .1 .1 .1 .1 .1 .1 .0) (queued ∙ waiting)))
+    let queued = at-move .move-values .kept .1 .1 .1 .1 .1 .1 .1 .1 .1 .1 .0 ∙ length-take-le (at-queue .queue-needs .result) (a .queue .now) (omega (arith, work .1)) in (
+      at-move .move-values .ensures,
+      (
+        cleared-again (indexNeeds (a .sizes) (length (a .moves .now))) (a .index .now) (at-clear .clear-halves .last .0) (at-move .move-values .last .1 .1 .1 .1 .1 .1 .1 .1 .1 .0) _ (at-clear .clear-halves .ensures ∙ ap (λ (n : ℕ). fill (replicate n 0) (a .index .now)) links) (part ∙ links)
+            (at-work .clear-work .ensures .0 ∙ ap (λ (n : ℕ). indexAfter (a .sizes) (length (a .moves .now)) (at-move .move-values .last .1 .1 .1 .1 .1 .1 .1 .1 .1 .0 ++ drop n (at-clear .clear-halves .last .0))) links),
+        at-work .clear-work .ensures .1 ∙ ap (λ (n : ℕ). queueAfter (a .sizes) (at-move .move-values .last .1 .1 .1 .1 .1 .1 .1 .1 .1 .1 .0 ++ drop n (a .queue .now))) waiting
+            ∙ fill-over (queueNeeds (a .sizes)) (a .queue .now) (at-move .move-values .last .1 .1 .1 .1 .1 .1 .1 .1 .1 .1 .0) (queued ∙ waiting),
+      ),
+    )
 
 pub move-in-rooms-spec : {M : Type 1} → statement M
 move-in-rooms-spec =

@@ -138,11 +138,19 @@ index-and-turn-requires c κs =
     let m = tableOf (a .sizes) (a .labels .now) (a .equations .now) (a .moves .now) (a .n) in
     let cs = changesOf (take (a .count) (a .changes .now)) in
     let work = at-start .pre .1 .1 .1 .1 in
-    let long = length-take-le (a .n) (a .moves .now) (d .long-moves) in
-    (drawn-cut (a .sizes) (a .labels .now) (a .equations .now) (a .moves .now) (a .n) d, (at-start .pre .1 .0,
-    ((subst (λ (q : ℕ). Started m cs (take q (a .values .now))) (sym is-pairs) (at-start .pre .1 .1 .0),
-    cleared-part (at-pairs .pairs-of .result) (a .marks .now) _ (at-clear .clear .ensures) ∙ ap (λ (q : ℕ). replicate q 0) is-pairs),
-    ((omega (arith, work .0 .0), work .0 .1), work .1))))
+    let long = length-take-le (a .n) (a .moves .now) (d .long-moves) in (
+      drawn-cut (a .sizes) (a .labels .now) (a .equations .now) (a .moves .now) (a .n) d,
+      (
+        at-start .pre .1 .0,
+        (
+          (
+            subst (λ (q : ℕ). Started m cs (take q (a .values .now))) (sym is-pairs) (at-start .pre .1 .1 .0),
+            cleared-part (at-pairs .pairs-of .result) (a .marks .now) _ (at-clear .clear .ensures) ∙ ap (λ (q : ℕ). replicate q 0) is-pairs,
+          ),
+          ((omega (arith, work .0 .0), work .0 .1), work .1),
+        ),
+      ),
+    )
 
 same-length : tie.Need-same-length
 same-length c = search needs

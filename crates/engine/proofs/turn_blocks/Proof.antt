@@ -36,9 +36,11 @@ loop-holds c =
     let a = at-start .args in
     let t = tableIn (a .sizes) (a .labels .now) (a .equations .now) (a .moves .now) in
     let pre = at-start .pre in
-    let room = pre .1 .1 .0 .1 in
-    ((omega arith, (refl, (refl, (refl, refl)))), subst (λ (ms : List ℕ). On t (changesOf (a .changes .now)) (a .values .now) (jobIn (a .sizes) 0 false 0 (a .values .now) ms (a .queue .now) 0 0 0 0)) (sym (pre .1 .1 .1 .1))
-    (on-begins (pre .1 .1 .1 .0) (map (waiter (a .sizes)) (a .queue .now)) (let e = length-map (a .queue .now) (waiter (a .sizes)) in omega arith)))
+    let room = pre .1 .1 .0 .1 in (
+      (omega arith, (refl, (refl, (refl, refl)))),
+      subst (λ (ms : List ℕ). On t (changesOf (a .changes .now)) (a .values .now) (jobIn (a .sizes) 0 false 0 (a .values .now) ms (a .queue .now) 0 0 0 0)) (sym (pre .1 .1 .1 .1))
+          (on-begins (pre .1 .1 .1 .0) (map (waiter (a .sizes)) (a .queue .now)) (let e = length-map (a .queue .now) (waiter (a .sizes)) in omega arith)),
+    )
 
 phase-requires : tie.Need-phase-requires Inv-loop μ-loop
 phase-requires c κs =
@@ -64,9 +66,16 @@ phase-requires-2 c κs =
     let first = at-phase .phase in
     let taken = at-phase .before .before .before .before .before .loop-test .taken in
     let count = at-blocks .count-blocks .ensures in
-    let kept = first .kept in
-    (pre .0, (pre .1 .0, ((omega arith, (kept .1 .1 .1 .1 .1 .1 .1 .1 .1 .1 .1 .0 ∙ inv .0 .1 .1 .1 .1 ∙ pre .1 .1 .0 .0, omega (arith, kept .1 .1 .1 .1 .1 .1 .1 .1 .1 .1 .0, inv .0 .1 .1 .1 .0, pre .1 .1 .0 .1))),
-    record { start = at-start .args .values .now; index = first .result; on = first .ensures (at-start .args .values .now) (l .settles) (inv .1) })))
+    let kept = first .kept in (
+      pre .0,
+      (
+        pre .1 .0,
+        (
+          (omega arith, (kept .1 .1 .1 .1 .1 .1 .1 .1 .1 .1 .1 .0 ∙ inv .0 .1 .1 .1 .1 ∙ pre .1 .1 .0 .0, omega (arith, kept .1 .1 .1 .1 .1 .1 .1 .1 .1 .1 .0, inv .0 .1 .1 .1 .0, pre .1 .1 .0 .1))),
+          record { start = at-start .args .values .now; index = first .result; on = first .ensures (at-start .args .values .now) (l .settles) (inv .1) },
+        ),
+      ),
+    )
 
 add-i : tie.Need-add-i Inv-loop μ-loop
 add-i c = search needs
@@ -99,9 +108,10 @@ loop-again c =
     let count = at-blocks .count-blocks .ensures in
     let first = at-phase .phase in
     let second = at-second .phase2 in
-    let a = at-start .args in
-    ((omega arith, (second .kept .1 .1 .1 .1 .1 .1 .1 .1 .0 ∙ first .kept .1 .1 .1 .1 .1 .1 .1 .1 .0 ∙ inv .0 .1 .0, (second .kept .1 .1 .1 .1 .1 .1 .1 .1 .1 .0 ∙ first .kept .1 .1 .1 .1 .1 .1 .1 .1 .1 .0 ∙ inv .0 .1 .1 .0, (second .kept .1 .1 .1 .1 .1 .1 .1 .1 .1 .1 .0 ∙ first .kept .1 .1 .1 .1 .1 .1 .1 .1 .1 .1 .0 ∙ inv .0 .1 .1 .1 .0, second .kept .1 .1 .1 .1 .1 .1 .1 .1 .1 .1 .1 .0 ∙ first .kept .1 .1 .1 .1 .1 .1 .1 .1 .1 .1 .1 .0 ∙ inv .0 .1 .1 .1 .1)))),
-    second .ensures (a .values .now) (first .result) (first .ensures (a .values .now) (l .settles) (inv .1)))
+    let a = at-start .args in (
+      (omega arith, (second .kept .1 .1 .1 .1 .1 .1 .1 .1 .0 ∙ first .kept .1 .1 .1 .1 .1 .1 .1 .1 .0 ∙ inv .0 .1 .0, (second .kept .1 .1 .1 .1 .1 .1 .1 .1 .1 .0 ∙ first .kept .1 .1 .1 .1 .1 .1 .1 .1 .1 .0 ∙ inv .0 .1 .1 .0, (second .kept .1 .1 .1 .1 .1 .1 .1 .1 .1 .1 .0 ∙ first .kept .1 .1 .1 .1 .1 .1 .1 .1 .1 .1 .0 ∙ inv .0 .1 .1 .1 .0, second .kept .1 .1 .1 .1 .1 .1 .1 .1 .1 .1 .1 .0 ∙ first .kept .1 .1 .1 .1 .1 .1 .1 .1 .1 .1 .1 .0 ∙ inv .0 .1 .1 .1 .1)))),
+      second .ensures (a .values .now) (first .result) (first .ensures (a .values .now) (l .settles) (inv .1)),
+    )
 
 cast-shift : tie.Need-cast-shift Inv-loop μ-loop
 cast-shift c =

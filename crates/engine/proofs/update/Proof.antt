@@ -79,9 +79,16 @@ returns c =
     let cs = changesOf (take (a .count) (a .changes .now)) in
     let moved = at-move .move-in-rooms .ensures in
     let x = update-leaves m cs (a .values .now) (a .marks .now) _ _ _ _ (at-pairs .pairs-of .result) (at-before .count-true .result) (at-after .count-true2 .result) _ (at-start .pre .1 .1 .0) (moved .0) is-pairs
-    (at-before .count-true .ensures .0) (at-after .count-true2 .ensures .0) (c .net .ensures) in
-    (record { values-are = x .values-are; marks-are = x .marks-are; shift-is = x .shift-is; settle-is = x .settle-is;
-    net-is = toZ-ofZ w32 (c .net .result) (record { sfits = subst (λ (z : ℤ). mag z < 2 ^ 31) (sym (c .net .ensures)) (mag-sub (at-after .count-true2 .result) (at-before .count-true .result) (omega arith) (omega arith)) }) ∙ x .net-is }, moved .1)
+    (at-before .count-true .ensures .0) (at-after .count-true2 .ensures .0) (c .net .ensures) in (
+      record {
+        values-are = x .values-are;
+        marks-are = x .marks-are;
+        shift-is = x .shift-is;
+        settle-is = x .settle-is;
+        net-is = toZ-ofZ w32 (c .net .result) (record { sfits = subst (λ (z : ℤ). mag z < 2 ^ 31) (sym (c .net .ensures)) (mag-sub (at-after .count-true2 .result) (at-before .count-true .result) (omega arith) (omega arith)) }) ∙ x .net-is;
+      },
+      moved .1,
+    )
 
 pub update-spec : {M : Type 1} → statement M
 update-spec =

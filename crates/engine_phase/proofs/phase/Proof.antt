@@ -53,11 +53,25 @@ turn-requires c κs =
     let waits = c .before .before .before .if1 .taken in
     let sw = leads-on (inv .1 .1) (record { start = pre .1 .1 .1 .start; index = pre .1 .1 .1 .index; on = at-rows .look-rows .ensures .1 (pre .1 .1 .1 .start) (a .visits, pre .1 .1 .1 .index) (pre .1 .1 .1 .on) }) in
     let d = jobIn (a .sizes) (a .block) (a .settling) (pairsOf (a .sizes)) (l .values) (l .marks) (l .queue) (l .front) (l .at .tail) (l .at .visits) (sw .index) in
-    let index = pre .1 .0 .0 .0 in
-    (record { labels = a .labels .now; drawn = pre .0 }, (record { long = index .long; chained = index .chained }, (pre .1 .0 .0 .1, ((on-vals (pre .0) d (sw .on), on-marks (pre .0) d (sw .on)),
-    ((on-bits (pre .0) d (sw .on), (inv .1 .0, waits)),
-    (front-value (pre .0) cs (a .block) (a .settling) low (pairsOf (a .sizes)) (omega arith) (l .values) (l .marks) (l .queue) (l .front) (l .at .tail) (l .at .visits) waits (inv .1 .0) sw,
-    front-bounded (pre .0) cs (a .block) (a .settling) low (pairsOf (a .sizes)) (omega arith) (l .values) (l .marks) (l .queue) (l .front) (l .at .tail) (l .at .visits) waits sw))))))
+    let index = pre .1 .0 .0 .0 in (
+      record { labels = a .labels .now; drawn = pre .0 },
+      (
+        record { long = index .long; chained = index .chained },
+        (
+          pre .1 .0 .0 .1,
+          (
+            (on-vals (pre .0) d (sw .on), on-marks (pre .0) d (sw .on)),
+            (
+              (on-bits (pre .0) d (sw .on), (inv .1 .0, waits)),
+              (
+                front-value (pre .0) cs (a .block) (a .settling) low (pairsOf (a .sizes)) (omega arith) (l .values) (l .marks) (l .queue) (l .front) (l .at .tail) (l .at .visits) waits (inv .1 .0) sw,
+                front-bounded (pre .0) cs (a .block) (a .settling) low (pairsOf (a .sizes)) (omega arith) (l .values) (l .marks) (l .queue) (l .front) (l .at .tail) (l .at .visits) waits sw,
+              ),
+            ),
+          ),
+        ),
+      ),
+    )
 
 add-front : tie.Need-add-front Inv-loop μ-loop
 add-front c =
