@@ -18,9 +18,9 @@ cast-apply c = search needs
 
 apply-requires : tie.Need-apply-requires
 apply-requires c κs =
-    let at-start = c .before .before .before .before .before .before .before .before .before in
+    let at-start = c .before .before .before .before .before .before .before .before .before .before .before in
     let a = at-start .args in
-    let l = roomsOf (a .labels .now) (a .equations .now) (a .values .now) (a .marks .now) (a .moves .now) in
+    let l = roomsWith (a .labels .now) (a .equations .now) (a .values .now) (a .marks .now) (a .moves .now) (a .index .now) (a .queue .now) in
     able-ready (a .session) l (changesOf (take (a .count) (a .changes .now))) (at-start .pre .0)
 
 update-requires : tie.Need-update-requires
