@@ -1,5 +1,6 @@
 //! The models that are timed, and the batches that are applied to them.
 
+mod crowded;
 mod eight;
 mod grid;
 mod live;
@@ -9,6 +10,7 @@ mod signs;
 use reference::records::spell_all;
 use reference::{stamp, Action, Block, Equation, Move, Record, Sizes, State};
 
+pub use crowded::crowded;
 pub use eight::{eight, led_elsewhere, Touched};
 pub use grid::{grid, MIXED_RULE, STRICT_RULE};
 pub use live::{live, made_live};

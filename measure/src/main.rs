@@ -3,8 +3,8 @@
 use std::hint::black_box;
 
 use measure::cases::{
-    eight, grid, led_elsewhere, live, maximal, signs, Case, ThereAndBack, Touched, MIXED_RULE,
-    STRICT_RULE,
+    crowded, eight, grid, led_elsewhere, live, maximal, signs, Case, ThereAndBack, Touched,
+    MIXED_RULE, STRICT_RULE,
 };
 use measure::clock::{in_turns, microseconds, middle, worst, Timed};
 use measure::rooms::Rooms;
@@ -204,6 +204,7 @@ fn main() {
     rows_of(&maximal(), rounds);
     row_of_64(&maximal(), rounds);
     rows_of_eight(rounds);
+    rows_of(&crowded(), rounds);
     rows_of_growth(rounds);
     rows_of_reading(&grid(16, &STRICT_RULE), rounds);
     rows_of_reading(&maximal(), rounds);

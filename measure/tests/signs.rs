@@ -5,7 +5,7 @@ mod common;
 
 use common::{at_start, loaded_parts, refused, Sides, LONG};
 use measure::answers::Report;
-use measure::cases::{eight, maximal, rewritten};
+use measure::cases::{crowded, eight, maximal, rewritten};
 
 /// Two states, one action, one greatest variable: model G of document 01 without its block.
 const G: [u8; 13] = [1, 2, 0, 1, 0, 1, 0, 11, 1, 6, 0, 0, 6];
@@ -27,8 +27,8 @@ fn with_blocks(seed: u64) -> Option<Vec<Vec<u8>>> {
 }
 
 /// The largest models that are timed, with a batch and the way back.
-fn timed() -> [Vec<Vec<u8>>; 2] {
-    [maximal(), eight()].map(|case| {
+fn timed() -> [Vec<Vec<u8>>; 3] {
+    [maximal(), eight(), crowded()].map(|case| {
         let many = case.changes(&case.spread(32), &case.absent(32));
         vec![case.bytes, many.there, many.back]
     })

@@ -5,7 +5,7 @@ mod common;
 
 use common::{at_start, parts, Sides, LONG};
 use measure::answers::Refusal;
-use measure::cases::{grid, maximal, signs, Case, STRICT_RULE};
+use measure::cases::{crowded, grid, maximal, signs, Case, STRICT_RULE};
 use measure::rooms::Rooms;
 use reference::generate::generate;
 
@@ -77,7 +77,12 @@ fn just_enough(case: &Case, moves: usize) -> Sides {
 
 #[test]
 fn work_rooms_that_are_too_short_are_13() {
-    for case in [grid(16, &STRICT_RULE), maximal(), signs(&maximal())] {
+    for case in [
+        grid(16, &STRICT_RULE),
+        maximal(),
+        crowded(),
+        signs(&maximal()),
+    ] {
         let single = case.changes(&case.spread(1), &[]);
         for moves in [case.moves.len(), 1_023.max(case.moves.len()), 1_024, 1_100] {
             let mut sides = just_enough(&case, moves);

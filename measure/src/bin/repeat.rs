@@ -1,9 +1,11 @@
 //! Makes one call of one version so many times: for a profiler, which takes the difference of two runs, so that whatever is
 //! done once falls out.
 //!
-//! `repeat ours|ordinary|strong strict|mixed|maximal|signs|live load|delete|insert|many|write TIMES`
+//! `repeat ours|ordinary|strong strict|mixed|maximal|crowded|signs|live load|delete|insert|many|write TIMES`
 
-use measure::cases::{grid, live, maximal, signs, Case, ThereAndBack, MIXED_RULE, STRICT_RULE};
+use measure::cases::{
+    crowded, grid, live, maximal, signs, Case, ThereAndBack, MIXED_RULE, STRICT_RULE,
+};
 use measure::rooms::Rooms;
 use measure::sides::Side;
 
@@ -13,9 +15,10 @@ fn case_named(name: &str) -> Case {
         "strict" => grid(16, &STRICT_RULE),
         "mixed" => grid(16, &MIXED_RULE),
         "maximal" => maximal(),
+        "crowded" => crowded(),
         "signs" => signs(&maximal()),
         "live" => live(&grid(16, &STRICT_RULE)),
-        _ => panic!("strict, mixed, maximal, signs or live"),
+        _ => panic!("strict, mixed, maximal, crowded, signs or live"),
     }
 }
 
