@@ -240,12 +240,12 @@ static uint64_t load_signed(void) { return load(signed_g, sizeof signed_g); }
 /* Of G, and of G with a sign. */
 static void stack(void) {
     lend(2, 1, 2);
-    hold_stack("bytes of stack: load ", load_g, 22000);
-    hold_stack(", batch ", insert_a, 22000);
+    hold_stack("bytes of stack: load ", load_g, 4000);
+    hold_stack(", batch ", insert_a, 4000);
     hold_stack(", write ", write, 1000);
     hold_stack(", ask ", ask_one, 1000);
-    hold_stack("; with a sign load ", load_signed, 22000);
-    hold_stack(", batch ", insert_a, 22000);
+    hold_stack("; with a sign load ", load_signed, 4000);
+    hold_stack(", batch ", insert_a, 4000);
     hold_stack(", write ", write, 1000);
     say(wrong ? ", and that is more than the header says\n" : "\n");
 }

@@ -134,6 +134,9 @@ __attribute__((used)) uint64_t divide(uint64_t number, uint64_t by, uint64_t *re
 void __aeabi_memclr(void *room, size_t length) { memset(room, 0, length); }
 void __aeabi_memclr4(void *room, size_t length) { memset(room, 0, length); }
 void __aeabi_memclr8(void *room, size_t length) { memset(room, 0, length); }
+void __aeabi_memset(void *room, size_t length, int byte) { memset(room, byte, length); }
+void __aeabi_memset4(void *room, size_t length, int byte) { memset(room, byte, length); }
+void __aeabi_memset8(void *room, size_t length, int byte) { memset(room, byte, length); }
 void __aeabi_memcpy(void *to, const void *from, size_t length) { memcpy(to, from, length); }
 void __aeabi_memcpy4(void *to, const void *from, size_t length) { memcpy(to, from, length); }
 void __aeabi_memcpy8(void *to, const void *from, size_t length) { memcpy(to, from, length); }

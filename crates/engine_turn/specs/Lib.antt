@@ -9,3 +9,4 @@ pub mod LeanersFound
 pub mod LeanersAsk
 pub mod LeanersInside
 pub mod TurnRuns
+pub mod MarkBytes

@@ -4,6 +4,7 @@ use rules::Sizes;
 use rules::State;
 use rules::Variable;
 ghost use mathlib.Core.Path.{_≡_};
+ghost use mathlib.Core.Bool.{true};
 ghost use mathlib.Core.List.{[], _∷_};
 ghost use Prim.Native.Nat.{_+_, _*_, _/_, _%_, _≤_, _<_};
 ghost use lib.ListN.{length, getD};
@@ -31,23 +32,17 @@ pub struct Spread {
 fn is_free(settling: bool, mark: u8) -> bool
     ensures { λ r. ⌜ r ≡ free settling mark ⌝ }
 {
-    if settling {
-        return mark < 2;
-    }
-    mark == 0
+    let settles = settling as u8;
+    mark < 1 + settles
 }
 
-// The mark by which a pair waits.
+// The mark by which a pair waits that is free to.
 fn next_mark(settling: bool, mark: u8) -> u8
+    requires { ⌜ free settling mark ≡ true ⌝ }
     ensures { λ r. ⌜ r ≡ nextMark settling mark ⌝ }
 {
-    if settling {
-        if mark == 0 {
-            return 3;
-        }
-        return 2;
-    }
-    1
+    let settles = settling as u8;
+    1 + 2 * settles - mark
 }
 
 // Has the pair of x and s the value `from`?

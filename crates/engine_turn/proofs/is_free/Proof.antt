@@ -1,17 +1,18 @@
--- By the phase. Assumes nothing.
-use mathlib.Core.Path.{refl}
+-- By the byte of the phase. Assumes nothing.
+use native.Mathlib.Omega.{arith}
+use Rattle.engine_turn.specs.MarkBytes.{phase-small, free-byte}
+use borrow.Author.Needs.{needs}
 use Rattle.engine_turn.proofs.is_free.Statement.{statement}
 use Rattle.engine_turn.proofs.is_free.Tie as tie
 
-returns : tie.Need-returns
-returns c =
-    let at-if1 = c in
-    rw (at-if1 .if1 .taken) refl
+cast-settles : tie.Need-cast-settles
+cast-settles c = search needs
 
-returns-2 : tie.Need-returns-2
-returns-2 c =
-    let at-if1 = c in
-    rw (at-if1 .if1 .left) refl
+add-result : tie.Need-add-result
+add-result c = let k = phase-small (c .args .settling) in record { fits = omega arith }
+
+returns : tie.Need-returns
+returns c = free-byte (c .args .settling) (c .args .mark)
 
 pub is-free-spec : {M : Type 1} → statement M
-is-free-spec = tie.close (tie.spec returns returns-2)
+is-free-spec = tie.close (tie.spec cast-settles add-result returns)

@@ -1,24 +1,24 @@
--- By the phase and the mark. Assumes nothing.
-use mathlib.Core.Path.{refl}
-use Rattle.lists.specs.Tests.{eqb-in, eqb-no}
+-- By the byte of the phase. Assumes nothing.
+use native.Mathlib.Omega.{arith}
+use Rattle.engine_turn.specs.MarkBytes.{phase-small, free-small, next-byte}
 use borrow.Author.Needs.{needs}
 use Rattle.engine_turn.proofs.next_mark.Statement.{statement}
 use Rattle.engine_turn.proofs.next_mark.Tie as tie
 
+cast-settles : tie.Need-cast-settles
+cast-settles c = search needs
+
+mul-result : tie.Need-mul-result
+mul-result c = let k = phase-small (c .args .settling) in record { fits = omega arith }
+
+add-result : tie.Need-add-result
+add-result c = let k = phase-small (c .args .settling) in record { fits = omega arith }
+
+sub-result : tie.Need-sub-result
+sub-result c = let k = free-small (c .args .settling) (c .args .mark) (c .pre) in omega arith
+
 returns : tie.Need-returns
-returns c =
-    let at-if1 = c .before in
-    let at-if2 = c in
-    rw (at-if1 .if1 .taken, eqb-in _ 0 (at-if2 .if2 .taken)) refl
-
-returns-2 : tie.Need-returns-2
-returns-2 c =
-    let at-if1 = c .before in
-    let at-if2 = c in
-    rw (at-if1 .if1 .taken, eqb-no _ 0 .1 (at-if2 .if2 .left)) refl
-
-returns-3 : tie.Need-returns-3
-returns-3 c = search needs
+returns c = next-byte (c .args .settling) (c .args .mark) (c .pre)
 
 pub next-mark-spec : {M : Type 1} → statement M
-next-mark-spec = tie.close (tie.spec returns returns-2 returns-3)
+next-mark-spec = tie.close (tie.spec cast-settles mul-result add-result sub-result returns)

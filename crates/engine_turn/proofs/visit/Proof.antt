@@ -1,5 +1,5 @@
 -- The pair waits where it is free and must turn. Assumes nothing.
-use mathlib.Core.Path.{refl}
+use mathlib.Core.Path.{refl, sym, _∙_}
 use Prim.Native.Nat.{_<_}
 use native.Mathlib.Omega.{arith}
 use Rattle.words.specs.Limits.{limits}
@@ -34,7 +34,10 @@ must-turn-requires : tie.Need-must-turn-requires
 must-turn-requires c κs = search needs
 
 next-mark-requires : tie.Need-next-mark-requires
-next-mark-requires c κs = search needs
+next-mark-requires c κs =
+    let at-if1 = c .before .before in
+    let at-is-free = at-if1 .before in
+    sym (at-is-free .is-free .ensures) ∙ at-if1 .if1 .taken
 
 slice-write-marks : tie.Need-slice-write-marks
 slice-write-marks c =
