@@ -2,8 +2,8 @@
    inserted and deleted. Link target/native/libhuepaxochi.a, which tools/native builds for this machine; `tools/native TARGET`
    builds target/native/TARGET/libhuepaxochi.a for another one, such as thumbv7m-none-eabi. It allocates nothing, keeps nothing
    between calls, and calls nothing but memset and the like of the C library and, on 32-bit machines, the 64-bit division of
-   the compiler's run-time library. Load takes at most STACK_LOAD and batch at most STACK_BATCH bytes of stack, both under 4,000, and
-   write and ask at most 1,000, as measured for x86-64, a Cortex-M3 and 32-bit RISC-V (embed/machines).
+   the compiler's run-time library. Load and batch take at most 4,000 bytes of stack and write and ask at most 1,000, as
+   measured for x86-64, a Cortex-M3 and 32-bit RISC-V (embed/machines).
 
    Every room is passed as a pointer and its length in ELEMENTS, not in bytes. A length has 64 bits on every machine, also where
    size_t has 32, because the compiled code has one width of length for all machines; a size_t that is passed is widened by the

@@ -115,18 +115,6 @@ pub fn stamp_of(moves: &[u32], n: usize) -> u32
     weighed(sources, actions, targets, (end % 4294967296) as u32)
 }
 
-// The place of the first of the n moves, from `from` on, that does not lie below the key, in any list: a walk.
-pub fn passed(moves: &[u32], n: usize, from: usize, key: u64) -> usize
-    ensures { λ r. ⌜ r ≡ from + leading key (drop from (take n (now (moves .entry)))) ⌝ }
-{
-    let end = least(n, moves.len());
-    let mut at = from;
-    while (at < end) & ((rooms::word_at(moves, at) as u64) < key) {
-        at = at + 1;
-    }
-    at
-}
-
 // How far a search is: the place that it goes on from, and how many tests it took.
 struct Found {
     at: usize,
@@ -151,8 +139,8 @@ fn tested(moves: &[u32], found: Found, middle: usize, key: u64) -> Found
     }
 }
 
-// The same place as `passed` finds, in an ascending list, found by halving: it is where the search is or one of the `left` places
-// after it, and each test, made in the middle of these, leaves half of them.
+// The place of the first of the n moves, from `from` on, that does not lie below the key, in an ascending list, found by halving: it is
+// where the search is or one of the `left` places after it, and each test, made in the middle of these, leaves half of them.
 fn search(moves: &[u32], n: usize, from: usize, key: u64) -> Found
     requires { ⌜ ascends 0 (take n (now moves)) ≡ true ⌝ }
     ensures { λ r. ⌜ (r .at ≡ from + leading key (drop from (take n (now (moves .entry)))))
