@@ -4,3 +4,4 @@ pub mod Course
 pub mod Phase
 pub mod PutRow
 pub mod LookRow
+pub mod NextRow

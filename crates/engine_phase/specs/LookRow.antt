@@ -23,12 +23,7 @@ use Rattle.engine_phase.specs.Course.{On, on-vals, on-bits, on-marks, on
 use Rattle.engine_phase.specs.Phase.{Somewhere, Leads, jobIn, RowLeft, row-none, leads-row}
 use Rattle.engine_phase.specs.PutRow.{turnsFrom, turnsIn, is-byte, hits-same, row-same}
 
--- The byte of the value that pairs turn from.
-pub kind-byte : (kind : ℕ) → kind ≤ 1 → kind ≡ bit (eqb kind 1)
-kind-byte zero h = refl
-kind-byte (suc zero) h = refl
-kind-byte (suc (suc k)) h = absurd (omega arith)
-
+-- The byte of the other value of a kind.
 pub other-byte : (kind : ℕ) → kind ≤ 1 → 1 - kind ≡ bit (not (eqb kind 1))
 other-byte zero h = refl
 other-byte (suc zero) h = refl

@@ -1,6 +1,7 @@
 -- What the steps of a phase leave, as code has it: the lists that rooms and numbers stand for, and what leads from lists on a
 -- course to lists on it. Assumes nothing.
 use mathlib.Core.Path.{_≡_, refl, sym, ap, _∙_, subst}
+use mathlib.Core.Logic.{inl, inr}
 use mathlib.Core.Bool.{Bool, true, false, not, cond}
 use mathlib.Core.List.{List, [], _∷_, _++_, map, append-nil}
 use Prim.Native.Nat.{ℕ, zero, suc, _+_, _*_, _/_, _%_, _≤_, _<_}
@@ -8,8 +9,12 @@ use native.Mathlib.Nat.{add-zero}
 use native.Mathlib.Omega.{arith}
 use lib.ListN.{length, getD, set, length-map, List·getD-map}
 use lib.Seq.{set-getD}
+use lib.Dec.{ltb}
+use Rattle.lists.specs.Lists.{bit}
+use Rattle.lists.specs.Tests.{tell, ltb-out, ltb-no}
 use Rattle.systems.specs.Machine.{own, free, nextMark, asks}
-use Rattle.systems.specs.ListMachine.{valOf, turned, marksIn, between, spreadL, Job}
+use Rattle.systems.specs.ListMachine.{valOf, turned, marksIn, between, Pile, spreadL, Job}
+use Rattle.systems.specs.ListUnits.{spread-kept}
 use Rattle.systems.specs.Places.{nextPhase}
 use Rattle.systems.specs.Rows.{hits, rowMarks}
 use Rattle.rules.specs.Model.{blocksOf}
@@ -24,10 +29,10 @@ use Rattle.laws.specs.LookTest.{lookTest}
 use Rattle.words.specs.Table.{Table, modelOf, Drawn, wordAt, ownIn, waiter}
 use Rattle.words.specs.EquationWords.{own-word}
 use Rattle.words.specs.Limits.{limits, pairs-few}
-use Rattle.engine_rows.specs.Rooms.{Packed, pileIn}
+use Rattle.engine_rows.specs.Rooms.{Bits, Packed, pileIn}
 use Rattle.engine_turn.specs.Scene.{sketch, Bounded}
-use Rattle.engine_turn.specs.Turns.{Visit, visited, Turned, roundOf}
-use Rattle.engine_turn.specs.TurnRuns.{leaners-same}
+use Rattle.engine_turn.specs.Turns.{Visit, visited, RoomFor, Turned, roundOf}
+use Rattle.engine_turn.specs.TurnRuns.{bit-of, leaners-same}
 use Rattle.engine_phase.specs.LeanersFew.{most-leaners, leaners-few}
 use Rattle.engine_phase.specs.Course.{On, on-room, on-row, on-pass, on-over, on-turning, on-turn, on-few}
 
@@ -193,6 +198,34 @@ module _ {t : Table} (dr : Drawn t) (cs : List Change) (i : ℕ) (ph : Bool) (lo
   -- The same, as a turn asks for it: whatever the labels.
   pub front-bounded : Somewhere t cs turning → Bounded tail visits (leanersOf (modelOf (sketch (t .sizes) (t .equations) (t .moves))) pairOf)
   front-bounded s = subst (Bounded tail visits) (leaners-same (t .sizes) (t .labels) [] (t .equations) (t .moves) pairOf) (front-few s)
+
+  -- All pairs of the block turn from the same value.
+  pub front-from : Bits values → Somewhere t cs turning → getD values pairOf 0 ≡ bit (cond ph (frame (modelOf t) .great i) (not (frame (modelOf t) .great i)))
+  front-from bits s =
+      let f = on-turning dr (turning (s .index)) (s .on) low past waits in
+      bit-of (getD values pairOf 0) (bits pairOf)
+      ∙ ap bit (ap (valueAt values) (sym front-is) ∙ f .value ∙ ap (λ (b : ℕ). cond ph (frame (modelOf t) .great b) (not (frame (modelOf t) .great b))) (f .here))
+
+  -- The queue has places for all that come to wait.
+  pub front-room : pairsOf (t .sizes) ≤ length queue → Somewhere t cs turning → RoomFor (t .sizes) (t .equations) (t .moves) ph front word (roundOf values marks queue tail visits)
+  unfolding visited
+  front-room room s = record { labels = t .labels; drawn = dr; room = subst (λ (p : ℕ). after p .tail ≤ length queue) front-is few }
+    where
+      after : ℕ → Pile
+      after p = spreadL (free ph) (nextMark ph) (asks (frame (modelOf t)) (leanings (modelOf t)) ph (valOf (set values p (turned (getD values p 0))))) (leanersOf (modelOf t) p)
+          (pileIn (t .sizes) marks queue (suc front) tail)
+
+      few : after (getD (map (waiter (t .sizes)) queue) front 0) .tail ≤ length queue
+      few =
+          let p = getD (map (waiter (t .sizes)) queue) front 0 in
+          let o = on-turn dr (turning (s .index)) (s .on) low past waits _ (after p) _ _ refl refl refl refl in
+          let r = on-room dr (turning (s .index)) (s .on) waits in
+          let f = spread-kept (free ph) (nextMark ph) (asks (frame (modelOf t)) (leanings (modelOf t)) ph (valOf (set values p (turned (getD values p 0))))) (leanersOf (modelOf t) p)
+          (pileIn (t .sizes) marks queue (suc front) tail) .from in
+          elim (tell true (ltb (after p .from) (after p .tail))) [
+            | inl e ↦ let h = on-room dr _ o (ltb-out (after p .from) (after p .tail) e) in omega arith
+            | inr e ↦ let h = ltb-no (after p .from) (after p .tail) .0 e in omega arith
+          ]
 
   -- What a turn leaves is on the course.
   pub leads-turned : (values′ marks′ queue′ : List ℕ) (tail′ visits′ : ℕ)

@@ -17,6 +17,7 @@ ghost use Rattle.rules.specs.Model.{blocksOf};
 ghost use Rattle.rules.specs.Rooms.{pairsOf};
 ghost use Rattle.rules.specs.Batch.{changesOk};
 ghost use Rattle.rules.specs.Calls.{valueAt};
+ghost use Rattle.rules.specs.Session.{unword};
 ghost use Rattle.rules.specs.Values.{leanings};
 ghost use Rattle.laws.specs.ModelSystem.{frame};
 ghost use Rattle.laws.specs.ModelLeaners.{leanersOf};
@@ -27,6 +28,7 @@ ghost use Rattle.engine_index.specs.Operands.{Named};
 ghost use Rattle.engine_rows.specs.Rooms.{Bits, Packed, pileIn, Tells, Told};
 ghost use Rattle.engine_phase.specs.Phase.{RowLeft, Somewhere, Leads, jobIn, blockAfter};
 ghost use Rattle.engine_phase.specs.PutRow.{turnsIn, turnsFrom};
+ghost use Rattle.engine_phase.specs.NextRow.{NextOf};
 
 // The pairs of the row of y that have the value `from` and whose places are bad get their marks and wait.
 fn put_row(
@@ -107,7 +109,7 @@ fn turns_from(kind: u8, settling: bool) -> u8
     1 - kind
 }
 
-// The row of y is looked at, if it is of the block: its pairs that must turn get their marks and wait.
+// The row of y, a variable of the block, is looked at: its pairs that must turn get their marks and wait.
 fn look_row(
     sizes: Sizes,
     labels: &[u32],
@@ -127,7 +129,7 @@ fn look_row(
     requires { ⌜ Drawn (tableIn sizes (now labels) (now equations) (now moves)) ⌝ }
     requires { ⌜ Indexed (tableIn sizes (now labels) (now equations) (now moves)) (now index) × (changesOk sizes (changesOf (now changes)) ≡ true) ⌝ }
     requires { ⌜ (y .0 < sizes .variables) × ((block < blocksOf (modelOf (tableIn sizes (now labels) (now equations) (now moves)))) × ((length (now bad) ≡ sizes .states) × (pairsOf sizes < length (now queue)))) ⌝ }
-    requires { ⌜ Packed sizes (now queue) tail ⌝ }
+    requires { ⌜ Packed sizes (now queue) tail × (unword (getD (now equations) (y .0) 0) .block ≡ block) ⌝ }
     requires { ⌜ Somewhere {I = ℕ × ℕ} (tableIn sizes (now labels) (now equations) (now moves)) (changesOf (now changes)) (λ v. jobIn sizes block settling (y .0 * sizes .states) (now values) (now marks) (now queue) 0 tail (v .0) (v .1)) ⌝ }
     ensures { λ r. ⌜ Packed sizes (now (queue .exit)) r
         × Leads {I = ℕ × ℕ} (tableIn sizes (now (labels .entry)) (now (equations .entry)) (now (moves .entry))) (changesOf (now (changes .entry)))
@@ -135,9 +137,6 @@ fn look_row(
         (λ v. jobIn sizes block settling ((y .0 + 1) * sizes .states) (now (values .entry)) (now (marks .exit)) (now (queue .exit)) 0 r (v .0) (v .1)) ⌝ }
 {
     let e = words::equation_in(rooms::word_at(equations, y.0 as usize));
-    if e.block as usize != block {
-        return tail;
-    }
     if !tell_row(
         sizes,
         labels,
@@ -155,6 +154,23 @@ fn look_row(
     }
     let from = turns_from(e.kind, settling);
     put_row(sizes, values, marks, queue, bad, y, tail, settling, from)
+}
+
+// The next variable of the block, from y on; the number of variables where there is none.
+fn next_of(equations: &[u32], block: usize, from: usize) -> usize
+    requires { ⌜ from ≤ length (now equations) ⌝ }
+    ensures { λ r. ⌜ NextOf (now (equations .entry)) block from r ⌝ }
+{
+    let n = equations.len();
+    let mut y = from;
+    while y < n {
+        let e = words::equation_in(equations[y]);
+        if e.block as usize == block {
+            return y;
+        }
+        y = y + 1;
+    }
+    y
 }
 
 // All rows of the block are looked at. Answers where the queue ends then.
@@ -183,7 +199,7 @@ fn look_rows(
 {
     let variables = sizes.variables as usize;
     let mut tail: usize = 0;
-    let mut y: usize = 0;
+    let mut y = next_of(equations, block, 0);
     while y < variables {
         let x = y as u8;
         tail = look_row(
@@ -202,12 +218,22 @@ fn look_rows(
             tail,
             settling,
         );
-        y = y + 1;
+        y = next_of(equations, block, y + 1);
     }
     tail
 }
 
-// One phase of the block: all its rows are looked at, and then each pair that waits turns. Answers the visits of the phase's kind.
+// The value of the pair that is first in the queue.
+fn first_value(sizes: Sizes, values: &[u8], queue: &[u16]) -> u8
+    ensures { λ r. ⌜ r ≡ getD (now (values .entry)) (waiter sizes (getD (now (queue .entry)) 0 0)) 0 ⌝ }
+{
+    let w = rooms::half_at(queue, 0);
+    let p = limits::pair_of(sizes, words::state_of(w), words::variable_of(w));
+    rooms::byte_at(values, p)
+}
+
+// One phase of the block: all its rows are looked at, and then each pair that waits turns. All of them turn from the same value.
+// Answers the visits of the phase's kind.
 pub fn phase(
     sizes: Sizes,
     labels: &[u32],
@@ -247,6 +273,7 @@ pub fn phase(
         block,
         settling,
     );
+    let from = first_value(sizes, values, queue);
     let mut at = Spread {
         tail: tail,
         visits: visits,
@@ -266,6 +293,7 @@ pub fn phase(
             front,
             at,
             settling,
+            from,
         );
         front = front + 1;
     }

@@ -11,7 +11,7 @@ use Rattle.words.specs.Table.{Table}
 use Rattle.engine_index.specs.Chains.{lastTo}
 use Rattle.engine_index.specs.ChainWalks.{last-le, last-at, last-again, last-skips}
 use Rattle.engine_index.specs.Indexed.{keyOf, headsOf, Indexed}
-use Rattle.engine_turn.specs.Scene.{Scene, Line, visitAll, along, Bounded}
+use Rattle.engine_turn.specs.Scene.{Scene, Line, visitAll, along, Bounded, Room}
 use Rattle.engine_turn.specs.VisitLaws.{visit-append, visit-none, visit-grows}
 
 -- The walk stands at k with v: what is left from here is what was to do at the beginning.
@@ -75,6 +75,16 @@ module _ (key : ℕ → ℕ) (ws : List ℕ) (t : ℕ) (here : ℕ → List ℕ)
         let h = o .high in
         let m = o .many in
         (omega arith, omega arith)
+
+    -- And the queue has places for it.
+    pub chain-fits : (start : Line) (k j : ℕ) (v : Line) → Walk start k v → k ≡ suc j → Room c ph (todo n) start → Room c ph (here j) v
+    chain-fits start k j v o e r =
+        let more = ap todo e ∙ along-at j (chain-at start k j v o e) in
+        let apart = sym (visit-append c ph (here j) (todo j) v) ∙ ap (λ (l : List ℕ). visitAll c ph l v) (sym more) ∙ o .same in
+        let t = ap (λ (x : Line). x .tail) apart in
+        let g = visit-grows c ph (todo j) (visitAll c ph (here j) v) .low in
+        let q = o .long-queue in
+        omega arith
 
     -- One word further along the chain.
     pub chain-goes : (start : Line) (k j : ℕ) (v w : Line) (next : ℕ) → Walk start k v → k ≡ suc j → w ≡ visitAll c ph (here j) v

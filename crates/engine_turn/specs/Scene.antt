@@ -150,3 +150,7 @@ pub record OperandOf (c : Scene) (o : ℕ) : Type 0 where
 -- A run of visits of the pairs in a list stays inside numbers of 32 bits.
 abbrev pub Bounded : ℕ → ℕ → List ℕ → Type 0
 Bounded tail visits l = (tail + length l < 4294967296) × (visits + length l < 4294967296)
+
+-- The queue has places for all that come to wait where the pairs of a list are visited.
+abbrev pub Room : Scene → Bool → List ℕ → Line → Type 0
+Room c ph l v = visitAll c ph l v .tail ≤ length (v .queue)

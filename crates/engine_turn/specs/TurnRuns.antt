@@ -11,7 +11,9 @@ use lib.Dec.{eqb}
 use Rattle.lists.specs.Lists.{bit}
 use Rattle.lists.specs.Tests.{_∈_}
 use Rattle.systems.specs.Leaners.{found-out}
+use Rattle.systems.specs.Machine.{free, nextMark}
 use Rattle.systems.specs.ListMachine.{turned}
+use Rattle.systems.specs.ListUnits.{spread-kept}
 use Rattle.rules.specs.Rooms.{pairsOf}
 use Rattle.rules.specs.Calls.{valueAt}
 use Rattle.rules.specs.Values.{leanings, Term, constant, proposition, join, step, state, variable, termOf, equationAt}
@@ -22,9 +24,9 @@ use Rattle.laws.specs.ModelLeaners.{leanersVia, leanersTo, leanersOf, model-fin
 use Rattle.words.specs.Table.{Table, tableIn, modelOf, Drawn, wordAt, ownIn, pairIn, waiter}
 use Rattle.words.specs.EquationWords.{drawn-sound, own-word, pair-inside}
 use Rattle.engine_rows.specs.Rooms.{Bits, Packed, pileIn}
-use Rattle.engine_turn.specs.Scene.{Scene, sceneOf, Standing, sketch, asksFor, Line, lineOf, visitAll, leanersIn, Bounded}
+use Rattle.engine_turn.specs.Scene.{Scene, sceneOf, Standing, sketch, asksFor, Line, lineOf, visitAll, leanersIn, Bounded, Room}
 use Rattle.engine_turn.specs.Inside.{pair-low}
-use Rattle.engine_turn.specs.Turns.{askOf, visited, Sketched, FromValue, roundOf, visitIn, Turned}
+use Rattle.engine_turn.specs.Turns.{Visit, askOf, visited, Sketched, FromValue, Round, roundOf, visitIn, RoomFor, Turned}
 use Rattle.engine_turn.specs.PileVisits.{run-visited, all-packed}
 use Rattle.engine_turn.specs.LeanersFound.{leaners-found}
 use Rattle.engine_turn.specs.LeanersInside.{in-map, leaners-stand}
@@ -50,7 +52,7 @@ turned-is v = go (eqb v 1)
     go true = refl
     go false = refl
 
-bit-of : (v : ℕ) → v ≤ 1 → v ≡ bit (eqb v 1)
+pub bit-of : (v : ℕ) → v ≤ 1 → v ≡ bit (eqb v 1)
 bit-of zero h = refl
 bit-of (suc zero) h = refl
 bit-of (suc (suc v)) h = absurd (omega arith)
@@ -163,63 +165,91 @@ leaners-bounded z labels equations moves d x s tail visits hx l b =
     let e = sym (length-map (leanersIn z equations moves x s) (waiter z)) ∙ ap length (leaners-found d x s hx l ∙ leaners-same z labels [] equations moves (pairIn z x s)) in
     (omega (arith, b .0), omega (arith, b .1))
 
--- The turn of the pair in front, as code makes it: the number w read from the queue, its variable x and its state q, and the place p.
-module _ (z : Sizes) (equations moves : List ℕ) (sk : Sketched z equations moves) (ph : Bool) (values : List ℕ) (bits : Bits values) (long : length values ≡ pairsOf z)
-    (marks queue : List ℕ) (tail visits front : ℕ) (packed : Packed z queue tail) (h : front < tail) (w x q p : ℕ)
-    (is-w : w ≡ getD queue front 0) (is-x : x ≡ w / 1024) (is-q : q ≡ w % 1024) (is-p : p ≡ pairIn z x q) where
+-- What waits stands in the queue.
+pub front-held : (z : Sizes) (equations moves : List ℕ) (ph : Bool) (front w : ℕ) (a : Round) → RoomFor z equations moves ph front w a → a .tail ≤ length (a .queue)
+unfolding visited
+front-held z equations moves ph front w a r =
+    let m = modelOf (tableIn z (r .labels) equations moves) in
+    let values = set (a .values) (waiter z w) (turned (getD (a .values) (waiter z w) 0)) in
+    let k = spread-kept (free ph) (nextMark ph) (askOf m ph values) (leanersOf m (waiter z w)) (visitIn z (suc front) a .pile) .tail in
+    let h = r .room in
+    omega arith
+
+-- The pair in front of the queue as code has read it: its variable x, its state q and its place p.
+pub record InFront (z : Sizes) (equations moves values queue : List ℕ) (tail front x q p : ℕ) : Type 0 where
+  pub sketched : Sketched z equations moves
+  pub bits : Bits values
+  pub long : length values ≡ pairsOf z
+  pub packed : Packed z queue tail
+  pub waits : front < tail
+  pub is-x : x ≡ getD queue front 0 / 1024
+  pub is-q : q ≡ getD queue front 0 % 1024
+  pub is-p : p ≡ pairIn z x q
+
+-- Its turn, as code makes it.
+module _ {z : Sizes} {equations moves values queue : List ℕ} {tail front x q p : ℕ} (f : InFront z equations moves values queue tail front x q p) where
   abbrev top : ℕ
   top = getD queue front 0
 
-  x-top : x ≡ top / 1024
-  x-top = is-x ∙ ap (λ (n : ℕ). n / 1024) is-w
-
-  q-top : q ≡ top % 1024
-  q-top = is-q ∙ ap (λ (n : ℕ). n % 1024) is-w
-
   p-top : p ≡ waiter z top
-  p-top = is-p ∙ ap₂ {C = ℕ} (λ (m n : ℕ). pairIn z m n) x-top q-top
+  p-top = f .is-p ∙ ap₂ {C = ℕ} (λ (m n : ℕ). pairIn z m n) (f .is-x) (f .is-q)
 
   -- It is a pair.
   pub x-inside : x < z .variables
-  x-inside = let k = packed front h .0 in let e = x-top in omega arith
+  x-inside = let k = f .packed front (f .waits) .0 in let e = f .is-x in omega arith
 
   pub q-inside : q < z .states
-  q-inside = let k = packed front h .1 in let e = q-top in omega arith
+  q-inside = let k = f .packed front (f .waits) .1 in let e = f .is-q in omega arith
 
   pub p-inside : p < length values
-  p-inside = let k = pair-low z x q x-inside q-inside in omega arith
+  p-inside = let k = pair-low z x q x-inside q-inside in let l = f .long in omega arith
 
   -- What code needs for the visits.
   pub turn-standing : (after : List ℕ) (from : ℕ) → length after ≡ length values → Standing (sceneOf z equations moves after from)
-  turn-standing after from e = record { labels = sk .labels; drawn = sk .drawn; long = e ∙ long }
+  turn-standing after from e = record { labels = f .sketched .labels; drawn = f .sketched .drawn; long = e ∙ f .long }
 
-  pub turn-bounded : Bounded tail visits (leanersOf (modelOf (sketch z equations moves)) (waiter z top)) → Bounded tail visits (leanersIn z equations moves x q)
-  turn-bounded b =
-      leaners-bounded z (sk .labels) equations moves (sk .drawn) x q tail visits x-inside q-inside
-      (subst (λ (n : ℕ). Bounded tail visits (leanersOf (modelOf (sketch z equations moves)) n)) (sym p-top ∙ is-p) b)
+  pub turn-bounded : (visits : ℕ) → Bounded tail visits (leanersOf (modelOf (sketch z equations moves)) (waiter z top)) → Bounded tail visits (leanersIn z equations moves x q)
+  turn-bounded visits b =
+      leaners-bounded z (f .sketched .labels) equations moves (f .sketched .drawn) x q tail visits x-inside q-inside
+      (subst (λ (n : ℕ). Bounded tail visits (leanersOf (modelOf (sketch z equations moves)) n)) (sym p-top ∙ f .is-p) b)
 
-  -- What it has done.
-  pub turn-done : FromValue (sketch z equations moves) ph values top → (values′ marks′ queue′ : List ℕ) (tail′ visits′ : ℕ) → values′ ≡ set values p (1 - getD values p 0)
-      → lineOf marks′ queue′ tail′ visits′ ≡ visitAll (sceneOf z equations moves values′ (getD values p 0)) ph (leanersIn z equations moves x q) (lineOf marks queue tail visits)
-      → Turned z equations moves ph front top (roundOf values marks queue tail visits) (roundOf values′ marks′ queue′ tail′ visits′)
-  turn-done value values′ marks′ queue′ tail′ visits′ e f = record {
-    values = become;
-    packed = turn-packed (sk .drawn) ph values bits long (top / 1024) (top % 1024) (packed front h .0) (packed front h .1) value v (lineOf marks′ queue′ tail′ visits′) run packed;
-    visits = λ labels d. turn-visits d ph values bits long (top / 1024) (top % 1024) (packed front h .0) (packed front h .1) value (suc front) v (lineOf marks′ queue′ tail′ visits′) run
-        ∙ ap (λ (n : List ℕ). visited (modelOf (tableIn z labels equations moves)) ph n (leanersOf (modelOf (tableIn z labels equations moves)) (waiter z top)) (visitIn z (suc front) (roundOf values marks queue tail visits))) (sym become);
-  }
-    where
-      v : Line
-      v = lineOf marks queue tail visits
+  -- What it turns from, and what the values become.
+  module _ (ph : Bool) (value : FromValue (sketch z equations moves) ph values top) (from : ℕ) (is-from : from ≡ getD values (waiter z top) 0) (marks : List ℕ) (visits : ℕ) where
+    abbrev line : Line
+    line = lineOf marks queue tail visits
 
-      become : values′ ≡ set values (waiter z top) (turned (getD values (waiter z top) 0))
-      become =
-          e ∙ ap (λ (n : ℕ). set values n (1 - getD values n 0)) p-top
-          ∙ ap (set values (waiter z top)) (turned-bit (getD values (waiter z top) 0) (bits (waiter z top)))
+    become : set values p (1 - from) ≡ set values (waiter z top) (turned (getD values (waiter z top) 0))
+    become =
+        ap (λ (n : ℕ). set values n (1 - from)) p-top ∙ ap (λ (n : ℕ). set values (waiter z top) (1 - n)) is-from
+        ∙ ap (set values (waiter z top)) (turned-bit (getD values (waiter z top) 0) (f .bits (waiter z top)))
 
-      run : lineOf marks′ queue′ tail′ visits′
-          ≡ visitAll (sceneOf z equations moves (set values (waiter z top) (turned (getD values (waiter z top) 0))) (getD values (waiter z top) 0)) ph (leanersIn z equations moves (top / 1024) (top % 1024)) (lineOf marks queue tail visits)
-      run =
-          f ∙ ap (λ (n : List ℕ). visitAll (sceneOf z equations moves n (getD values p 0)) ph (leanersIn z equations moves x q) (lineOf marks queue tail visits)) become
-          ∙ ap (λ (n : ℕ). visitAll (sceneOf z equations moves (set values (waiter z top) (turned (getD values (waiter z top) 0))) (getD values n 0)) ph (leanersIn z equations moves x q) (lineOf marks queue tail visits)) p-top
-          ∙ ap₂ {C = Line} (λ (m n : ℕ). visitAll (sceneOf z equations moves (set values (waiter z top) (turned (getD values (waiter z top) 0))) (getD values (waiter z top) 0)) ph (leanersIn z equations moves m n) (lineOf marks queue tail visits)) x-top q-top
+    -- The visits are those of the pair in front.
+    run : visitAll (sceneOf z equations moves (set values p (1 - from)) from) ph (leanersIn z equations moves x q) line
+        ≡ visitAll (sceneOf z equations moves (set values (waiter z top) (turned (getD values (waiter z top) 0))) (getD values (waiter z top) 0)) ph
+        (leanersIn z equations moves (top / 1024) (top % 1024)) line
+    run =
+        ap₂ {C = Line} (λ (n : List ℕ) (k : ℕ). visitAll (sceneOf z equations moves n k) ph (leanersIn z equations moves x q) line) become is-from
+        ∙ ap₂ {C = Line} (λ (m n : ℕ). visitAll (sceneOf z equations moves (set values (waiter z top) (turned (getD values (waiter z top) 0))) (getD values (waiter z top) 0)) ph
+        (leanersIn z equations moves m n) line) (f .is-x) (f .is-q)
+
+    -- The queue has places for all that come to wait.
+    pub turn-room : RoomFor z equations moves ph front top (roundOf values marks queue tail visits)
+        → Room (sceneOf z equations moves (set values p (1 - from)) from) ph (leanersIn z equations moves x q) line
+    turn-room r =
+        let e = ap (λ (v : Line). v .tail) run in
+        let t = ap (λ (v : Visit). v .pile .tail) (turn-visits (r .drawn) ph values (f .bits) (f .long) (top / 1024) (top % 1024) (f .packed front (f .waits) .0) (f .packed front (f .waits) .1) value (suc front) line _ refl) in
+        let m = r .room in
+        omega arith
+
+    -- What it has done.
+    pub turn-done : (marks′ queue′ : List ℕ) (tail′ visits′ : ℕ)
+        → lineOf marks′ queue′ tail′ visits′ ≡ visitAll (sceneOf z equations moves (set values p (1 - from)) from) ph (leanersIn z equations moves x q) line
+        → Turned z equations moves ph front top (roundOf values marks queue tail visits) (roundOf (set values p (1 - from)) marks′ queue′ tail′ visits′)
+    turn-done marks′ queue′ tail′ visits′ e = record {
+      values = become;
+      packed = turn-packed (f .sketched .drawn) ph values (f .bits) (f .long) (top / 1024) (top % 1024) (f .packed front (f .waits) .0) (f .packed front (f .waits) .1) value line
+          (lineOf marks′ queue′ tail′ visits′) (e ∙ run) (f .packed);
+      visits = λ labels d. turn-visits d ph values (f .bits) (f .long) (top / 1024) (top % 1024) (f .packed front (f .waits) .0) (f .packed front (f .waits) .1) value (suc front) line
+          (lineOf marks′ queue′ tail′ visits′) (e ∙ run)
+          ∙ ap (λ (n : List ℕ). visited (modelOf (tableIn z labels equations moves)) ph n (leanersOf (modelOf (tableIn z labels equations moves)) (waiter z top)) (visitIn z (suc front) (roundOf values marks queue tail visits))) (sym become);
+    }

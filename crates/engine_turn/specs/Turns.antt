@@ -2,7 +2,7 @@
 use mathlib.Core.Path.{_≡_}
 use mathlib.Core.Bool.{Bool, not, cond}
 use mathlib.Core.List.{List}
-use Prim.Native.Nat.{ℕ, suc, _+_, _/_}
+use Prim.Native.Nat.{ℕ, suc, _+_, _/_, _≤_}
 use lib.ListN.{length, getD, set}
 use Rattle.systems.specs.Machine.{free, nextMark, asks}
 use Rattle.systems.specs.ListMachine.{Pile, spreadL, turned}
@@ -51,6 +51,13 @@ roundOf values marks queue tail visits = record { values = values; marks = marks
 -- The visit that a round stands for, where the queue is read from a place on.
 abbrev pub visitIn : Sizes → ℕ → Round → Visit
 visitIn z from a = record { pile = pileIn z (a .marks) (a .queue) from (a .tail); visits = a .visits }
+
+-- The queue has places for all that come to wait where the pair turns that the number w stands for, which is in front.
+pub record RoomFor (z : Sizes) (equations moves : List ℕ) (ph : Bool) (front w : ℕ) (a : Round) : Type 0 where
+  pub labels : List ℕ
+  pub drawn : Drawn (tableIn z labels equations moves)
+  pub room : visited (modelOf (tableIn z labels equations moves)) ph (set (a .values) (waiter z w) (turned (getD (a .values) (waiter z w) 0)))
+      (leanersOf (modelOf (tableIn z labels equations moves)) (waiter z w)) (visitIn z (suc front) a) .pile .tail ≤ length (a .queue)
 
 -- From a to b the pair turned that the number w stands for, which was in front: its value is the other one, those that lean on it
 -- were visited, whatever the labels, and what waits stands for pairs.

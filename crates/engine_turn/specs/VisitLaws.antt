@@ -12,7 +12,7 @@ use Rattle.systems.specs.Machine.{free, nextMark}
 use Rattle.rules.specs.Moves.{target}
 use Rattle.words.specs.Table.{ReadsAs, pairIn, waitingOf}
 use Rattle.words.specs.Part.{ownMoves}
-use Rattle.engine_turn.specs.Scene.{Scene, equationOf, hasFrom, fails, asksFor, Line, lineOf, waited, passed, visitOne, visitAll, Leaning}
+use Rattle.engine_turn.specs.Scene.{Scene, equationOf, hasFrom, fails, asksFor, Line, lineOf, waited, passed, visitOne, visitAll, Leaning, Room}
 
 module _ (c : Scene) where
   -- What an easy join and an easy step ask, by the numbers read out of the variable's word.
@@ -80,6 +80,10 @@ module _ (c : Scene) where
           ∙ ap (λ (l : List ℕ). lineOf (set marks place (nextMark ph (getD marks place 0))) l (suc tail) (suc visits)) (is-q ∙ ap (set queue tail) is-w)
           ∙ sym (one-by true (and-in (sym ready-at ∙ e) (sym f ∙ g)))
 
+      -- Where the pair comes to wait, the queue has a place for it.
+      pub visit-room : ready ≡ true → (asked : Bool) → asked ≡ asksFor c ph y s → asked ≡ true → Room c ph (waitingOf y s ∷ []) (lineOf marks queue tail visits) → tail < length queue
+      visit-room e asked f g r = let t = ap (λ (x : Line). x .tail) (one-by true (and-in (sym ready-at ∙ e) (sym f ∙ g))) in omega arith
+
   -- Visits, one list after the other.
   module _ (ph : Bool) where
     pub visit-append : (a b : List ℕ) (v : Line) → visitAll c ph (a ++ b) v ≡ visitAll c ph b (visitAll c ph a v)
@@ -95,6 +99,7 @@ module _ (c : Scene) where
     pub record Grows (v w : Line) (n : ℕ) : Type 0 where
       pub many : w .visits ≡ v .visits + n
       pub high : w .tail ≤ v .tail + n
+      pub low : v .tail ≤ w .tail
       pub long-marks : length (w .marks) ≡ length (v .marks)
       pub long-queue : length (w .queue) ≡ length (v .queue)
 
@@ -106,20 +111,22 @@ module _ (c : Scene) where
         go true = record {
           many = omega arith;
           high = omega arith;
+          low = omega arith;
           long-marks = length-set (v .marks) (pairIn (c .sizes) (w / 1024) (w % 1024)) (nextMark ph (getD (v .marks) (pairIn (c .sizes) (w / 1024) (w % 1024)) 0));
           long-queue = length-set (v .queue) (v .tail) w;
         }
-        go false = record { many = omega arith; high = omega arith; long-marks = refl; long-queue = refl }
+        go false = record { many = omega arith; high = omega arith; low = omega arith; long-marks = refl; long-queue = refl }
 
     pub visit-grows : (l : List ℕ) (v : Line) → Grows v (visitAll c ph l v) (length l)
     unfolding visitAll
-    visit-grows [] v = record { many = omega arith; high = omega arith; long-marks = refl; long-queue = refl }
+    visit-grows [] v = record { many = omega arith; high = omega arith; low = omega arith; long-marks = refl; long-queue = refl }
     visit-grows (w ∷ l) v =
         let a = one-grows w v in
         let b = visit-grows l (visitOne c ph w v) in
         record {
           many = let e = a .many in let f = b .many in omega arith;
           high = let e = a .high in let f = b .high in omega arith;
+          low = let e = a .low in let f = b .low in omega arith;
           long-marks = b .long-marks ∙ a .long-marks;
           long-queue = b .long-queue ∙ a .long-queue;
         }

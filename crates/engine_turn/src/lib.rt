@@ -19,8 +19,8 @@ ghost use Rattle.words.specs.Table.{modelOf, pairIn, waitingOf, waiter};
 ghost use Rattle.engine_rows.specs.Rooms.{Bits, Packed};
 ghost use Rattle.engine_index.specs.Indexed.{headsOf, Indexed};
 ghost use Rattle.engine_index.specs.Operands.{Named};
-ghost use Rattle.engine_turn.specs.Turns.{Sketched, FromValue, roundOf, Turned};
-ghost use Rattle.engine_turn.specs.Scene.{sceneOf, Standing, fails, asksFor, lineOf, visitAll, Targets, Leaner, Leaning, Leans, OperandOf, Bounded, sourcesIn, pairsBy, leanersIn, sketch};
+ghost use Rattle.engine_turn.specs.Turns.{Sketched, FromValue, roundOf, RoomFor, Turned};
+ghost use Rattle.engine_turn.specs.Scene.{sceneOf, Standing, fails, asksFor, lineOf, visitAll, Targets, Leaner, Leaning, Leans, OperandOf, Bounded, Room, sourcesIn, pairsBy, leanersIn, sketch};
 
 // Where a run of visits stands: the end of the queue, and the number of visits so far.
 pub struct Spread {
@@ -155,6 +155,7 @@ fn visit(
     requires { ⌜ Standing (sceneOf sizes (now equations) (now moves) (now values) from) ⌝ }
     requires { ⌜ Leaning (sceneOf sizes (now equations) (now moves) (now values) from) easy (y .0) (s .0) ⌝ }
     requires { ⌜ (length (now marks) ≡ pairsOf sizes) × ((at .tail < 4294967296) × (at .visits < 4294967296)) ⌝ }
+    requires { ⌜ Room (sceneOf sizes (now equations) (now moves) (now values) from) settling (waitingOf (y .0) (s .0) ∷ []) (lineOf (now marks) (now queue) (at .tail) (at .visits)) ⌝ }
     ensures { λ r. ⌜ lineOf (now (marks .exit)) (now (queue .exit)) (r .tail) (r .visits)
         ≡ visitAll (sceneOf sizes (now (equations .entry)) (now (moves .entry)) (now (values .entry)) from) settling (waitingOf (y .0) (s .0) ∷ [])
         (lineOf (now (marks .entry)) (now (queue .entry)) (at .tail) (at .visits)) ⌝ }
@@ -166,7 +167,7 @@ fn visit(
     if is_free(settling, mark) {
         if must_turn(sizes, equations, moves, values, settling, from, easy, y, s) {
             marks[p] = next_mark(settling, mark);
-            rooms::set_half(queue, tail, words::waiting(y, s));
+            queue[tail] = words::waiting(y, s);
             return Spread {
                 tail: tail + 1,
                 visits: count,
@@ -219,6 +220,7 @@ fn visit_sources(
     requires { ⌜ Indexed (sketch sizes (now equations) (now moves)) (now index) ⌝ }
     requires { ⌜ Leans (sceneOf sizes (now equations) (now moves) (now values) from) easy (y .0) ⌝ }
     requires { ⌜ (head < headsOf sizes) × ((length (now marks) ≡ pairsOf sizes) × Bounded (at .tail) (at .visits) (sourcesIn sizes (now moves) (y .0) head)) ⌝ }
+    requires { ⌜ Room (sceneOf sizes (now equations) (now moves) (now values) from) settling (sourcesIn sizes (now moves) (y .0) head) (lineOf (now marks) (now queue) (at .tail) (at .visits)) ⌝ }
     ensures { λ r. ⌜ lineOf (now (marks .exit)) (now (queue .exit)) (r .tail) (r .visits)
         ≡ visitAll (sceneOf sizes (now (equations .entry)) (now (moves .entry)) (now (values .entry)) from) settling (sourcesIn sizes (now (moves .entry)) (y .0) head)
         (lineOf (now (marks .entry)) (now (queue .entry)) (at .tail) (at .visits)) ⌝ }
@@ -267,6 +269,7 @@ fn visit_operand(
     requires { ⌜ Indexed (sketch sizes (now equations) (now moves)) (now index) ⌝ }
     requires { ⌜ OperandOf (sceneOf sizes (now equations) (now moves) (now values) from) o ⌝ }
     requires { ⌜ (s .0 < sizes .states) × ((length (now marks) ≡ pairsOf sizes) × Bounded (at .tail) (at .visits) (pairsBy sizes (now equations) (now moves) (s .0) (o / 256 / 256 / 256))) ⌝ }
+    requires { ⌜ Room (sceneOf sizes (now equations) (now moves) (now values) from) settling (pairsBy sizes (now equations) (now moves) (s .0) (o / 256 / 256 / 256)) (lineOf (now marks) (now queue) (at .tail) (at .visits)) ⌝ }
     ensures { λ r. ⌜ lineOf (now (marks .exit)) (now (queue .exit)) (r .tail) (r .visits)
         ≡ visitAll (sceneOf sizes (now (equations .entry)) (now (moves .entry)) (now (values .entry)) from) settling (pairsBy sizes (now (equations .entry)) (now (moves .entry)) (s .0) (o / 256 / 256 / 256))
         (lineOf (now (marks .entry)) (now (queue .entry)) (at .tail) (at .visits)) ⌝ }
@@ -329,6 +332,7 @@ fn visit_leaners(
     requires { ⌜ Indexed (sketch sizes (now equations) (now moves)) (now index) ⌝ }
     requires { ⌜ Named (sketch sizes (now equations) (now moves)) (now named) (now operand) ⌝ }
     requires { ⌜ (x .0 < sizes .variables) × ((s .0 < sizes .states) × ((length (now marks) ≡ pairsOf sizes) × Bounded (at .tail) (at .visits) (leanersIn sizes (now equations) (now moves) (x .0) (s .0)))) ⌝ }
+    requires { ⌜ Room (sceneOf sizes (now equations) (now moves) (now values) from) settling (leanersIn sizes (now equations) (now moves) (x .0) (s .0)) (lineOf (now marks) (now queue) (at .tail) (at .visits)) ⌝ }
     ensures { λ r. ⌜ lineOf (now (marks .exit)) (now (queue .exit)) (r .tail) (r .visits)
         ≡ visitAll (sceneOf sizes (now (equations .entry)) (now (moves .entry)) (now (values .entry)) from) settling (leanersIn sizes (now (equations .entry)) (now (moves .entry)) (x .0) (s .0))
         (lineOf (now (marks .entry)) (now (queue .entry)) (at .tail) (at .visits)) ⌝ }
@@ -358,7 +362,7 @@ fn visit_leaners(
     r
 }
 
-// The pair in front of the queue turns, and the pairs that lean on it inside its block are visited.
+// The pair in front of the queue turns from its value, and the pairs that lean on it inside its block are visited.
 pub fn turn(
     sizes: Sizes,
     equations: &[u32],
@@ -372,6 +376,7 @@ pub fn turn(
     front: usize,
     at: Spread,
     settling: bool,
+    from: u8,
 ) -> Spread
     requires { ⌜ Sketched sizes (now equations) (now moves) ⌝ }
     requires { ⌜ Indexed (sketch sizes (now equations) (now moves)) (now index) ⌝ }
@@ -380,15 +385,16 @@ pub fn turn(
     requires { ⌜ Bits (now values) × (Packed sizes (now queue) (at .tail) × (front < at .tail)) ⌝ }
     requires { ⌜ FromValue (sketch sizes (now equations) (now moves)) settling (now values) (getD (now queue) front 0) ⌝ }
     requires { ⌜ Bounded (at .tail) (at .visits) (leanersOf (modelOf (sketch sizes (now equations) (now moves))) (waiter sizes (getD (now queue) front 0))) ⌝ }
+    requires { ⌜ from ≡ getD (now values) (waiter sizes (getD (now queue) front 0)) 0 ⌝ }
+    requires { ⌜ RoomFor sizes (now equations) (now moves) settling front (getD (now queue) front 0) (roundOf (now values) (now marks) (now queue) (at .tail) (at .visits)) ⌝ }
     ensures { λ r. ⌜ Turned sizes (now (equations .entry)) (now (moves .entry)) settling front (getD (now (queue .entry)) front 0)
         (roundOf (now (values .entry)) (now (marks .entry)) (now (queue .entry)) (at .tail) (at .visits))
         (roundOf (now (values .exit)) (now (marks .exit)) (now (queue .exit)) (r .tail) (r .visits)) ⌝ }
 {
-    let w = rooms::half_at(queue, front);
+    let w = queue[front];
     let x = words::variable_of(w);
     let s = words::state_of(w);
     let p = limits::pair_of(sizes, s, x);
-    let from = values[p];
     values[p] = 1 - from;
     visit_leaners(
         sizes,

@@ -1,4 +1,4 @@
--- A row of another block is passed by; one of the block is told, and put where pairs must turn. Assumes nothing.
+-- The row is told, and put where pairs must turn. Assumes nothing.
 use mathlib.Core.Path.{_≡_, refl, sym, ap, _∙_}
 use mathlib.Core.Bool.{true, not}
 use Prim.Native.Nat.{ℕ}
@@ -6,9 +6,8 @@ use lib.Dec.{eqb}
 use Rattle.lists.specs.Lists.{bit}
 use Rattle.lists.specs.Tests.{not-out, not-not}
 use Rattle.rules.specs.Session.{unword}
-use Rattle.words.specs.Table.{tableIn, wordAt, changesOf}
+use Rattle.words.specs.Table.{tableIn, changesOf}
 use Rattle.words.specs.Limits.{limits}
-use Rattle.engine_phase.specs.Phase.{leads-pass}
 use Rattle.engine_phase.specs.PutRow.{turnsFrom}
 use Rattle.engine_phase.specs.LookRow.{look-vals, look-marks, look-bits, look-small, look-told, look-none, look-room, look-left}
 use borrow.Author.Needs.{needs}
@@ -31,11 +30,8 @@ word-at-requires c κs = search needs
 equation-in-requires : tie.Need-equation-in-requires
 equation-in-requires c κs = search needs
 
-cast-if1 : tie.Need-cast-if1
-cast-if1 c = search needs
-
-returns : tie.Need-returns
-returns c =
+tell-row-requires : tie.Need-tell-row-requires
+tell-row-requires c κs =
     let at-equation = c .before .before in
     let at-word = at-equation .before in
     let at-start = at-word .before .before .before .before .before .before .before .before .before .before .before in
@@ -46,23 +42,7 @@ returns c =
     let lt = pre .1 .1 .0 .0 in
     let low = pre .1 .1 .0 .1 .0 in
     let room = pre .1 .1 .0 .1 .1 .1 in
-    let is-block : at-equation .equation-in .result .block ≡ wordAt t (a .y .0) .block = at-equation .equation-in .ensures .is-block ∙ ap (λ (w : ℕ). unword w .block) (at-word .word-at .ensures) in
-    (pre .1 .1 .1 .0, leads-pass (pre .0) cs (a .block) (a .settling) low (a .y .0) lt (a .values .now) (a .marks .now) (a .queue .now) (a .tail) (λ e. c .if1 .taken (is-block ∙ e)))
-
-tell-row-requires : tie.Need-tell-row-requires
-tell-row-requires c κs =
-    let at-equation = c .before .before .before .before in
-    let at-word = at-equation .before in
-    let at-start = at-word .before .before .before .before .before .before .before .before .before .before .before in
-    let a = at-start .args in
-    let t = tableIn (a .sizes) (a .labels .now) (a .equations .now) (a .moves .now) in
-    let cs = changesOf (a .changes .now) in
-    let pre = at-start .pre in
-    let lt = pre .1 .1 .0 .0 in
-    let low = pre .1 .1 .0 .1 .0 in
-    let room = pre .1 .1 .0 .1 .1 .1 in
-    let is-block : at-equation .equation-in .result .block ≡ wordAt t (a .y .0) .block = at-equation .equation-in .ensures .is-block ∙ ap (λ (w : ℕ). unword w .block) (at-word .word-at .ensures) in
-    let own : wordAt t (a .y .0) .block ≡ a .block = sym is-block ∙ c .before .before .if1 .left in
+    let own = pre .1 .1 .1 .0 .1 in
     let sw = pre .1 .1 .1 .1 in
     let look = a .values .now in (
       pre .0,
@@ -96,9 +76,9 @@ same-length c = search needs
 same-length-2 : tie.Need-same-length-2
 same-length-2 c = search needs
 
-returns-2 : tie.Need-returns-2
-returns-2 c =
-    let at-equation = c .before .before .before .before .before .before .before .before in
+returns : tie.Need-returns
+returns c =
+    let at-equation = c .before .before .before .before .before .before in
     let at-word = at-equation .before in
     let at-start = at-word .before .before .before .before .before .before .before .before .before .before .before in
     let a = at-start .args in
@@ -108,18 +88,17 @@ returns-2 c =
     let lt = pre .1 .1 .0 .0 in
     let low = pre .1 .1 .0 .1 .0 in
     let room = pre .1 .1 .0 .1 .1 .1 in
-    let is-block : at-equation .equation-in .result .block ≡ wordAt t (a .y .0) .block = at-equation .equation-in .ensures .is-block ∙ ap (λ (w : ℕ). unword w .block) (at-word .word-at .ensures) in
-    let own : wordAt t (a .y .0) .block ≡ a .block = sym is-block ∙ c .before .before .before .before .before .before .if1 .left in
+    let own = pre .1 .1 .1 .0 .1 in
     let at-tell = c .before .before .before in
     look-none (pre .0) cs (a .block) (a .settling) low (a .y .0) lt own (a .values .now) (a .marks .now) (a .queue .now) (a .tail) room (pre .1 .1 .1 .1) _ _ (at-tell .tell-row .ensures)
-    (not-out (at-tell .tell-row .result) (c .if2 .taken)) (pre .1 .1 .1 .0)
+    (not-out (at-tell .tell-row .result) (c .if1 .taken)) (pre .1 .1 .1 .0 .0)
 
 turns-from-requires : tie.Need-turns-from-requires
 turns-from-requires c κs = search needs
 
 put-row-requires : tie.Need-put-row-requires
 put-row-requires c κs =
-    let at-equation = c .before .before .before .before .before .before .before .before .before .before .before .before in
+    let at-equation = c .before .before .before .before .before .before .before .before .before .before in
     let at-word = at-equation .before in
     let at-start = at-word .before .before .before .before .before .before .before .before .before .before .before in
     let a = at-start .args in
@@ -129,13 +108,12 @@ put-row-requires c κs =
     let lt = pre .1 .1 .0 .0 in
     let low = pre .1 .1 .0 .1 .0 in
     let room = pre .1 .1 .0 .1 .1 .1 in
-    let is-block : at-equation .equation-in .result .block ≡ wordAt t (a .y .0) .block = at-equation .equation-in .ensures .is-block ∙ ap (λ (w : ℕ). unword w .block) (at-word .word-at .ensures) in
-    let own : wordAt t (a .y .0) .block ≡ a .block = sym is-block ∙ c .before .before .before .before .before .before .before .before .before .before .if1 .left in
+    let own = pre .1 .1 .1 .0 .1 in
     let at-from = c .before .before .before in
     let at-tell = at-from .before .before .before .before in
     let told = at-tell .tell-row .ensures in
     let is-from = at-from .turns-from .ensures ∙ ap (λ (k : ℕ). bit (turnsFrom (a .settling) (eqb k 1))) (at-equation .equation-in .ensures .is-kind ∙ ap (λ (w : ℕ). unword w .kind) (at-word .word-at .ensures)) in
-    let yes : at-tell .tell-row .result ≡ true = sym (not-not (at-tell .tell-row .result)) ∙ ap not (at-from .before .if2 .left) in
+    let yes : at-tell .tell-row .result ≡ true = sym (not-not (at-tell .tell-row .result)) ∙ ap not (at-from .before .if1 .left) in
     let sw = pre .1 .1 .1 .1 in
     let l = limits (pre .0) in (
       (lt, (l .1 .1 .0, l .0 .1)),
@@ -144,7 +122,7 @@ put-row-requires c κs =
           look-vals (pre .0) cs (a .block) (a .settling) low (a .y .0) lt own (a .values .now) (a .marks .now) (a .queue .now) (a .tail) room sw,
           (look-marks (pre .0) cs (a .block) (a .settling) low (a .y .0) lt own (a .values .now) (a .marks .now) (a .queue .now) (a .tail) room sw, told .long),
         ),
-        (pre .1 .1 .1 .0, look-room (pre .0) cs (a .block) (a .settling) low (a .y .0) lt own (a .values .now) (a .marks .now) (a .queue .now) (a .tail) room sw _ _ told _ is-from yes),
+        (pre .1 .1 .1 .0 .0, look-room (pre .0) cs (a .block) (a .settling) low (a .y .0) lt own (a .values .now) (a .marks .now) (a .queue .now) (a .tail) room sw _ _ told _ is-from yes),
       ),
     )
 
@@ -157,9 +135,9 @@ same-length-4 c = search needs
 same-length-5 : tie.Need-same-length-5
 same-length-5 c = search needs
 
-returns-3 : tie.Need-returns-3
-returns-3 c =
-    let at-equation = c .before .before .before .before .before .before .before .before .before .before .before .before .before .before .before .before .before .before .before in
+returns-2 : tie.Need-returns-2
+returns-2 c =
+    let at-equation = c .before .before .before .before .before .before .before .before .before .before .before .before .before .before .before .before .before in
     let at-word = at-equation .before in
     let at-start = at-word .before .before .before .before .before .before .before .before .before .before .before in
     let a = at-start .args in
@@ -169,13 +147,12 @@ returns-3 c =
     let lt = pre .1 .1 .0 .0 in
     let low = pre .1 .1 .0 .1 .0 in
     let room = pre .1 .1 .0 .1 .1 .1 in
-    let is-block : at-equation .equation-in .result .block ≡ wordAt t (a .y .0) .block = at-equation .equation-in .ensures .is-block ∙ ap (λ (w : ℕ). unword w .block) (at-word .word-at .ensures) in
-    let own : wordAt t (a .y .0) .block ≡ a .block = sym is-block ∙ c .before .before .before .before .before .before .before .before .before .before .before .before .before .before .before .before .before .if1 .left in
+    let own = pre .1 .1 .1 .0 .1 in
     let at-from = c .before .before .before .before .before .before .before .before .before .before in
     let at-tell = at-from .before .before .before .before in
     let told = at-tell .tell-row .ensures in
     let is-from = at-from .turns-from .ensures ∙ ap (λ (k : ℕ). bit (turnsFrom (a .settling) (eqb k 1))) (at-equation .equation-in .ensures .is-kind ∙ ap (λ (w : ℕ). unword w .kind) (at-word .word-at .ensures)) in
-    let yes : at-tell .tell-row .result ≡ true = sym (not-not (at-tell .tell-row .result)) ∙ ap not (at-from .before .if2 .left) in
+    let yes : at-tell .tell-row .result ≡ true = sym (not-not (at-tell .tell-row .result)) ∙ ap not (at-from .before .if1 .left) in
     let sw = pre .1 .1 .1 .1 in
     let l = limits (pre .0) in
     let at-put = c .before .before .before .before .before .before in
@@ -189,15 +166,13 @@ look-row-spec =
     cast-word-at
     word-at-requires
     equation-in-requires
-    cast-if1
-    returns
     tell-row-requires
     same-length
     same-length-2
-    returns-2
+    returns
     turns-from-requires
     put-row-requires
     same-length-3
     same-length-4
     same-length-5
-    returns-3)
+    returns-2)

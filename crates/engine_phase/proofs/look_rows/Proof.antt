@@ -1,12 +1,14 @@
--- Row after row: what the rows before y leave stays on the course, and y rows are behind. The rows left are counted down. Assumes nothing.
+-- Row after row of the block: what the rows before y leave stays on the course, and y rows are behind. The rows left are counted down. Assumes nothing.
 use mathlib.Core.Path.{_≡_, refl, _∙_, subst}
-use Prim.Native.Nat.{ℕ, _-_, _*_, _≤_}
+use Prim.Native.Nat.{ℕ, _+_, _-_, _*_, _≤_, _<_}
 use native.Mathlib.Omega.{arith}
-use lib.ListN.{length}
+use lib.ListN.{length, getD}
+use Rattle.rules.specs.Session.{unword}
 use Rattle.words.specs.Table.{tableIn, changesOf}
 use Rattle.engine_rows.specs.Rooms.{Packed}
 use Rattle.engine_phase.specs.Course.{On}
 use Rattle.engine_phase.specs.Phase.{Leads, leads-on, jobIn}
+use Rattle.engine_phase.specs.NextRow.{leads-next}
 use borrow.Author.Needs.{needs}
 use Rattle.engine_phase.proofs.look_rows.Statement.{statement}
 use Rattle.engine_phase.proofs.look_rows.Tie as tie
@@ -16,7 +18,8 @@ use Rattle.engine_phase.proofs.look_row.Reads as look-row-reads
 
 abbrev Inv-loop : tie.InvT-loop
 Inv-loop sizes labels equations moves index changes values marks₀ queue₀ bad₀ block settling variables tail₀ y₀ marks queue bad tail y =
-    ((y ≤ sizes .variables) × ((length marks ≡ length marks₀) × ((length queue ≡ length queue₀) × (length bad ≡ length bad₀)))) × (Packed sizes queue tail
+    ((y ≤ sizes .variables) × ((length marks ≡ length marks₀) × ((length queue ≡ length queue₀) × (length bad ≡ length bad₀)))) × ((Packed sizes queue tail
+    × (y < length equations → unword (getD equations y 0) .block ≡ block))
     × Leads {I = ℕ × ℕ} (tableIn sizes labels equations moves) (changesOf changes) (λ v. jobIn sizes block settling 0 values marks₀ queue₀ 0 0 (v .0) (v .1))
     (λ v. jobIn sizes block settling (y * sizes .states) values marks queue 0 tail (v .0) (v .1)))
 
@@ -27,14 +30,20 @@ abbrev μ-loop : tie.MeasureT-loop
 cast-variables : tie.Need-cast-variables Inv-loop μ-loop
 cast-variables c = search needs
 
+next-of-requires : tie.Need-next-of-requires Inv-loop μ-loop
+next-of-requires c κs = omega arith
+
 loop-holds : tie.Need-loop-holds Inv-loop μ-loop
 loop-holds c =
-    let a = c .before .before .before .before .before .before .before .before .before .before .args in (
-      (omega arith, (refl, (refl, refl))),
+    let at-start = c .before .before .before .before .before .before .before .before .before .before .before in
+    let a = at-start .args in
+    let pre = at-start .pre in
+    let next = c .next-of .ensures in (
+      (omega (arith, next .below, pre .0 .long-equations), (refl, (refl, refl))),
       (
-        (λ i h. absurd (omega arith)),
-        λ vs v o.
-            subst (λ (k : ℕ). On (tableIn (a .sizes) (a .labels .now) (a .equations .now) (a .moves .now)) (changesOf (a .changes .now)) vs (jobIn (a .sizes) (a .block) (a .settling) k (a .values .now) (a .marks .now) (a .queue .now) 0 0 (v .0) (v .1))) (let e : 0 ≡ 0 * a .sizes .states = omega arith in e) o,
+        ((λ i h. absurd (omega arith)), next .here),
+        λ vs v o. leads-next (pre .0) (changesOf (a .changes .now)) (a .block) (a .settling) (pre .1 .1 .0 .0) (a .values .now) (a .marks .now) (a .queue .now) 0 0 (c .next-of .result) next vs v
+            (subst (λ (k : ℕ). On (tableIn (a .sizes) (a .labels .now) (a .equations .now) (a .moves .now)) (changesOf (a .changes .now)) vs (jobIn (a .sizes) (a .block) (a .settling) k (a .values .now) (a .marks .now) (a .queue .now) 0 0 (v .0) (v .1))) (let e : 0 ≡ 0 * a .sizes .states = omega arith in e) o),
       ),
     )
 
@@ -44,27 +53,43 @@ cast-x c = search needs
 look-row-requires : tie.Need-look-row-requires Inv-loop μ-loop
 look-row-requires c κs =
     let at-loop = c .before .before .before .before in
-    let at-start = at-loop .before .before .before .before .before .before .before .before .before .before .before in
+    let at-start = at-loop .before .before .before .before .before .before .before .before .before .before .before .before in
     let pre = at-start .pre in
     let inv = at-loop .loop .inv in
-    (pre .0, (pre .1 .0, ((c .before .before .before .loop-test .taken, (pre .1 .1 .0 .0, (inv .0 .1 .1 .1 ∙ pre .1 .1 .0 .1 .0, omega (arith, inv .0 .1 .1 .0, pre .1 .1 .0 .1 .1)))), (inv .1 .0, leads-on (inv .1 .1) (pre .1 .1 .1)))))
+    let lt = c .before .before .before .loop-test .taken in
+    (pre .0, (pre .1 .0, ((lt, (pre .1 .1 .0 .0, (inv .0 .1 .1 .1 ∙ pre .1 .1 .0 .1 .0, omega (arith, inv .0 .1 .1 .0, pre .1 .1 .0 .1 .1)))), ((inv .1 .0 .0, inv .1 .0 .1 (omega (arith, lt, pre .0 .long-equations))), leads-on (inv .1 .1) (pre .1 .1 .1)))))
 
-add-y : tie.Need-add-y Inv-loop μ-loop
-add-y c = search needs
+add-next-of : tie.Need-add-next-of Inv-loop μ-loop
+add-next-of c = search needs
+
+next-of-requires-2 : tie.Need-next-of-requires-2 Inv-loop μ-loop
+next-of-requires-2 c κs =
+    let at-loop = c .before .before .before .before .before .before .before .before .before .before .before in
+    let at-start = at-loop .before .before .before .before .before .before .before .before .before .before .before .before in
+    omega (arith, c .before .before .before .before .before .before .before .before .before .before .loop-test .taken, at-start .pre .0 .long-equations)
 
 loop-less : tie.Need-loop-less Inv-loop μ-loop
-loop-less c = search needs
+loop-less c =
+    let at-loop = c .before .before .before .before .before .before .before .before .before .before .before .before in
+    let at-start = at-loop .before .before .before .before .before .before .before .before .before .before .before .before in
+    let next = c .next-of2 .ensures in
+    omega (arith, next .on, c .before .before .before .before .before .before .before .before .before .before .before .loop-test .taken)
 
 loop-again : tie.Need-loop-again Inv-loop μ-loop
 loop-again c =
-    let at-row = c .before .before .before .before .before .before in
+    let at-row = c .before .before .before .before .before .before .before in
     let at-loop = at-row .before .before .before .before .before in
+    let at-start = at-loop .before .before .before .before .before .before .before .before .before .before .before .before in
+    let a = at-start .args in
+    let pre = at-start .pre in
     let inv = at-loop .loop .inv in
-    let row = at-row .look-row in (
-      (omega (arith, at-row .before .before .before .before .loop-test .taken), (row .kept .1 .1 .1 .1 .1 .1 .1 .0 ∙ inv .0 .1 .0, (row .kept .1 .1 .1 .1 .1 .1 .1 .1 .0 ∙ inv .0 .1 .1 .0, row .kept .1 .1 .1 .1 .1 .1 .1 .1 .1 .0 ∙ inv .0 .1 .1 .1))),
+    let row = at-row .look-row in
+    let next = c .next-of2 .ensures in (
+      (omega (arith, next .below, pre .0 .long-equations), (row .kept .1 .1 .1 .1 .1 .1 .1 .0 ∙ inv .0 .1 .0, (row .kept .1 .1 .1 .1 .1 .1 .1 .1 .0 ∙ inv .0 .1 .1 .0, row .kept .1 .1 .1 .1 .1 .1 .1 .1 .1 .0 ∙ inv .0 .1 .1 .1))),
       (
-        row .ensures .0,
-        λ vs v o. row .ensures .1 vs v (inv .1 .1 vs v o),
+        (row .ensures .0, next .here),
+        λ vs v o. leads-next (pre .0) (changesOf (a .changes .now)) (a .block) (a .settling) (pre .1 .1 .0 .0) (a .values .now) (row .last .1 .1 .1 .1 .1 .1 .1 .0) (row .last .1 .1 .1 .1 .1 .1 .1 .1 .0) (row .result) (at-loop .loop .y + 1) (c .next-of2 .result) next vs v
+            (row .ensures .1 vs v (inv .1 .1 vs v o)),
       ),
     )
 
@@ -80,10 +105,10 @@ same-length-3 c = c .before .loop .inv .0 .1 .1 .1
 returns : tie.Need-returns Inv-loop μ-loop
 returns c =
     let at-loop = c .before in
-    let a = at-loop .before .before .before .before .before .before .before .before .before .before .before .args in
+    let a = at-loop .before .before .before .before .before .before .before .before .before .before .before .before .args in
     let inv = at-loop .loop .inv in
     let e : at-loop .loop .y ≡ a .sizes .variables = omega (arith, c .loop-test .left, inv .0 .0) in (
-      inv .1 .0,
+      inv .1 .0 .0,
       λ vs v o. subst (λ (k : ℕ). On (tableIn (a .sizes) (a .labels .now) (a .equations .now) (a .moves .now)) (changesOf (a .changes .now)) vs
           (jobIn (a .sizes) (a .block) (a .settling) (k * a .sizes .states) (a .values .now) (at-loop .loop .marks) (at-loop .loop .queue) 0 (at-loop .loop .tail) (v .0) (v .1))) e (inv .1 .1 vs v o),
     )
@@ -95,10 +120,12 @@ look-rows-spec =
     Inv-loop
     μ-loop
     cast-variables
+    next-of-requires
     loop-holds
     cast-x
     look-row-requires
-    add-y
+    add-next-of
+    next-of-requires-2
     loop-less
     loop-again
     same-length

@@ -1,15 +1,15 @@
--- The rows are looked at, then pairs turn from the front of the queue: the lists stay on the course, and no more turn than there are
--- pairs. Assumes nothing.
-use mathlib.Core.Path.{_≡_, refl, _∙_}
-use Prim.Native.Nat.{ℕ, _-_}
+-- The rows are looked at, then pairs turn from the front of the queue: the lists stay on the course, the pair in front has the value
+-- that all turn from, and no more turn than there are pairs. Assumes nothing.
+use mathlib.Core.Path.{_≡_, refl, sym, _∙_}
+use Prim.Native.Nat.{ℕ, _+_, _-_, _<_}
 use native.Mathlib.Omega.{arith}
-use lib.ListN.{length}
+use lib.ListN.{length, getD, length-map}
 use Rattle.rules.specs.Rooms.{pairsOf}
-use Rattle.words.specs.Table.{tableIn, changesOf}
+use Rattle.words.specs.Table.{tableIn, changesOf, waiter}
 use Rattle.words.specs.Limits.{pairs-few}
 use Rattle.engine_rows.specs.Rooms.{Packed}
-use Rattle.engine_phase.specs.Course.{on-vals, on-marks, on-bits, on-room}
-use Rattle.engine_phase.specs.Phase.{Leads, leads-on, leads-over, leads-turned, front-value, front-bounded, jobIn}
+use Rattle.engine_phase.specs.Course.{on-vals, on-marks, on-bits, on-queue, on-room}
+use Rattle.engine_phase.specs.Phase.{Leads, leads-on, leads-over, leads-turned, front-value, front-bounded, front-from, front-room, jobIn}
 use borrow.Author.Needs.{needs}
 use Rattle.engine_phase.proofs.phase.Statement.{statement}
 use Rattle.engine_phase.proofs.phase.Tie as tie
@@ -19,13 +19,14 @@ use Rattle.engine_phase.proofs.look_rows.Reads as look-rows-reads
 use Rattle.engine_turn.proofs.turn.Reads as turn-reads
 
 abbrev Inv-loop : tie.InvT-loop
-Inv-loop sizes labels equations moves index named operand changes values₀ marks₀ queue₀ bad block visits settling tail at₀ front₀ values marks queue at front =
-    ((length values ≡ length values₀) × ((length marks ≡ length marks₀) × (length queue ≡ length queue₀))) × (Packed sizes queue (at .tail)
+Inv-loop sizes labels equations moves index named operand changes values₀ marks₀ queue₀ bad block visits settling tail from at₀ front₀ values marks queue at front =
+    ((length values ≡ length values₀) × ((length marks ≡ length marks₀) × (length queue ≡ length queue₀))) × ((Packed sizes queue (at .tail)
+    × (front < at .tail → from ≡ getD values (waiter sizes (getD queue front 0)) 0))
     × Leads {I = ℕ} (tableIn sizes labels equations moves) (changesOf changes) (λ other. jobIn sizes block settling (pairsOf sizes) values₀ marks₀ queue₀ 0 tail visits other)
     (λ other. jobIn sizes block settling (pairsOf sizes) values marks queue front (at .tail) (at .visits) other))
 
 abbrev μ-loop : tie.MeasureT-loop
-μ-loop sizes labels equations moves index named operand changes values₀ marks₀ queue₀ bad block visits settling tail at₀ front₀ values marks queue at front =
+μ-loop sizes labels equations moves index named operand changes values₀ marks₀ queue₀ bad block visits settling tail from at₀ front₀ values marks queue at front =
     pairsOf sizes - front
 
 look-rows-requires : tie.Need-look-rows-requires Inv-loop μ-loop
@@ -35,13 +36,18 @@ look-rows-requires c κs =
     let sw = pre .1 .1 .1 in
     (pre .0, ((pre .1 .0 .0 .0, pre .1 .0 .1), (pre .1 .1 .0, record { start = sw .start; index = (at-start .args .visits, sw .index); on = sw .on })))
 
+first-value-requires : tie.Need-first-value-requires Inv-loop μ-loop
+first-value-requires c κs = search needs
+
 loop-holds : tie.Need-loop-holds Inv-loop μ-loop
-loop-holds c = ((refl, (refl, refl)), (c .before .before .before .before .before .before .look-rows .ensures .0, λ vs other o. o))
+loop-holds c =
+    let at-rows = c .before .before .before .before .before .before .before .before .before in
+    ((refl, (refl, refl)), ((at-rows .look-rows .ensures .0, λ waits. c .first-value .ensures), λ vs other o. o))
 
 turn-requires : tie.Need-turn-requires Inv-loop μ-loop
 turn-requires c κs =
     let at-loop = c .before .before .before .before .before in
-    let at-rows = at-loop .before .before .before .before .before .before .before in
+    let at-rows = at-loop .before .before .before .before .before .before .before .before .before .before in
     let at-start = at-rows .before .before .before .before .before .before .before .before .before .before .before .before .before .before .before .before in
     let a = at-start .args in
     let t = tableIn (a .sizes) (a .labels .now) (a .equations .now) (a .moves .now) in
@@ -62,10 +68,17 @@ turn-requires c κs =
           (
             (on-vals (pre .0) d (sw .on), on-marks (pre .0) d (sw .on)),
             (
-              (on-bits (pre .0) d (sw .on), (inv .1 .0, waits)),
+              (on-bits (pre .0) d (sw .on), (inv .1 .0 .0, waits)),
               (
-                front-value (pre .0) cs (a .block) (a .settling) low (pairsOf (a .sizes)) (omega arith) (l .values) (l .marks) (l .queue) (l .front) (l .at .tail) (l .at .visits) waits (inv .1 .0) sw,
-                front-bounded (pre .0) cs (a .block) (a .settling) low (pairsOf (a .sizes)) (omega arith) (l .values) (l .marks) (l .queue) (l .front) (l .at .tail) (l .at .visits) waits sw,
+                front-value (pre .0) cs (a .block) (a .settling) low (pairsOf (a .sizes)) (omega arith) (l .values) (l .marks) (l .queue) (l .front) (l .at .tail) (l .at .visits) waits (inv .1 .0 .0) sw,
+                (
+                  front-bounded (pre .0) cs (a .block) (a .settling) low (pairsOf (a .sizes)) (omega arith) (l .values) (l .marks) (l .queue) (l .front) (l .at .tail) (l .at .visits) waits sw,
+                  (
+                    inv .1 .0 .1 waits,
+                    front-room (pre .0) cs (a .block) (a .settling) low (pairsOf (a .sizes)) (omega arith) (l .values) (l .marks) (l .queue) (l .front) (l .at .tail) (l .at .visits) waits
+                        (let e = on-queue (pre .0) d (sw .on) in let k = length-map (l .queue) (waiter (a .sizes)) in omega arith) sw,
+                  ),
+                ),
               ),
             ),
           ),
@@ -77,36 +90,28 @@ add-front : tie.Need-add-front Inv-loop μ-loop
 add-front c =
     let at-turn = c .before .before .before .before .before .before in
     let at-loop = at-turn .before .before .before .before .before .before in
-    let at-rows = at-loop .before .before .before .before .before .before .before in
+    let at-rows = at-loop .before .before .before .before .before .before .before .before .before .before in
     let at-start = at-rows .before .before .before .before .before .before .before .before .before .before .before .before .before .before .before .before in
     let a = at-start .args in
-    let t = tableIn (a .sizes) (a .labels .now) (a .equations .now) (a .moves .now) in
-    let cs = changesOf (a .changes .now) in
     let pre = at-start .pre in
-    let low = pre .1 .1 .0 .0 in
     let l = at-loop .loop in
-    let inv = l .inv in
-    let waits = at-turn .before .before .before .before .if1 .taken in
-    let sw = leads-on (inv .1 .1) (record { start = pre .1 .1 .1 .start; index = pre .1 .1 .1 .index; on = at-rows .look-rows .ensures .1 (pre .1 .1 .1 .start) (a .visits, pre .1 .1 .1 .index) (pre .1 .1 .1 .on) }) in
+    let sw = leads-on (l .inv .1 .1) (record { start = pre .1 .1 .1 .start; index = pre .1 .1 .1 .index; on = at-rows .look-rows .ensures .1 (pre .1 .1 .1 .start) (a .visits, pre .1 .1 .1 .index) (pre .1 .1 .1 .on) }) in
     let d = jobIn (a .sizes) (a .block) (a .settling) (pairsOf (a .sizes)) (l .values) (l .marks) (l .queue) (l .front) (l .at .tail) (l .at .visits) (sw .index) in
+    let waits = at-turn .before .before .before .before .if1 .taken in
     let room = on-room (pre .0) d (sw .on) waits in
-    record { fits = omega (arith, pairs-few (pre .0)) }
+    record { fits = omega (arith, waits, pairs-few (pre .0)) }
 
 loop-less : tie.Need-loop-less Inv-loop μ-loop
 loop-less c =
     let at-turn = c .before .before .before .before .before .before in
     let at-loop = at-turn .before .before .before .before .before .before in
-    let at-rows = at-loop .before .before .before .before .before .before .before in
+    let at-rows = at-loop .before .before .before .before .before .before .before .before .before .before in
     let at-start = at-rows .before .before .before .before .before .before .before .before .before .before .before .before .before .before .before .before in
     let a = at-start .args in
-    let t = tableIn (a .sizes) (a .labels .now) (a .equations .now) (a .moves .now) in
-    let cs = changesOf (a .changes .now) in
     let pre = at-start .pre in
-    let low = pre .1 .1 .0 .0 in
     let l = at-loop .loop in
-    let inv = l .inv in
     let waits = at-turn .before .before .before .before .if1 .taken in
-    let sw = leads-on (inv .1 .1) (record { start = pre .1 .1 .1 .start; index = pre .1 .1 .1 .index; on = at-rows .look-rows .ensures .1 (pre .1 .1 .1 .start) (a .visits, pre .1 .1 .1 .index) (pre .1 .1 .1 .on) }) in
+    let sw = leads-on (l .inv .1 .1) (record { start = pre .1 .1 .1 .start; index = pre .1 .1 .1 .index; on = at-rows .look-rows .ensures .1 (pre .1 .1 .1 .start) (a .visits, pre .1 .1 .1 .index) (pre .1 .1 .1 .on) }) in
     let d = jobIn (a .sizes) (a .block) (a .settling) (pairsOf (a .sizes)) (l .values) (l .marks) (l .queue) (l .front) (l .at .tail) (l .at .visits) (sw .index) in
     let room = on-room (pre .0) d (sw .on) waits in
     omega arith
@@ -115,10 +120,9 @@ loop-again : tie.Need-loop-again Inv-loop μ-loop
 loop-again c =
     let at-turn = c .before .before .before .before .before .before in
     let at-loop = at-turn .before .before .before .before .before .before in
-    let at-rows = at-loop .before .before .before .before .before .before .before in
+    let at-rows = at-loop .before .before .before .before .before .before .before .before .before .before in
     let at-start = at-rows .before .before .before .before .before .before .before .before .before .before .before .before .before .before .before .before in
     let a = at-start .args in
-    let t = tableIn (a .sizes) (a .labels .now) (a .equations .now) (a .moves .now) in
     let cs = changesOf (a .changes .now) in
     let pre = at-start .pre in
     let low = pre .1 .1 .0 .0 in
@@ -127,15 +131,23 @@ loop-again c =
     let waits = at-turn .before .before .before .before .if1 .taken in
     let sw = leads-on (inv .1 .1) (record { start = pre .1 .1 .1 .start; index = pre .1 .1 .1 .index; on = at-rows .look-rows .ensures .1 (pre .1 .1 .1 .start) (a .visits, pre .1 .1 .1 .index) (pre .1 .1 .1 .on) }) in
     let d = jobIn (a .sizes) (a .block) (a .settling) (pairsOf (a .sizes)) (l .values) (l .marks) (l .queue) (l .front) (l .at .tail) (l .at .visits) (sw .index) in
-    let room = on-room (pre .0) d (sw .on) waits in
     let made = at-turn .turn .ensures in
-    let kept = at-turn .turn .kept in (
+    let kept = at-turn .turn .kept in
+    let values = at-turn .turn .last .1 .1 .1 .1 .1 .1 .0 in
+    let marks = at-turn .turn .last .1 .1 .1 .1 .1 .1 .1 .0 in
+    let queue = at-turn .turn .last .1 .1 .1 .1 .1 .1 .1 .1 .0 in
+    let at = at-turn .turn .result in
+    let on = leads-turned (pre .0) cs (a .block) (a .settling) low (pairsOf (a .sizes)) (omega arith) (l .values) (l .marks) (l .queue) (l .front) (l .at .tail) (l .at .visits) waits values marks queue (at .tail) (at .visits) made in
+    let sw′ = leads-on on sw in
+    let d′ = jobIn (a .sizes) (a .block) (a .settling) (pairsOf (a .sizes)) values marks queue (l .front + 1) (at .tail) (at .visits) (sw′ .index) in
+    let same = inv .1 .0 .1 waits ∙ front-from (pre .0) cs (a .block) (a .settling) low (pairsOf (a .sizes)) (omega arith) (l .values) (l .marks) (l .queue) (l .front) (l .at .tail) (l .at .visits) waits (on-bits (pre .0) d (sw .on)) sw in (
       (kept .1 .1 .1 .1 .1 .1 .0 ∙ inv .0 .0, (kept .1 .1 .1 .1 .1 .1 .1 .0 ∙ inv .0 .1 .0, kept .1 .1 .1 .1 .1 .1 .1 .1 .0 ∙ inv .0 .1 .1)),
       (
-        made .packed,
-        λ vs other o.
-            leads-turned (pre .0) cs (a .block) (a .settling) low (pairsOf (a .sizes)) (omega arith) (l .values) (l .marks) (l .queue) (l .front) (l .at .tail) (l .at .visits) waits
-            (at-turn .turn .last .1 .1 .1 .1 .1 .1 .0) (at-turn .turn .last .1 .1 .1 .1 .1 .1 .1 .0) (at-turn .turn .last .1 .1 .1 .1 .1 .1 .1 .1 .0) (at-turn .turn .result .tail) (at-turn .turn .result .visits) made vs other (inv .1 .1 vs other o),
+        (
+          made .packed,
+          λ waits′. same ∙ sym (front-from (pre .0) cs (a .block) (a .settling) low (pairsOf (a .sizes)) (omega arith) values marks queue (l .front + 1) (at .tail) (at .visits) waits′ (on-bits (pre .0) d′ (sw′ .on)) sw′),
+        ),
+        λ vs other o. on vs other (inv .1 .1 vs other o),
       ),
     )
 
@@ -143,10 +155,14 @@ same-length : tie.Need-same-length Inv-loop μ-loop
 same-length c = c .before .before .loop .inv .0 .0
 
 same-length-2 : tie.Need-same-length-2 Inv-loop μ-loop
-same-length-2 c = c .before .before .loop .inv .0 .1 .0 ∙ c .before .before .before .before .before .before .before .before .before .look-rows .kept .1 .1 .1 .1 .1 .1 .1 .0
+same-length-2 c =
+    let at-loop = c .before .before in
+    at-loop .loop .inv .0 .1 .0 ∙ at-loop .before .before .before .before .before .before .before .before .before .before .look-rows .kept .1 .1 .1 .1 .1 .1 .1 .0
 
 same-length-3 : tie.Need-same-length-3 Inv-loop μ-loop
-same-length-3 c = c .before .before .loop .inv .0 .1 .1 ∙ c .before .before .before .before .before .before .before .before .before .look-rows .kept .1 .1 .1 .1 .1 .1 .1 .1 .0
+same-length-3 c =
+    let at-loop = c .before .before in
+    at-loop .loop .inv .0 .1 .1 ∙ at-loop .before .before .before .before .before .before .before .before .before .before .look-rows .kept .1 .1 .1 .1 .1 .1 .1 .1 .0
 
 same-length-4 : tie.Need-same-length-4 Inv-loop μ-loop
 same-length-4 c = search needs
@@ -154,16 +170,14 @@ same-length-4 c = search needs
 returns : tie.Need-returns Inv-loop μ-loop
 returns c =
     let at-loop = c .before .before in
-    let at-rows = at-loop .before .before .before .before .before .before .before in
+    let at-rows = at-loop .before .before .before .before .before .before .before .before .before .before in
     let at-start = at-rows .before .before .before .before .before .before .before .before .before .before .before .before .before .before .before .before in
     let a = at-start .args in
-    let t = tableIn (a .sizes) (a .labels .now) (a .equations .now) (a .moves .now) in
     let cs = changesOf (a .changes .now) in
     let pre = at-start .pre in
     let low = pre .1 .1 .0 .0 in
     let l = at-loop .loop in
-    let inv = l .inv in
-    λ vs other o. leads-over (pre .0) cs (a .block) (a .settling) low (pairsOf (a .sizes)) (omega arith) (l .values) (l .marks) (l .queue) (l .front) (l .at .tail) (l .at .visits) (c .if1 .left) vs other (inv .1 .1 vs other (at-rows .look-rows .ensures .1 vs (a .visits, other) o))
+    λ vs other o. leads-over (pre .0) cs (a .block) (a .settling) low (pairsOf (a .sizes)) (omega arith) (l .values) (l .marks) (l .queue) (l .front) (l .at .tail) (l .at .visits) (c .if1 .left) vs other (l .inv .1 .1 vs other (at-rows .look-rows .ensures .1 vs (a .visits, other) o))
 
 pub phase-spec : {M : Type 1} → statement M
 phase-spec =
@@ -172,6 +186,7 @@ phase-spec =
     Inv-loop
     μ-loop
     look-rows-requires
+    first-value-requires
     loop-holds
     turn-requires
     add-front

@@ -4,7 +4,8 @@ use mathlib.Core.Bool.{Bool}
 use lib.Dec.{eqb}
 use Rattle.lists.specs.Lists.{bit}
 use Rattle.engine_phase.specs.PutRow.{turnsFrom}
-use Rattle.engine_phase.specs.LookRow.{kind-byte, other-byte}
+use Rattle.engine_turn.specs.TurnRuns.{bit-of}
+use Rattle.engine_phase.specs.LookRow.{other-byte}
 use borrow.Author.Needs.{needs}
 use Rattle.engine_phase.proofs.turns_from.Statement.{statement}
 use Rattle.engine_phase.proofs.turns_from.Tie as tie
@@ -14,7 +15,7 @@ use Rattle.engine_phase.proofs.turns_from.Lts as lts
 returns : tie.Need-returns
 returns c =
     let at-start = c .before in
-    kind-byte (at-start .args .kind) (at-start .pre) ∙ ap (λ (b : Bool). bit (turnsFrom b (eqb (at-start .args .kind) 1))) (sym (c .if1 .taken))
+    bit-of (at-start .args .kind) (at-start .pre) ∙ ap (λ (b : Bool). bit (turnsFrom b (eqb (at-start .args .kind) 1))) (sym (c .if1 .taken))
 
 sub-result : tie.Need-sub-result
 sub-result c = search needs

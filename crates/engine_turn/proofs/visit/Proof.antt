@@ -5,7 +5,7 @@ use native.Mathlib.Omega.{arith}
 use Rattle.words.specs.Limits.{limits}
 use Rattle.engine_turn.specs.Scene.{sceneOf}
 use Rattle.engine_turn.specs.Inside.{pair-low}
-use Rattle.engine_turn.specs.VisitLaws.{visit-shut, visit-stays, visit-waits}
+use Rattle.engine_turn.specs.VisitLaws.{visit-shut, visit-stays, visit-waits, visit-room}
 use borrow.Author.Needs.{needs}
 use Rattle.engine_turn.proofs.visit.Statement.{statement}
 use Rattle.engine_turn.proofs.visit.Tie as tie
@@ -52,16 +52,32 @@ slice-write-marks c =
 
 waiting-requires : tie.Need-waiting-requires
 waiting-requires c κs =
-    let at-start = c .before .before .before .before .before .before .before .before .before .before .before .before .before .before in
+    let at-start = c .before .before .before .before .before .before .before .before .before .before .before .before .before in
     let l = at-start .pre .1 .0 .leaner in
     let z = limits (at-start .pre .0 .drawn) in
     (omega (arith, l .variable), omega (arith, l .state))
 
-set-half-requires : tie.Need-set-half-requires
-set-half-requires c κs = search needs
+mul-queue : tie.Need-mul-queue
+mul-queue c = search needs
 
-add-t27 : tie.Need-add-t27
-add-t27 c = search needs
+slice-write-queue : tie.Need-slice-write-queue
+slice-write-queue c =
+    let at-start = c .before .before .before .before .before .before .before .before .before .before .before .before .before .before in
+    let at-pair-of = c .before .before .before .before .before .before .before in
+    let at-is-free = c .before .before .before .before .before in
+    let at-if1 = c .before .before .before .before in
+    let at-must-turn = c .before .before .before in
+    let at-if2 = c .before .before in
+    let a = at-start .args in
+    let scene = sceneOf (a .sizes) (a .equations .now) (a .moves .now) (a .values .now) (a .from) in
+    let l = at-start .pre .1 .0 .leaner in
+    let z = limits (at-start .pre .0 .drawn) in
+    let s : a .s .0 < 1024 = omega (arith, l .state) in
+    visit-room scene (a .settling) (a .y .0) (a .s .0) s (a .marks .now) (a .queue .now) (a .at .tail) (a .at .visits) (at-pair-of .pair-of .result) _ (at-is-free .is-free .result) (at-pair-of .pair-of .ensures) refl (at-is-free .is-free .ensures) (at-if1 .if1 .taken)
+    (at-must-turn .must-turn .result) (at-must-turn .must-turn .ensures) (at-if2 .if2 .taken) (at-start .pre .1 .1 .1)
+
+add-t24 : tie.Need-add-t24
+add-t24 c = search needs
 
 same-length : tie.Need-same-length
 same-length c = search needs
@@ -71,22 +87,21 @@ same-length-2 c = search needs
 
 returns : tie.Need-returns
 returns c =
-    let at-start = c .before .before .before .before .before .before .before .before .before .before .before .before .before .before .before .before .before .before in
-    let at-pair-of = c .before .before .before .before .before .before .before .before .before .before .before in
-    let at-is-free = c .before .before .before .before .before .before .before .before .before in
-    let at-if1 = c .before .before .before .before .before .before .before .before in
-    let at-must-turn = c .before .before .before .before .before .before .before in
-    let at-if2 = c .before .before .before .before .before .before in
-    let at-next-mark = c .before .before .before .before .before in
-    let at-waiting = c .before .before .before in
-    let at-set-half = c .before .before in
+    let at-start = c .before .before .before .before .before .before .before .before .before .before .before .before .before .before in
+    let at-pair-of = c .before .before .before .before .before .before .before in
+    let at-is-free = c .before .before .before .before .before in
+    let at-if1 = c .before .before .before .before in
+    let at-must-turn = c .before .before .before in
+    let at-if2 = c .before .before in
+    let at-next-mark = c .before in
+    let at-waiting = c in
     let a = at-start .args in
     let c = sceneOf (a .sizes) (a .equations .now) (a .moves .now) (a .values .now) (a .from) in
     let l = at-start .pre .1 .0 .leaner in
     let z = limits (at-start .pre .0 .drawn) in
     let s : a .s .0 < 1024 = omega (arith, l .state) in
     visit-waits c (a .settling) (a .y .0) (a .s .0) s (a .marks .now) (a .queue .now) (a .at .tail) (a .at .visits) (at-pair-of .pair-of .result) _ (at-is-free .is-free .result) (at-pair-of .pair-of .ensures) refl (at-is-free .is-free .ensures) (at-if1 .if1 .taken)
-    (at-must-turn .must-turn .result) (at-must-turn .must-turn .ensures) (at-if2 .if2 .taken) (at-next-mark .next-mark .result) (at-waiting .waiting .result) _ (at-next-mark .next-mark .ensures) (at-waiting .waiting .ensures) (at-set-half .set-half .ensures)
+    (at-must-turn .must-turn .result) (at-must-turn .must-turn .ensures) (at-if2 .if2 .taken) (at-next-mark .next-mark .result) (at-waiting .waiting .result) _ (at-next-mark .next-mark .ensures) (at-waiting .waiting .ensures) refl
 
 returns-2 : tie.Need-returns-2
 returns-2 c =
@@ -128,8 +143,9 @@ visit-spec =
     next-mark-requires
     slice-write-marks
     waiting-requires
-    set-half-requires
-    add-t27
+    mul-queue
+    slice-write-queue
+    add-t24
     same-length
     same-length-2
     returns

@@ -5,7 +5,7 @@ use Prim.Native.Nat.{ℕ, _/_, _<_}
 use native.Mathlib.Omega.{arith}
 use lib.ListN.{length}
 use Rattle.engine_index.specs.Indexed.{headsOf}
-use Rattle.engine_turn.specs.Scene.{sceneOf, lineOf, visitAll, sourcesIn, pairsBy, Leaning, Bounded}
+use Rattle.engine_turn.specs.Scene.{sceneOf, lineOf, visitAll, sourcesIn, pairsBy, Leaning, Bounded, Room}
 use Rattle.engine_turn.specs.OperandWords.{operand-leans, pairs-join, pairs-step, head-inside}
 use borrow.Author.Needs.{needs}
 use Rattle.engine_turn.proofs.visit_operand.Statement.{statement}
@@ -19,13 +19,15 @@ visit-requires c κs =
     let at-start = c .before .before .before .before .before .before .before .before .before in
     let at-if1 = c .before .before in
     let a = at-start .args in
-    let c = sceneOf (a .sizes) (a .equations .now) (a .moves .now) (a .values .now) (a .from) in
+    let scene = sceneOf (a .sizes) (a .equations .now) (a .moves .now) (a .values .now) (a .from) in
     let o = at-start .pre .1 .1 .0 in
-    let q = at-start .pre .1 .1 .1 in
+    let q = at-start .pre .1 .1 .1 .0 in
     let s = operand-leans o in
-    let leaning : Leaning c _ _ (a .s .0) = record { leaner = record { variable = s .variable; state = q .0; uses = s .uses }; told = s .told } in
+    let leaning : Leaning scene _ _ (a .s .0) = record { leaner = record { variable = s .variable; state = q .0; uses = s .uses }; told = s .told } in
     let e = ap length (pairs-join o (a .s .0) (at-if1 .if1 .taken)) in
-    (at-start .pre .0, (leaning, (q .1 .0, (omega (arith, q .1 .1 .0, e), omega (arith, q .1 .1 .1, e)))))
+    let v = lineOf (a .marks .now) (a .queue .now) (a .at .tail) (a .at .visits) in
+    let room = subst (λ (l : List ℕ). Room scene (a .settling) l v) (pairs-join o (a .s .0) (at-if1 .if1 .taken)) (at-start .pre .1 .1 .1 .1) in
+    (at-start .pre .0, (leaning, ((q .1 .0, (omega (arith, q .1 .1 .0, e), omega (arith, q .1 .1 .1, e))), room)))
 
 same-length : tie.Need-same-length
 same-length c = search needs
@@ -39,11 +41,11 @@ returns c =
     let at-visit = c .before .before .before .before in
     let at-if1 = c .before .before .before .before .before .before .before in
     let a = at-start .args in
-    let c = sceneOf (a .sizes) (a .equations .now) (a .moves .now) (a .values .now) (a .from) in
+    let scene = sceneOf (a .sizes) (a .equations .now) (a .moves .now) (a .values .now) (a .from) in
     let v = lineOf (a .marks .now) (a .queue .now) (a .at .tail) (a .at .visits) in
     let o = at-start .pre .1 .1 .0 in
-    let q = at-start .pre .1 .1 .1 in
-    at-visit .visit .ensures ∙ ap (λ (l : List ℕ). visitAll c (a .settling) l v) (sym (pairs-join o (a .s .0) (at-if1 .if1 .taken)))
+    let q = at-start .pre .1 .1 .1 .0 in
+    at-visit .visit .ensures ∙ ap (λ (l : List ℕ). visitAll scene (a .settling) l v) (sym (pairs-join o (a .s .0) (at-if1 .if1 .taken)))
 
 cast-head-of : tie.Need-cast-head-of
 cast-head-of c = search needs
@@ -57,14 +59,16 @@ visit-sources-requires c κs =
     let at-head-of = c .before .before in
     let at-if1 = c .before .before .before in
     let a = at-start .args in
-    let c = sceneOf (a .sizes) (a .equations .now) (a .moves .now) (a .values .now) (a .from) in
+    let scene = sceneOf (a .sizes) (a .equations .now) (a .moves .now) (a .values .now) (a .from) in
     let o = at-start .pre .1 .1 .0 in
-    let q = at-start .pre .1 .1 .1 in
+    let q = at-start .pre .1 .1 .1 .0 in
     let y = a .o / 256 / 256 / 256 in
     let e = at-head-of .head-of .ensures in
     let h : at-head-of .head-of .result < headsOf (a .sizes) = subst (λ (n : ℕ). n < headsOf (a .sizes)) (sym e) (head-inside o (at-start .pre .0) (a .s .0) (q .0) (at-if1 .if1 .left)) in
     let f : pairsBy (a .sizes) (a .equations .now) (a .moves .now) (a .s .0) y ≡ sourcesIn (a .sizes) (a .moves .now) y (at-head-of .head-of .result) = pairs-step o (a .s .0) (at-if1 .if1 .left) ∙ ap (sourcesIn (a .sizes) (a .moves .now) y) (sym e) in
-    (at-start .pre .0, (at-start .pre .1 .0, (operand-leans o, (h, (q .1 .0, subst (Bounded (a .at .tail) (a .at .visits)) f (q .1 .1))))))
+    let v = lineOf (a .marks .now) (a .queue .now) (a .at .tail) (a .at .visits) in
+    let room = subst (λ (l : List ℕ). Room scene (a .settling) l v) f (at-start .pre .1 .1 .1 .1) in
+    (at-start .pre .0, (at-start .pre .1 .0, (operand-leans o, ((h, (q .1 .0, subst (Bounded (a .at .tail) (a .at .visits)) f (q .1 .1))), room))))
 
 same-length-3 : tie.Need-same-length-3
 same-length-3 c = search needs
@@ -79,14 +83,14 @@ returns-2 c =
     let at-if1 = c .before .before .before .before .before .before .before .before in
     let at-visit-sources = c .before .before .before .before in
     let a = at-start .args in
-    let c = sceneOf (a .sizes) (a .equations .now) (a .moves .now) (a .values .now) (a .from) in
+    let scene = sceneOf (a .sizes) (a .equations .now) (a .moves .now) (a .values .now) (a .from) in
     let v = lineOf (a .marks .now) (a .queue .now) (a .at .tail) (a .at .visits) in
     let o = at-start .pre .1 .1 .0 in
-    let q = at-start .pre .1 .1 .1 in
+    let q = at-start .pre .1 .1 .1 .0 in
     let y = a .o / 256 / 256 / 256 in
     let e = at-head-of .head-of .ensures in
     let f : pairsBy (a .sizes) (a .equations .now) (a .moves .now) (a .s .0) y ≡ sourcesIn (a .sizes) (a .moves .now) y (at-head-of .head-of .result) = pairs-step o (a .s .0) (at-if1 .if1 .left) ∙ ap (sourcesIn (a .sizes) (a .moves .now) y) (sym e) in
-    at-visit-sources .visit-sources .ensures ∙ ap (λ (l : List ℕ). visitAll c (a .settling) l v) (sym f)
+    at-visit-sources .visit-sources .ensures ∙ ap (λ (l : List ℕ). visitAll scene (a .settling) l v) (sym f)
 
 pub visit-operand-spec : {M : Type 1} → statement M
 visit-operand-spec =

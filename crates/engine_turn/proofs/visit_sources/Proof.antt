@@ -1,5 +1,5 @@
 -- The chain of a head, walked to its end. Assumes nothing.
-use mathlib.Core.Path.{_≡_, ap, _∙_}
+use mathlib.Core.Path.{_≡_, sym, ap, _∙_, subst}
 use mathlib.Core.List.{[], _∷_}
 use Prim.Native.Nat.{ℕ, suc, _+_, _-_, _<_}
 use native.Mathlib.Omega.{arith}
@@ -7,11 +7,9 @@ use lib.ListN.{length, getD}
 use Rattle.words.specs.Limits.{limits}
 use Rattle.words.specs.Table.{waitingOf}
 use Rattle.engine_index.specs.Indexed.{keyOf}
-use Rattle.engine_turn.specs.Scene.{sceneOf, lineOf, visitAll, sourceOf, Leaning}
+use Rattle.engine_turn.specs.Scene.{sceneOf, lineOf, visitAll, sourceOf, Leaning, Room}
 use Rattle.engine_turn.specs.Inside.{source-inside}
-use Rattle.engine_turn.specs.ChainVisits.{OnChain, falls, chain-begins, chain-room, chain-goes, chain-ends, head-at, link-at}
-use borrow.Author.Needs.{needs}
-use borrow.Author.Needs.{needs}
+use Rattle.engine_turn.specs.ChainVisits.{OnChain, falls, chain-begins, chain-room, chain-fits, chain-goes, chain-ends, head-at, link-at}
 use borrow.Author.Needs.{needs}
 use Rattle.engine_turn.proofs.visit_sources.Statement.{statement}
 use Rattle.engine_turn.proofs.visit_sources.Tie as tie
@@ -31,14 +29,14 @@ mul-place-in-half : tie.Need-mul-place-in-half Inv-loop μ-loop
 mul-place-in-half c =
     let at-start = c .before .before .before .before .before .before .before in
     let i = at-start .pre .1 .0 .long in
-    let h = at-start .pre .1 .1 .1 .0 in
+    let h = at-start .pre .1 .1 .1 .0 .0 in
     omega arith
 
 shared-slice-read-place-in-half : tie.Need-shared-slice-read-place-in-half Inv-loop μ-loop
 shared-slice-read-place-in-half c =
     let at-start = c .before .before .before .before .before .before .before .before in
     let i = at-start .pre .1 .0 .long in
-    let h = at-start .pre .1 .1 .1 .0 in
+    let h = at-start .pre .1 .1 .1 .0 .0 in
     omega arith
 
 place-in-half-requires : tie.Need-place-in-half-requires Inv-loop μ-loop
@@ -49,9 +47,9 @@ loop-holds c =
     let at-start = c .before .before .before .before .before .before .before .before .before in
     let at-place-in-half = c in
     let a = at-start .args in
-    let c = sceneOf (a .sizes) (a .equations .now) (a .moves .now) (a .values .now) (a .from) in
+    let scene = sceneOf (a .sizes) (a .equations .now) (a .moves .now) (a .values .now) (a .from) in
     let v = lineOf (a .marks .now) (a .queue .now) (a .at .tail) (a .at .visits) in
-    chain-begins (keyOf (a .sizes)) (a .moves .now) (a .head) (sourceOf (a .moves .now) (a .y .0)) c (a .settling) (length (a .moves .now)) v (at-place-in-half .place-in-half .result) (at-place-in-half .place-in-half .ensures .0 ∙ head-at (at-start .pre .1 .0) (a .head) (at-start .pre .1 .1 .1 .0))
+    chain-begins (keyOf (a .sizes)) (a .moves .now) (a .head) (sourceOf (a .moves .now) (a .y .0)) scene (a .settling) (length (a .moves .now)) v (at-place-in-half .place-in-half .result) (at-place-in-half .place-in-half .ensures .0 ∙ head-at (at-start .pre .1 .0) (a .head) (at-start .pre .1 .1 .1 .0 .0))
 
 sub-j : tie.Need-sub-j Inv-loop μ-loop
 sub-j c = search needs
@@ -84,7 +82,7 @@ visit-requires c κs =
     let at-loop-test = c .before .before .before .before in
     let at-source-of = c .before .before in
     let a = at-start .args in
-    let c = sceneOf (a .sizes) (a .equations .now) (a .moves .now) (a .values .now) (a .from) in
+    let scene = sceneOf (a .sizes) (a .equations .now) (a .moves .now) (a .values .now) (a .from) in
     let v = lineOf (a .marks .now) (a .queue .now) (a .at .tail) (a .at .visits) in
     let l = at-loop .loop in
     let up : l .k ≡ suc (l .k - 1) = omega (arith, at-loop-test .loop-test .taken) in
@@ -92,9 +90,11 @@ visit-requires c κs =
     let e = at-source-of .source-of .ensures in
     let h = source-inside (at-start .pre .0) (l .k - 1) (omega (arith, l .inv .below, at-loop-test .loop-test .taken)) in
     let i : at-source-of .source-of .result .0 < a .sizes .states = omega arith in
-    let leaning : Leaning c (a .easy) (a .y .0) (at-source-of .source-of .result .0) = record { leaner = record { variable = s .variable; state = i; uses = s .uses }; told = s .told } in
-    let b = chain-room (keyOf (a .sizes)) (a .moves .now) (a .head) (sourceOf (a .moves .now) (a .y .0)) c (a .settling) (length (a .moves .now)) v (l .k) (l .k - 1) (lineOf (l .marks) (l .queue) (l .s .tail) (l .s .visits)) (l .inv) up (at-start .pre .1 .1 .1 .1 .1) in
-    (at-start .pre .0, (leaning, (l .inv .long-marks ∙ at-start .pre .1 .1 .1 .1 .0, (omega (arith, b .0), omega (arith, b .1)))))
+    let leaning : Leaning scene (a .easy) (a .y .0) (at-source-of .source-of .result .0) = record { leaner = record { variable = s .variable; state = i; uses = s .uses }; told = s .told } in
+    let b = chain-room (keyOf (a .sizes)) (a .moves .now) (a .head) (sourceOf (a .moves .now) (a .y .0)) scene (a .settling) (length (a .moves .now)) v (l .k) (l .k - 1) (lineOf (l .marks) (l .queue) (l .s .tail) (l .s .visits)) (l .inv) up (at-start .pre .1 .1 .1 .0 .1 .1) in
+    let fits = chain-fits (keyOf (a .sizes)) (a .moves .now) (a .head) (sourceOf (a .moves .now) (a .y .0)) scene (a .settling) (length (a .moves .now)) v (l .k) (l .k - 1) (lineOf (l .marks) (l .queue) (l .s .tail) (l .s .visits)) (l .inv) up (at-start .pre .1 .1 .1 .1) in
+    let room = subst (λ (n : ℕ). Room scene (a .settling) (waitingOf (a .y .0) n ∷ []) (lineOf (l .marks) (l .queue) (l .s .tail) (l .s .visits))) (sym e) fits in
+    (at-start .pre .0, (leaning, ((l .inv .long-marks ∙ at-start .pre .1 .1 .1 .0 .1 .0, (omega (arith, b .0), omega (arith, b .1))), room)))
 
 add-place-in-half : tie.Need-add-place-in-half Inv-loop μ-loop
 add-place-in-half c =
@@ -155,13 +155,13 @@ loop-again c =
     let at-visit = c .before .before .before .before .before .before in
     let at-source-of = c .before .before .before .before .before .before .before .before .before in
     let a = at-start .args in
-    let c = sceneOf (a .sizes) (a .equations .now) (a .moves .now) (a .values .now) (a .from) in
+    let scene = sceneOf (a .sizes) (a .equations .now) (a .moves .now) (a .values .now) (a .from) in
     let v = lineOf (a .marks .now) (a .queue .now) (a .at .tail) (a .at .visits) in
     let l = at-loop .loop in
     let up : l .k ≡ suc (l .k - 1) = omega (arith, at-loop-test .loop-test .taken) in
     let next = at-place-in-half2 .place-in-half2 .ensures .0 ∙ ap (λ (n : ℕ). getD (a .index .now) (n + (l .k - 1)) 0) (at-heads-of .heads-of .ensures .0) ∙ link-at (at-start .pre .1 .0) (l .k - 1) (omega (arith, at-loop-test .loop-test .taken, l .inv .below)) in
-    let e = at-visit .visit .ensures ∙ ap (λ (n : ℕ). visitAll c (a .settling) (waitingOf (a .y .0) n ∷ []) (lineOf (l .marks) (l .queue) (l .s .tail) (l .s .visits))) (at-source-of .source-of .ensures) in
-    chain-goes (keyOf (a .sizes)) (a .moves .now) (a .head) (sourceOf (a .moves .now) (a .y .0)) c (a .settling) (length (a .moves .now)) v (l .k) (l .k - 1) (lineOf (l .marks) (l .queue) (l .s .tail) (l .s .visits)) _ (at-place-in-half2 .place-in-half2 .result) (l .inv) up e next
+    let e = at-visit .visit .ensures ∙ ap (λ (n : ℕ). visitAll scene (a .settling) (waitingOf (a .y .0) n ∷ []) (lineOf (l .marks) (l .queue) (l .s .tail) (l .s .visits))) (at-source-of .source-of .ensures) in
+    chain-goes (keyOf (a .sizes)) (a .moves .now) (a .head) (sourceOf (a .moves .now) (a .y .0)) scene (a .settling) (length (a .moves .now)) v (l .k) (l .k - 1) (lineOf (l .marks) (l .queue) (l .s .tail) (l .s .visits)) _ (at-place-in-half2 .place-in-half2 .result) (l .inv) up e next
 
 same-length : tie.Need-same-length Inv-loop μ-loop
 same-length c =
@@ -179,10 +179,10 @@ returns c =
     let at-loop = c .before in
     let at-loop-test = c in
     let a = at-start .args in
-    let c = sceneOf (a .sizes) (a .equations .now) (a .moves .now) (a .values .now) (a .from) in
+    let scene = sceneOf (a .sizes) (a .equations .now) (a .moves .now) (a .values .now) (a .from) in
     let v = lineOf (a .marks .now) (a .queue .now) (a .at .tail) (a .at .visits) in
     let l = at-loop .loop in
-    chain-ends (keyOf (a .sizes)) (a .moves .now) (a .head) (sourceOf (a .moves .now) (a .y .0)) c (a .settling) (length (a .moves .now)) v (l .k) (lineOf (l .marks) (l .queue) (l .s .tail) (l .s .visits)) (l .inv) (omega (arith, at-loop-test .loop-test .left))
+    chain-ends (keyOf (a .sizes)) (a .moves .now) (a .head) (sourceOf (a .moves .now) (a .y .0)) scene (a .settling) (length (a .moves .now)) v (l .k) (lineOf (l .marks) (l .queue) (l .s .tail) (l .s .visits)) (l .inv) (omega (arith, at-loop-test .loop-test .left))
 
 pub visit-sources-spec : {M : Type 1} → statement M
 visit-sources-spec =
