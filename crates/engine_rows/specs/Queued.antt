@@ -1,7 +1,7 @@
 -- A row's pairs put at the end of the queue, and its marks put back among all marks, as the machine has them. Assumes nothing.
 use mathlib.Core.Path.{_≡_, refl, sym, ap, _∙_, subst}
 use mathlib.Core.Logic.{inl, inr}
-use mathlib.Core.Bool.{Bool, true, false, cond}
+use mathlib.Core.Bool.{Bool, true, false, cond, _||_}
 use mathlib.Core.List.{List, [], _∷_, _++_, map, append-nil, append-assoc}
 use Prim.Native.Nat.{ℕ, zero, suc, _+_, _-_, _*_, _/_, _%_, _≤_, _<_}
 use native.Mathlib.Nat.{add-zero, zero-add}
@@ -11,9 +11,9 @@ use native.Mathlib.Omega.{arith}
 use lib.ListN.{length, getD, set, take, drop, length-set, length-append, length-map, length-drop, List·getD-append}
 use lib.Seq.{take-suc, take-suc-set, take-set-le, length-take-le, drop-drop, getD-take, getD-drop, getD-append-add, ext-getD}
 use lib.Dec.{eqb}
-use Rattle.lists.specs.Lists.{listed}
+use Rattle.lists.specs.Lists.{listed, someBelow}
 use Rattle.lists.specs.TableLaws.{listed-is, listed-length}
-use Rattle.lists.specs.Tests.{tell, eqb-is, eqb-no}
+use Rattle.lists.specs.Tests.{tell, or-no, eqb-is, eqb-no}
 use Rattle.systems.specs.Machine.{nextMark}
 use Rattle.systems.specs.ListMachine.{between}
 use Rattle.systems.specs.Fair.{between-split}
@@ -23,7 +23,7 @@ use Rattle.rules.specs.declared.Sizes.{Sizes}
 use Rattle.laws.specs.ModelLeaners.{map-append}
 use Rattle.words.specs.Table.{pairIn, waitingOf, waiter}
 use Rattle.engine_rows.specs.Rooms.{Packed}
-use Rattle.engine_rows.specs.RowLoops.{markAt}
+use Rattle.engine_rows.specs.RowLoops.{markAt, Queued}
 
 -- One place more, that must turn or not.
 hits-yes : (f : ℕ → Bool) (p n : ℕ) → f (p + n) ≡ true → hits f p (suc n) ≡ hits f p n ++ ((p + n) ∷ [])
@@ -42,54 +42,99 @@ hits-few f p s (suc n) h =
       | no g ↦ let q = hits-few f p s n (omega arith) in omega arith
     ]
 
--- After s places of the row of y: the queue reaches to `top`, and up to there holds what it held before, and then the pairs of
--- these places that must turn.
-pub record Queued (y : ℕ) (g : ℕ → Bool) (before : List ℕ) (tail s top : ℕ) (queue : List ℕ) : Type 0 where
-  pub long : length queue ≡ length before
-  pub reaches : top ≡ tail + length (hits g 0 s)
-  pub front : take top queue ≡ take tail before ++ map (waitingOf y) (hits g 0 s)
+-- Places that follow one another.
+hits-on : (f : ℕ → Bool) (p a q b n : ℕ) → q ≡ p + a → n ≡ a + b → hits f p n ≡ hits f p a ++ hits f q b
+hits-on f p a q zero n eq en = let e : n ≡ a = omega arith in ap (hits f p) e ∙ sym (append-nil (hits f p a))
+hits-on f p a q (suc b) zero eq en = absurd (omega arith)
+hits-on f p a q (suc b) (suc n) eq en =
+    let e : p + n ≡ q + b = omega arith in
+    ap (λ (l : List ℕ). l ++ cond (f (p + n)) ((p + n) ∷ []) []) (hits-on f p a q b n eq (omega arith))
+    ∙ ap (λ (k : ℕ). (hits f p a ++ hits f q b) ++ cond (f k) (k ∷ []) []) e
+    ∙ append-assoc (hits f p a) (hits f q b) (cond (f (q + b)) ((q + b) ∷ []) [])
+
+-- One place more, asked whether one of these must turn.
+pub some-more : (f : ℕ → Bool) (p n s m : ℕ) (any : Bool) → s ≡ p + n → m ≡ suc n → any ≡ someBelow n (λ i. f (p + i)) → (any || f s) ≡ someBelow m (λ i. f (p + i))
+some-more f p n s m any es em e =
+    ap (λ (b : Bool). b || f s) e ∙ ap (λ (k : ℕ). someBelow n (λ i. f (p + i)) || f k) es ∙ ap (λ (k : ℕ). someBelow k (λ i. f (p + i))) (sym em)
+
+-- Places of which none must turn.
+hits-none : (f : ℕ → Bool) (p n : ℕ) → someBelow n (λ i. f (p + i)) ≡ false → hits f p n ≡ []
+hits-none f p zero e = refl
+hits-none f p (suc n) e = let o = or-no (someBelow n (λ i. f (p + i))) (f (p + n)) .0 e in hits-no f p n (o .1) ∙ hits-none f p n (o .0)
+
+-- Places of which none must turn are passed over.
+pub queued-over : (y : ℕ) (g : ℕ → Bool) (before : List ℕ) (tail p n : ℕ) → someBelow n (λ i. g (p + i)) ≡ false → Queued y g before tail p n tail before
+queued-over y g before tail p n none =
+    let miss = hits-none g p n none in
+    record {
+      long = refl;
+      reaches = rw miss (sym (add-zero tail));
+      front = rw miss (sym (append-nil (take tail before)));
+    }
 
 -- At the start.
-pub queued-none : (y : ℕ) (g : ℕ → Bool) (before : List ℕ) (tail : ℕ) → Queued y g before tail 0 tail before
-queued-none y g before tail = record {
-  long = refl;
-  reaches = sym (add-zero tail);
-  front = sym (append-nil (take tail before));
-}
+pub queued-none : (y : ℕ) (g : ℕ → Bool) (before : List ℕ) (tail p n : ℕ) → n ≡ 0 → Queued y g before tail p n tail before
+queued-none y g before tail p n e = queued-over y g before tail p n (ap (λ (k : ℕ). someBelow k (λ i. g (p + i))) e)
 
 -- One place more: its pair is put at the end, which goes on where it must turn.
-pub queued-more : (y : ℕ) (g : ℕ → Bool) (before : List ℕ) (tail s top b w : ℕ) (queue after : List ℕ) → top < length queue
-    → Queued y g before tail s top queue → b ≤ 1 → g s ≡ eqb b 1 → w ≡ waitingOf y s → after ≡ set queue top w → Queued y g before tail (s + 1) (top + b) after
-queued-more y g before tail s top b w queue after h q small e v f =
+pub queued-more : (y : ℕ) (g : ℕ → Bool) (before : List ℕ) (tail p n s m top b w : ℕ) (queue after : List ℕ) → s ≡ p + n → m ≡ suc n → top < length queue
+    → Queued y g before tail p n top queue → b ≤ 1 → g s ≡ eqb b 1 → w ≡ waitingOf y s → after ≡ set queue top w → Queued y g before tail p m (top + b) after
+queued-more y g before tail p n s m top b w queue after here next h q small e v f =
     elim (tell true (eqb b 1)) [
       | inl t ↦
           let one = eqb-is b 1 .0 t in
           let up : top + b ≡ suc top = omega arith in
-          let hit = hits-yes g 0 s (ap g (zero-add s) ∙ e ∙ t) ∙ ap (λ (k : ℕ). hits g 0 s ++ (k ∷ [])) (zero-add s) in
-          let a = length-append (hits g 0 s) (s ∷ []) in
-          let n = ap length hit in
+          let hit = ap (hits g p) next ∙ hits-yes g p n (ap g (sym here) ∙ e ∙ t) ∙ ap (λ (k : ℕ). hits g p n ++ (k ∷ [])) (sym here) in
+          let a = length-append (hits g p n) (s ∷ []) in
+          let l = ap length hit in
           let r = q .reaches in
           record {
             long = ap length f ∙ length-set queue top w ∙ q .long;
-            reaches = rw (add-one s) (omega arith);
-            front = rw (add-one s) (ap (λ (k : ℕ). take k after) up ∙ ap (take (suc top)) f ∙ take-suc-set queue top w h
-                ∙ ap (λ (l : List ℕ). l ++ (w ∷ [])) (q .front) ∙ append-assoc (take tail before) (map (waitingOf y) (hits g 0 s)) (w ∷ [])
-                ∙ ap (λ (k : ℕ). take tail before ++ (map (waitingOf y) (hits g 0 s) ++ (k ∷ []))) v
-                ∙ ap (λ (l : List ℕ). take tail before ++ l) (sym (map-append (waitingOf y) (hits g 0 s) (s ∷ [])) ∙ ap (map (waitingOf y)) (sym hit)));
+            reaches = omega arith;
+            front = ap (λ (k : ℕ). take k after) up ∙ ap (take (suc top)) f ∙ take-suc-set queue top w h
+                ∙ ap (λ (l : List ℕ). l ++ (w ∷ [])) (q .front) ∙ append-assoc (take tail before) (map (waitingOf y) (hits g p n)) (w ∷ [])
+                ∙ ap (λ (k : ℕ). take tail before ++ (map (waitingOf y) (hits g p n) ++ (k ∷ []))) v
+                ∙ ap (λ (l : List ℕ). take tail before ++ l) (sym (map-append (waitingOf y) (hits g p n) (s ∷ [])) ∙ ap (map (waitingOf y)) (sym hit));
           }
       | inr t ↦
           let off = eqb-no b 1 .0 t in
           let up : top + b ≡ top = omega (arith, off) in
-          let miss = hits-no g 0 s (ap g (zero-add s) ∙ e ∙ t) in
-          let n = ap length miss in
+          let miss = ap (hits g p) next ∙ hits-no g p n (ap g (sym here) ∙ e ∙ t) in
+          let l = ap length miss in
           let r = q .reaches in
           record {
             long = ap length f ∙ length-set queue top w ∙ q .long;
-            reaches = rw (add-one s) (omega arith);
-            front = rw (add-one s) (ap (λ (k : ℕ). take k after) up ∙ ap (take top) f ∙ take-set-le top queue top w (omega arith) ∙ q .front
-                ∙ ap (λ (l : List ℕ). take tail before ++ map (waitingOf y) l) (sym miss));
+            reaches = omega arith;
+            front = ap (λ (k : ℕ). take k after) up ∙ ap (take top) f ∙ take-set-le top queue top w (omega arith) ∙ q .front
+                ∙ ap (λ (l : List ℕ). take tail before ++ map (waitingOf y) l) (sym miss);
           }
     ]
+
+-- Places that follow one another, those of the second part put behind those of the first.
+pub queued-on : (y : ℕ) (g : ℕ → Bool) (before : List ℕ) (tail p a q b n top r : ℕ) (queue after : List ℕ) → q ≡ p + a → n ≡ a + b
+    → Queued y g before tail p a top queue → Queued y g queue top q b r after → Queued y g before tail p n r after
+queued-on y g before tail p a q b n top r queue after eq en v w =
+    let cut = hits-on g p a q b n eq en in
+    let long = ap length cut ∙ length-append (hits g p a) (hits g q b) in
+    let t = v .reaches in
+    let u = w .reaches in
+    record {
+      long = w .long ∙ v .long;
+      reaches = omega arith;
+      front = w .front ∙ ap (λ (l : List ℕ). l ++ map (waitingOf y) (hits g q b)) (v .front)
+          ∙ append-assoc (take tail before) (map (waitingOf y) (hits g p a)) (map (waitingOf y) (hits g q b))
+          ∙ ap (λ (l : List ℕ). take tail before ++ l) (sym (map-append (waitingOf y) (hits g p a) (hits g q b)) ∙ ap (map (waitingOf y)) (sym cut));
+    }
+
+-- Where there is room for the pairs of all places, there is room for those of the next ones.
+pub queued-room : (y : ℕ) (g : ℕ → Bool) (before : List ℕ) (tail p a q b n top : ℕ) (queue : List ℕ) → q ≡ p + a → a + b ≤ n
+    → Queued y g before tail p a top queue → tail + length (hits g p n) < length before → top + length (hits g q b) < length queue
+queued-room y g before tail p a q b n top queue eq en v room =
+    let cut = ap length (hits-on g p a q b (a + b) eq refl) ∙ length-append (hits g p a) (hits g q b) in
+    let few = hits-few g p (a + b) n en in
+    let t = v .reaches in
+    let l = v .long in
+    omega arith
 
 -- A waiting pair is the pair that it was made of.
 waits-as : (z : Sizes) (y s : ℕ) → s < 1024 → waiter z (waitingOf y s) ≡ pairIn z y s

@@ -4,15 +4,16 @@ use rules::Variable;
 ghost use mathlib.Core.Path.{_≡_};
 ghost use mathlib.Core.Bool.{false, cond};
 ghost use mathlib.Core.List.{map, _++_};
-ghost use Prim.Native.Nat.{ℕ, _+_, _*_, _≤_, _<_};
+ghost use Prim.Native.Nat.{ℕ, _+_, _-_, _*_, _≤_, _<_};
 ghost use lib.ListN.{length, getD, take, drop, replicate};
 ghost use lib.Dec.{eqb};
-ghost use Rattle.lists.specs.Lists.{bit, listed};
+ghost use Rattle.lists.specs.Lists.{bit, listed, someBelow};
 ghost use Rattle.systems.specs.Machine.{nextMark};
+ghost use Rattle.systems.specs.Rows.{hits};
 ghost use Rattle.rules.specs.Limits.{most-states, most-variables};
 ghost use Rattle.words.specs.Table.{waitingOf};
 ghost use Rattle.engine_rows.specs.Rooms.{Bits, hitsIn};
-ghost use Rattle.engine_rows.specs.RowLoops.{turnAt, markAt};
+ghost use Rattle.engine_rows.specs.RowLoops.{turnAt, markAt, badAt, Queued};
 
 // Each place of the row becomes x.
 pub fn fill_row(bad: &mut [u8], x: u8)
@@ -73,6 +74,69 @@ pub fn row_marks(bad: &[u8], settling: bool, marks: &mut [u8])
     }
 }
 
+// How many places of a row are tested at once, before they are gone through one by one.
+const TESTED_AT_ONCE: usize = 32;
+
+// Is a place from `from` up to `end` bad?
+fn any_bad(bad: &[u8], from: usize, end: usize) -> bool
+    requires { ⌜ (from ≤ end) × (end ≤ length (now bad)) ⌝ }
+    ensures { λ r. ⌜ r ≡ someBelow (end - from) (λ i. badAt (now (bad .entry)) (from + i)) ⌝ }
+{
+    let mut any = false;
+    let mut s = from;
+    while s < end {
+        any = any | (bad[s] == 1);
+        s = s + 1;
+    }
+    any
+}
+
+// The pairs of the row of y at the bad places from `from` up to `end` wait, in order. Answers where the queue ends then.
+fn queue_some(
+    bad: &[u8],
+    y: Variable,
+    from: usize,
+    end: usize,
+    queue: &mut [u16],
+    tail: usize,
+) -> usize
+    requires { ⌜ Bits (now bad) ⌝ }
+    requires { ⌜ (y .0 < most-variables) × (length (now bad) ≤ most-states) ⌝ }
+    requires { ⌜ (from ≤ end) × (end ≤ length (now bad)) ⌝ }
+    requires { ⌜ tail + length (hits (badAt (now bad)) from (end - from)) < length (now queue) ⌝ }
+    ensures { λ r. ⌜ Queued (y .0) (badAt (now (bad .entry))) (now (queue .entry)) tail from (end - from) r (now (queue .exit)) ⌝ }
+{
+    let mut top = tail;
+    let mut s = from;
+    while s < end {
+        queue[top] = words::waiting(y, State(s as u16));
+        top = top + bad[s] as usize;
+        s = s + 1;
+    }
+    top
+}
+
+// The same; where none of these places is bad they are passed over.
+fn queue_part(
+    bad: &[u8],
+    y: Variable,
+    from: usize,
+    end: usize,
+    queue: &mut [u16],
+    tail: usize,
+) -> usize
+    requires { ⌜ Bits (now bad) ⌝ }
+    requires { ⌜ (y .0 < most-variables) × (length (now bad) ≤ most-states) ⌝ }
+    requires { ⌜ (from ≤ end) × (end ≤ length (now bad)) ⌝ }
+    requires { ⌜ tail + length (hits (badAt (now bad)) from (end - from)) < length (now queue) ⌝ }
+    ensures { λ r. ⌜ Queued (y .0) (badAt (now (bad .entry))) (now (queue .entry)) tail from (end - from) r (now (queue .exit)) ⌝ }
+{
+    if any_bad(bad, from, end) {
+        return queue_some(bad, y, from, end, queue, tail);
+    }
+    tail
+}
+
 // The pairs of the row of y whose places are bad wait, in order. Answers where the queue ends then.
 pub fn row_queue(bad: &[u8], y: Variable, queue: &mut [u16], tail: usize) -> usize
     requires { ⌜ Bits (now bad) ⌝ }
@@ -85,9 +149,9 @@ pub fn row_queue(bad: &[u8], y: Variable, queue: &mut [u16], tail: usize) -> usi
     let mut top = tail;
     let mut s: usize = 0;
     while s < n {
-        queue[top] = words::waiting(y, State(s as u16));
-        top = top + bad[s] as usize;
-        s = s + 1;
+        let end = s + table::least(n - s, TESTED_AT_ONCE);
+        top = queue_part(bad, y, s, end, queue, top);
+        s = end;
     }
     top
 }

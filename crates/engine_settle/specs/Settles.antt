@@ -79,6 +79,11 @@ step-told g v n before bad l e w =
     ∙ ap (λ (x : ℕ). cond (g s) v x) (ap (λ (q : List ℕ). getD q s 0) e ∙ getD-replicate n s (1 - v) 0 (omega arith))
     ∙ sym (listed-is n (λ s. told v (g s)) s (omega arith)))
 
+-- The same where nothing is decided, and nothing was set.
+pub step-untold : (g : ℕ → Bool) (v n : ℕ) (bad : List ℕ) → ((s : ℕ) → g s ≡ false) → bad ≡ replicate n (1 - v) → bad ≡ listed 0 n (λ s. told v (g s))
+step-untold g v n bad none e =
+    step-told g v n bad bad (ap length e ∙ length-replicate n (1 - v)) e (λ s h. sym (ap (λ (b : Bool). cond b v (getD bad s 0)) (none s)))
+
 -- What is asked of the targets of a state's moves, asked of the moves.
 any-own : (s a : ℕ) (g : ℕ → Bool) (l : List ℕ) → any (λ q. own (state s) (record { 0 = a }) q && g (target q)) l ≡ any g (targets (state s) (record { 0 = a }) l)
 any-own s a g [] = refl

@@ -11,10 +11,11 @@ use native.Mathlib.Omega.{arith}
 use lib.ListN.{length, getD}
 use lib.Arith.{digits-div, digits-mod}
 use lib.Dec.{eqb, ltb}
-use Rattle.lists.specs.Lists.{any}
-use Rattle.lists.specs.Tests.{tell, no-way, and-left, and-right, and-no, eqb-no, eqb-out, eqb-in, ltb-is, ltb-no, ltb-in}
+use Rattle.lists.specs.Lists.{any, someBelow}
+use Rattle.lists.specs.Tests.{tell, no-way, and-left, and-right, and-no, or-no, eqb-no, eqb-out, eqb-in, ltb-is, ltb-no, ltb-in}
 use Rattle.rules.specs.Moves.{source, action, target}
 use Rattle.rules.specs.Values.{state, own}
+use Rattle.engine_rows.specs.Filled.{none-below}
 use Rattle.engine_settle.specs.Told.{leadsOne, SetWhere}
 use Rattle.engine_settle.specs.Sources.{keyBy, comes, oneComes}
 
@@ -43,6 +44,19 @@ any-with : (a : Bool) (f : ℕ → Bool) (l : List ℕ) → any (λ q. a && f q)
 any-with true f l = refl
 any-with false f [] = refl
 any-with false f (q ∷ l) = any-with false f l
+
+-- A test that each entry of a list fails.
+any-none : (f : ℕ → Bool) (l : List ℕ) → ((j : ℕ) → j < length l → f (getD l j 0) ≡ false) → any f l ≡ false
+any-none f [] h = refl
+any-none f (q ∷ l) h = or-no (f q) (any f l) .1 (h 0 (omega arith), any-none f l (λ j k. h (suc j) (omega arith)))
+
+-- In a row that nowhere has c, no move leads to a state at which it does.
+pub none-leads : (moves : List ℕ) (a : ℕ) (row : List ℕ) (c : ℕ) → ((j : ℕ) → j < length moves → target (getD moves j 0) < length row)
+    → someBelow (length row) (λ s. eqb (getD row s 0) c) ≡ false → (s : ℕ) → leadsOne moves a row c s ≡ false
+none-leads moves a row c inside none s =
+    any-none (λ q. own (state s) (record { 0 = a }) q && eqb (getD row (target q) 0) c) moves (λ j k.
+    let q = getD moves j 0 in
+    and-no (own (state s) (record { 0 = a }) q) (none-below (length row) (λ t. eqb (getD row t 0) c) none (target q) (inside j k)))
 
 -- Two numbers of an action and a target are the same where both are.
 key-is : (n a t b u : ℕ) → u < n → t < n → eqb (b * n + u) (a * n + t) ≡ (eqb b a && eqb u t)

@@ -133,6 +133,7 @@ fn tell_targets(
 }
 
 // The row of a diamond or a box with the action a, from the row of what it names: a move to a state with the value c decides it.
+// Where no state has it, no target is gone through.
 fn row_step(
     moves: &[u32],
     heads: &[u16],
@@ -148,7 +149,9 @@ fn row_step(
     ensures { λ _. ⌜ now (bad .exit) ≡ listed 0 (length (now (bad .entry))) (λ s. told v (leadsOne (now (moves .entry)) a (now (row .entry)) c s)) ⌝ }
 {
     engine_rows::fill_row(bad, 1 - v);
-    tell_targets(moves, heads, links, a, row, c, v, bad);
+    if row_has(row, c) {
+        tell_targets(moves, heads, links, a, row, c, v, bad);
+    }
 }
 
 // The row of an equation that is no constant.
