@@ -1,4 +1,4 @@
 pub mod Looks
-pub mod Inside
+pub mod Pairs
 pub mod Places
 pub mod Outwards

@@ -17,25 +17,28 @@ use Rattle.table.specs.Ascending.{ascends, below, leading-below}
 use Rattle.table.specs.Searching.{leads, follows}
 use Rattle.words.specs.SliceWalks.{any-hit, any-pass, any-end}
 
--- The first number of the part of the move q, and the first past it.
+-- The first number of the part of the move q.
 first-of : (q : ℕ) → pack (source q) (action q) 0 ≡ 1024 * (q / 1024)
 first-of q = omega arith
 
+-- The first number past it.
 past-of : (q : ℕ) → pack (source q) (action q + 1) 0 ≡ 1024 * (q / 1024) + 1024
 past-of q = omega arith
 
 -- In an ascending list an entry tells on which side of a number's place it stands.
-place-tells : (key i : ℕ) (l : List ℕ) → ascends 0 l ≡ true → i < length l → (getD l i 0 < key → i < below key l) × (key ≤ getD l i 0 → below key l ≤ i)
+place-tells : (key i : ℕ) (l : List ℕ) → ascends 0 l ≡ true → i < length l
+    → (getD l i 0 < key → i < below key l) × (key ≤ getD l i 0 → below key l ≤ i)
 place-tells key i l up h =
     let e = leading-below key 0 l up in (
       λ y. let r = leads key 0 i l up h y in omega arith,
       λ y. let r = follows key i l h y in omega arith,
     )
 
--- Where the part of the move q begins, and where it ends.
+-- The place where the part of the move q begins.
 abbrev pub begins : ℕ → List ℕ → ℕ
 begins q l = below (pack (source q) (action q) 0) l
 
+-- The place where it ends.
 abbrev pub ends : ℕ → List ℕ → ℕ
 ends q l = below (pack (source q) (action q + 1) 0) l
 
@@ -65,8 +68,8 @@ module _ (l : List ℕ) (up : ascends 0 l ≡ true) where
         ]
       ]
 
--- Some entry of a part passes the test if the one at a place does, and none does if no place's does.
 module _ (f : ℕ → Bool) (l : List ℕ) (e : ℕ) (inside : e ≤ length l) where
+  -- Where the entry d places further passes the test, some entry from i on does.
   any-near : (d i k : ℕ) → k ≡ i + d → k < e → f (getD l k 0) ≡ true → any f (slice i e l) ≡ true
   any-near zero i k n h t = let u : k ≡ i = omega arith in any-hit f l i e (omega arith) inside (ap (λ (x : ℕ). f (getD l x 0)) (sym u) ∙ t)
   any-near (suc d) i k n h t =
@@ -76,9 +79,11 @@ module _ (f : ℕ → Bool) (l : List ℕ) (e : ℕ) (inside : e ≤ length l) w
         | inr y ↦ any-pass f l i e (omega arith) inside y ∙ r
       ]
 
+  -- The same of an entry at any place of the part.
   pub any-at : (i k : ℕ) → i ≤ k → k < e → f (getD l k 0) ≡ true → any f (slice i e l) ≡ true
   any-at i k h u t = any-near (k - i) i k (omega arith) u t
 
+  -- Where none of the entries from i on passes it, of which there are at most d, none does.
   none-near : (d i : ℕ) → e ≤ i + d → ((k : ℕ) → i ≤ k → k < e → f (getD l k 0) ≡ false) → any f (slice i e l) ≡ false
   none-near zero i h n = any-end f l i e (omega arith)
   none-near (suc d) i h n =
@@ -87,5 +92,6 @@ module _ (f : ℕ → Bool) (l : List ℕ) (e : ℕ) (inside : e ≤ length l) w
         | no u ↦ any-end f l i e (omega arith)
       ]
 
+  -- The same of however many.
   pub any-none : (i : ℕ) → ((k : ℕ) → i ≤ k → k < e → f (getD l k 0) ≡ false) → any f (slice i e l) ≡ false
   any-none i n = none-near (e - i) i (omega arith) n

@@ -24,7 +24,8 @@ pub fn has(sizes: Sizes, values: &[u8], from: u8, x: Variable, s: State) -> bool
     values[p] == from
 }
 
-// What the move m says: 0 if it is not of the part, 1 if it is and leads to no pair of x that has the value `from`, 3 if it does.
+// What the move m says: 0 if it is not of the part, 1 if it is and leads to no pair of x that has the value `from`, 3 if it leads to
+// one. So the sum of two answers is 1 or 2 where neither found one and not both are past the part.
 fn tell(sizes: Sizes, values: &[u8], from: u8, x: Variable, part: u32, m: u32) -> u8
     requires { ⌜ (x .0 < sizes .variables) × ((target m < sizes .states) × (length (now values) ≡ pairsOf sizes)) ⌝ }
     ensures { λ r. ⌜ r ≡ says (reaches sizes (now (values .entry)) from (x .0)) part m ⌝ }
@@ -78,9 +79,10 @@ fn look_down(
     tell(sizes, values, from, x, part, moves[low - 1])
 }
 
-// Does a move with the source and the action of the move at j lead to a pair of x that has the value `from`? The moves at `low` and
-// after it, before `high`, do not; each turn looks at one more on either side. So a look takes no more turns than it is to the nearest
-// that does: where pairs lose the value one by one, all looks at n moves pass no more than about n times the logarithm of n.
+// Does a move with the source and the action of the move at j lead to a pair of x that has the value `from`? Those at `low` and after
+// it, before `high`, do not, and each turn looks at one more on either side: a look is as long as the shorter way to one that does. Where
+// pairs lose the value one by one, and each look starts from the move to the one that did last, all looks at n moves pass at most about
+// n times the logarithm of n of them, since what is passed on the shorter side becomes part of a stretch twice as long.
 pub fn leads_from(
     sizes: Sizes,
     moves: &[u32],

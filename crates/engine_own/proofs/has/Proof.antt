@@ -4,7 +4,7 @@ use Prim.Native.Nat.{ℕ}
 use native.Mathlib.Omega.{arith}
 use lib.Dec.{eqb}
 use lib.ListN.{getD}
-use Rattle.engine_own.specs.Inside.{pair-low}
+use Rattle.engine_own.specs.Pairs.{pair-low}
 use borrow.Author.Needs.{needs}
 use Rattle.engine_own.proofs.has.Statement.{statement}
 use Rattle.engine_own.proofs.has.Tie as tie

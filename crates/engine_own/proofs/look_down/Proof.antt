@@ -1,7 +1,7 @@
--- The place by cases. Assumes nothing.
+-- No place before the first, and one with a move. Assumes nothing.
 use mathlib.Core.Path.{refl}
-use native.Mathlib.Omega.{arith}
 use Prim.Native.Nat.{_-_}
+use native.Mathlib.Omega.{arith}
 use Rattle.lists.specs.Tests.{eqb-in, eqb-no}
 use Rattle.engine_own.specs.Looks.{saysBefore}
 use borrow.Author.Needs.{needs}
@@ -10,7 +10,10 @@ use Rattle.engine_own.proofs.look_down.Tie as tie
 
 returns : tie.Need-returns
 unfolding saysBefore
-returns c = rw (eqb-in _ _ (c .if1 .taken)) refl
+returns c =
+    let at-start = c .before .before .before in
+    let e = eqb-in (at-start .args .low) 0 (omega arith) in
+    rw e refl
 
 sub-tell : tie.Need-sub-tell
 sub-tell c = search needs
@@ -30,9 +33,9 @@ tell-requires c κs =
 returns-2 : tie.Need-returns-2
 unfolding saysBefore
 returns-2 c =
-    let at-place = c .before .before in
     let at-start = c .before .before .before .before .before in
-    rw (eqb-no _ _ .1 (at-place .if1 .left)) (c .tell .ensures)
+    let e = eqb-no (at-start .args .low) 0 .1 (λ z. omega arith) in
+    rw e (c .tell .ensures)
 
 pub look-down-spec : {M : Type 1} → statement M
 look-down-spec =

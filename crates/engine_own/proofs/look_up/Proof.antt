@@ -1,4 +1,4 @@
--- The place by cases. Assumes nothing.
+-- A place past the last, and one with a move. Assumes nothing.
 use mathlib.Core.Path.{refl}
 use native.Mathlib.Omega.{arith}
 use Rattle.lists.specs.Tests.{ltb-in, ltb-no}
@@ -26,9 +26,8 @@ tell-requires c κs =
 returns-2 : tie.Need-returns-2
 unfolding saysAt
 returns-2 c =
-    let at-place = c .before .before in
-    let at-start = c .before .before .before .before .before in
-    rw (ltb-in _ _ (at-place .if1 .left)) (c .tell .ensures)
+    let at-if1 = c .before .before in
+    rw (ltb-in _ _ (at-if1 .if1 .left)) (c .tell .ensures)
 
 pub look-up-spec : {M : Type 1} → statement M
 look-up-spec = tie.close (tie.spec returns mul-tell shared-slice-read-tell tell-requires returns-2)

@@ -1,12 +1,8 @@
--- The move by cases. Assumes nothing.
-use mathlib.Core.Path.{_≡_, refl, sym, ap, _∙_}
-use mathlib.Core.Bool.{true, false}
-use Prim.Native.Nat.{ℕ}
-use lib.Dec.{eqb}
-use lib.ListN.{getD}
+-- A move of another part, one of the part that leads to the value, and one that does not. Assumes nothing.
+use mathlib.Core.Path.{refl}
 use Rattle.lists.specs.Tests.{eqb-no, eqb-in}
-use Rattle.words.specs.Table.{pairIn}
-use Rattle.engine_own.specs.Looks.{reaches, says}
+use Rattle.engine_own.specs.Looks.{says}
+use Rattle.engine_own.specs.Pairs.{target-tells}
 use borrow.Author.Needs.{needs}
 use Rattle.engine_own.proofs.tell.Statement.{statement}
 use Rattle.engine_own.proofs.tell.Tie as tie
@@ -24,24 +20,26 @@ has-requires c κs = search needs
 returns-2 : tie.Need-returns-2
 unfolding says
 returns-2 c =
-    let at-start = c .before .before .before .before .before in
-    let at-own = c .before .before .before in
-    let at-target-of = c .before .before in
     let at-has = c .before in
+    let at-target-of = c .before .before in
+    let at-if1 = c .before .before .before in
+    let at-start = c .before .before .before .before .before in
     let a = at-start .args in
-    let t : reaches (a .sizes) (a .values .now) (a .from) (a .x .0) (a .m) ≡ true = ap (λ (s : ℕ). eqb (getD (a .values .now) (pairIn (a .sizes) (a .x .0) s) 0) (a .from)) (sym (at-target-of .target-of .ensures)) ∙ sym (at-has .has .ensures) ∙ c .if2 .taken in
-    rw (eqb-in _ _ (at-own .if1 .left), t) refl
+    let e = at-target-of .target-of .ensures in
+    let t = target-tells (a .sizes) (a .values .now) (a .from) (a .x .0) (a .m) _ _ _ e (at-has .has .ensures) (c .if2 .taken) in
+    rw (eqb-in _ _ (at-if1 .if1 .left), t) refl
 
 returns-3 : tie.Need-returns-3
 unfolding says
 returns-3 c =
-    let at-start = c .before .before .before .before .before in
-    let at-own = c .before .before .before in
-    let at-target-of = c .before .before in
     let at-has = c .before in
+    let at-target-of = c .before .before in
+    let at-if1 = c .before .before .before in
+    let at-start = c .before .before .before .before .before in
     let a = at-start .args in
-    let t : reaches (a .sizes) (a .values .now) (a .from) (a .x .0) (a .m) ≡ false = ap (λ (s : ℕ). eqb (getD (a .values .now) (pairIn (a .sizes) (a .x .0) s) 0) (a .from)) (sym (at-target-of .target-of .ensures)) ∙ sym (at-has .has .ensures) ∙ c .if2 .left in
-    rw (eqb-in _ _ (at-own .if1 .left), t) refl
+    let e = at-target-of .target-of .ensures in
+    let t = target-tells (a .sizes) (a .values .now) (a .from) (a .x .0) (a .m) _ _ _ e (at-has .has .ensures) (c .if2 .left) in
+    rw (eqb-in _ _ (at-if1 .if1 .left), t) refl
 
 pub tell-spec : {M : Type 1} → statement M
 tell-spec = tie.close (tie.spec returns target-of-requires has-requires returns-2 returns-3)
