@@ -31,7 +31,7 @@ from-start m (suc i) (q ∷ l) h k =
     let b = from-start (suc q) i l (f .1) (omega arith) in omega arith
 
 -- An entry of an ascending list that lies below the key is a leading one.
-leads : (key m i : ℕ) (l : List ℕ) → ascends m l ≡ true → i < length l → getD l i 0 < key → i < leading key l
+pub leads : (key m i : ℕ) (l : List ℕ) → ascends m l ≡ true → i < length l → getD l i 0 < key → i < leading key l
 leads key m i [] h k y = absurd (omega arith)
 leads key m zero (q ∷ l) h k y = rw (ltb-is q key .1 y) (omega arith)
 leads key m (suc i) (q ∷ l) h k y =
@@ -41,7 +41,7 @@ leads key m (suc i) (q ∷ l) h k y =
     rw (ltb-is q key .1 (omega arith)) (omega arith)
 
 -- One that does not is none, in any list.
-follows : (key i : ℕ) (l : List ℕ) → i < length l → key ≤ getD l i 0 → leading key l ≤ i
+pub follows : (key i : ℕ) (l : List ℕ) → i < length l → key ≤ getD l i 0 → leading key l ≤ i
 follows key i [] k y = absurd (omega arith)
 follows key zero (q ∷ l) k y = rw (ltb-no q key .1 y) (omega arith)
 follows key (suc i) (q ∷ l) k y =

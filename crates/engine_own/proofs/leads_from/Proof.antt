@@ -1,0 +1,127 @@
+-- The moves at `low` and after it, before `high`, lead to no pair of x with the value; each turn adds one at either side. The measure
+-- is what is left at both sides. Assumes nothing.
+use mathlib.Core.Bool.{Bool}
+use Prim.Native.Nat.{ℕ, _+_, _-_}
+use native.Mathlib.Omega.{arith}
+use lib.ListN.{length}
+use Rattle.engine_own.specs.Looks.{reaches}
+use Rattle.engine_own.specs.Outwards.{Passed, Further, passed-none, answers-low, goes-on, answers-tell}
+use borrow.Author.Needs.{needs}
+use Rattle.engine_own.proofs.leads_from.Statement.{statement}
+use Rattle.engine_own.proofs.leads_from.Tie as tie
+
+abbrev Inv-loop : tie.InvT-loop
+Inv-loop sizes moves values from x j part low₀ high₀ low high = Passed (reaches sizes values from (x .0)) moves j low high
+
+abbrev μ-loop : tie.MeasureT-loop
+μ-loop sizes moves values from x j part low₀ high₀ low high = length moves - high + low
+
+-- The points of the program: from what is known at a later one to what was known at an earlier one.
+abbrev start-before-loop : tie.At-loop Inv-loop μ-loop → tie.Start Inv-loop μ-loop
+start-before-loop c = c .before .before .before .before
+
+abbrev loop-before-else : tie.Else1 Inv-loop μ-loop → tie.At-loop Inv-loop μ-loop
+loop-before-else c = c .before .before .before
+
+mul-part : tie.Need-mul-part Inv-loop μ-loop
+mul-part c =
+    let at-start = c .before .before in
+    omega (arith, at-start .pre .0 .1 .0)
+
+shared-slice-read-part : tie.Need-shared-slice-read-part Inv-loop μ-loop
+shared-slice-read-part c =
+    let at-start = c .before .before .before in
+    omega (arith, at-start .pre .0 .1 .0)
+
+loop-holds : tie.Need-loop-holds Inv-loop μ-loop
+loop-holds c =
+    let at-start = c .before .before .before in
+    let a = at-start .args in
+    passed-none (reaches (a .sizes) (a .values .now) (a .from) (a .x .0)) (a .moves .now) (a .j) (at-start .pre .0 .1 .0)
+
+look-up-requires : tie.Need-look-up-requires Inv-loop μ-loop
+look-up-requires c κs =
+    let at-start = start-before-loop c in
+    let p = at-start .pre in
+    ((p .0 .0, p .0 .1 .1), p .1 .0)
+
+look-down-requires : tie.Need-look-down-requires Inv-loop μ-loop
+look-down-requires c κs =
+    let at-loop = c .before in
+    let at-start = start-before-loop at-loop in
+    let p = at-start .pre in
+    let i = at-loop .loop .inv in
+    ((p .0 .0, (omega arith, p .0 .1 .1)), p .1 .0)
+
+add-told : tie.Need-add-told Inv-loop μ-loop
+add-told c =
+    let at-look-up = c .before in
+    let at-loop = c .before .before in
+    let at-start = start-before-loop at-loop in
+    let l = answers-low (at-start .pre .1 .1) (at-loop .loop .inv) (at-look-up .look-up .ensures) (c .look-down .ensures) in
+    omega arith
+
+returns : tie.Need-returns Inv-loop μ-loop
+returns c =
+    let at-look-down = c .before in
+    let at-look-up = c .before .before in
+    let at-loop = c .before .before .before in
+    let at-start = start-before-loop at-loop in
+    answers-tell (at-start .pre .1 .1) (at-loop .loop .inv) (at-look-up .look-up .ensures) (at-look-down .look-down .ensures) (c .if1 .taken)
+
+-- What two answers tell where the look goes on.
+abbrev Goes : tie.Else1 Inv-loop μ-loop → Type 0
+Goes c =
+    let at-look-down = c .before in
+    let at-look-up = c .before .before in
+    let at-loop = loop-before-else c in
+    let a = start-before-loop at-loop .args in
+    Further (reaches (a .sizes) (a .values .now) (a .from) (a .x .0)) (a .moves .now) (a .j) (at-loop .loop .low) (at-loop .loop .high)
+    (at-look-up .look-up .result) (at-look-down .look-down .result)
+
+-- Where it goes on, more moves have been passed.
+further : (c : tie.Else1 Inv-loop μ-loop) → Goes c
+further c =
+    let at-look-down = c .before in
+    let at-look-up = c .before .before in
+    let at-loop = loop-before-else c in
+    let at-start = start-before-loop at-loop in
+    goes-on (at-start .pre .1 .1) (at-loop .loop .inv) (at-look-up .look-up .ensures) (at-look-down .look-down .ensures) (c .if1 .left)
+
+cast-high : tie.Need-cast-high Inv-loop μ-loop
+cast-high c = search needs
+
+add-high : tie.Need-add-high Inv-loop μ-loop
+add-high c = let i = further c .passed .inside in omega arith
+
+cast-low : tie.Need-cast-low Inv-loop μ-loop
+cast-low c = search needs
+
+sub-low : tie.Need-sub-low Inv-loop μ-loop
+sub-low c = further c .room
+
+loop-less : tie.Need-loop-less Inv-loop μ-loop
+loop-less c = let f = further c in omega arith
+
+loop-again : tie.Need-loop-again Inv-loop μ-loop
+loop-again c = further c .passed
+
+pub leads-from-spec : {M : Type 1} → statement M
+leads-from-spec =
+    tie.close
+    (tie.spec
+    Inv-loop
+    μ-loop
+    mul-part
+    shared-slice-read-part
+    loop-holds
+    look-up-requires
+    look-down-requires
+    add-told
+    returns
+    cast-high
+    add-high
+    cast-low
+    sub-low
+    loop-less
+    loop-again)

@@ -1,0 +1,45 @@
+-- A move of another part, one of the part that leads to the value, and one that does not. Assumes nothing.
+use mathlib.Core.Path.{refl}
+use Rattle.lists.specs.Tests.{eqb-no, eqb-in}
+use Rattle.engine_own.specs.Looks.{says}
+use Rattle.engine_own.specs.Pairs.{target-tells}
+use borrow.Author.Needs.{needs}
+use Rattle.engine_own.proofs.tell.Statement.{statement}
+use Rattle.engine_own.proofs.tell.Tie as tie
+
+returns : tie.Need-returns
+unfolding says
+returns c = rw (eqb-no _ _ .1 (c .if1 .taken)) refl
+
+target-of-requires : tie.Need-target-of-requires
+target-of-requires c κs = search needs
+
+has-requires : tie.Need-has-requires
+has-requires c κs = search needs
+
+returns-2 : tie.Need-returns-2
+unfolding says
+returns-2 c =
+    let at-has = c .before in
+    let at-target-of = c .before .before in
+    let at-if1 = c .before .before .before in
+    let at-start = c .before .before .before .before .before in
+    let a = at-start .args in
+    let e = at-target-of .target-of .ensures in
+    let t = target-tells (a .sizes) (a .values .now) (a .from) (a .x .0) (a .m) _ _ _ e (at-has .has .ensures) (c .if2 .taken) in
+    rw (eqb-in _ _ (at-if1 .if1 .left), t) refl
+
+returns-3 : tie.Need-returns-3
+unfolding says
+returns-3 c =
+    let at-has = c .before in
+    let at-target-of = c .before .before in
+    let at-if1 = c .before .before .before in
+    let at-start = c .before .before .before .before .before in
+    let a = at-start .args in
+    let e = at-target-of .target-of .ensures in
+    let t = target-tells (a .sizes) (a .values .now) (a .from) (a .x .0) (a .m) _ _ _ e (at-has .has .ensures) (c .if2 .left) in
+    rw (eqb-in _ _ (at-if1 .if1 .left), t) refl
+
+pub tell-spec : {M : Type 1} → statement M
+tell-spec = tie.close (tie.spec returns target-of-requires has-requires returns-2 returns-3)

@@ -1,0 +1,4 @@
+pub mod Looks
+pub mod Pairs
+pub mod Places
+pub mod Outwards

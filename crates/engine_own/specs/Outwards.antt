@@ -1,0 +1,193 @@
+-- A look outwards from one move of a part, at both sides in turn: what has been passed, and what is told when it is over. Assumes nothing.
+use mathlib.Core.Path.{_≡_, refl, sym, _∙_}
+use mathlib.Core.Logic.{inl, inr}
+use mathlib.Core.Bool.{Bool, true, false, _||_}
+use mathlib.Core.List.{List}
+use Prim.Native.Nat.{ℕ, _+_, _-_, _/_, _≤_, _<_}
+use native.Mathlib.Decide.{decLt}
+use native.Mathlib.Omega.{arith}
+use lib.ListN.{length, getD}
+use lib.Dec.{eqb, ltb}
+use Rattle.lists.specs.Tests.{tell, ltb-is, ltb-in, ltb-no, eqb-is, eqb-in, eqb-no, or-out, or-no}
+use Rattle.table.specs.Ascending.{ascends}
+use Rattle.engine_own.specs.Looks.{someOwn, says, saysAt, saysBefore}
+use Rattle.engine_own.specs.Places.{begins, ends, ends-inside, stands-in, stands-out, any-at, any-none}
+
+-- What an answer tells: that a side is over, that one more is passed, or that one is found.
+data Told (over passed found : Type 0) (r : ℕ) : Type 0 where
+  stops : r ≡ 0 → over → Told over passed found r
+  goes : r ≡ 1 → passed → Told over passed found r
+  hits : r ≡ 3 → found → Told over passed found r
+
+-- An answer is at most 3.
+told-low : {o p q : Type 0} {r : ℕ} → Told o p q r → r ≤ 3
+told-low (stops e x) = omega arith
+told-low (goes e x) = omega arith
+told-low (hits e x) = omega arith
+
+-- Where none is found, it is 1 or 0, and 1 only where one more is passed.
+told-passed : {o p q : Type 0} {r : ℕ} → Told o p q r → r ≤ 2 → (r ≤ 1) × (0 < r → p)
+told-passed (stops e x) h = (omega arith, λ k. absurd (omega arith))
+told-passed (goes e x) h = (omega arith, λ k. x)
+told-passed (hits e x) h = absurd (omega arith)
+
+-- What a move says.
+says-told : (f : ℕ → Bool) (part q : ℕ)
+    → Told (q / 1024 ≡ part → ⊥) ((q / 1024 ≡ part) × (f q ≡ false)) ((q / 1024 ≡ part) × (f q ≡ true)) (says f part q)
+unfolding says
+says-told f part q =
+    elim (tell true (eqb (q / 1024) part)) [
+      | inl t ↦ elim (tell true (f q)) [
+        | inl u ↦ hits (rw (t, u) refl) (eqb-is _ _ .0 t, u)
+        | inr u ↦ goes (rw (t, u) refl) (eqb-is _ _ .0 t, u)
+      ]
+      | inr t ↦ stops (rw t refl) (eqb-no _ _ .0 t)
+    ]
+
+-- The answer from above to a look that starts from the move at j.
+abbrev FromAbove : (ℕ → Bool) → List ℕ → ℕ → ℕ → ℕ → Type 0
+FromAbove f l j high r = Told (ends (getD l j 0) l ≤ high) ((high < length l) × (f (getD l high 0) ≡ false)) (someOwn f l j ≡ true) r
+
+-- The answer from below.
+abbrev FromBelow : (ℕ → Bool) → List ℕ → ℕ → ℕ → ℕ → Type 0
+FromBelow f l j low r = Told (low ≤ begins (getD l j 0) l) ((0 < low) × (f (getD l (low - 1) 0) ≡ false)) (someOwn f l j ≡ true) r
+
+module _ (f : ℕ → Bool) (l : List ℕ) (up : ascends 0 l ≡ true) (j : ℕ) (here : j < length l) where
+  -- A move of the part that passes the test is found.
+  found-at : (i : ℕ) → i < length l → getD l i 0 / 1024 ≡ getD l j 0 / 1024 → f (getD l i 0) ≡ true → someOwn f l j ≡ true
+  found-at i h e t =
+      let s = stands-in l up (getD l j 0) i h e in
+      any-at f l (ends (getD l j 0) l) (ends-inside (getD l j 0) l) (begins (getD l j 0) l) i (s .0) (s .1) t
+
+  -- Where the move at high is not of the part, the part ends there or before, since the move at j is of it.
+  from-above : (high : ℕ) → j ≤ high → FromAbove f l j high (saysAt f l (getD l j 0 / 1024) high)
+  unfolding saysAt
+  from-above high a =
+      elim (decLt high (length l)) [
+        | no h ↦ let e = ends-inside (getD l j 0) l in stops (rw (ltb-no high (length l) .1 (omega arith)) refl) (omega arith)
+        | yes h ↦ rw (ltb-in high (length l) h) (elim (says-told f (getD l j 0 / 1024) (getD l high 0)) [
+          | stops e n ↦ stops e (elim (stands-out l up (getD l j 0) high h n) [
+            | inl k ↦ let s = stands-in l up (getD l j 0) j here refl in absurd (omega arith)
+            | inr k ↦ k
+          ])
+          | goes e p ↦ goes e (h, p .1)
+          | hits e p ↦ hits e (found-at high h (p .0) (p .1))
+        ])
+      ]
+
+  -- Where the move before low is not of the part, the part begins at low or after it.
+  from-below : (low : ℕ) → low ≤ j → FromBelow f l j low (saysBefore f l (getD l j 0 / 1024) low)
+  unfolding saysBefore
+  from-below low a =
+      elim (decLt 0 low) [
+        | no h ↦ stops (rw (eqb-in low 0 (omega arith)) refl) (omega arith)
+        | yes h ↦ rw (eqb-no low 0 .1 (λ e. omega arith)) (elim (says-told f (getD l j 0 / 1024) (getD l (low - 1) 0)) [
+          | stops e n ↦ stops e (elim (stands-out l up (getD l j 0) (low - 1) (omega arith) n) [
+            | inl k ↦ omega arith
+            | inr k ↦ let s = stands-in l up (getD l j 0) j here refl in absurd (omega arith)
+          ])
+          | goes e p ↦ goes e (h, p .1)
+          | hits e p ↦ hits e (found-at (low - 1) (omega arith) (p .0) (p .1))
+        ])
+      ]
+
+-- One more fits where there is a place for it.
+one-fits : (r m n : ℕ) → r ≤ 1 → m ≤ n → (0 < r → m < n) → m + r ≤ n
+one-fits r m n h k f =
+    elim (decLt 0 r) [
+      | yes x ↦ let y = f x in omega arith
+      | no x ↦ omega arith
+    ]
+
+-- The sum of two answers at which a look is over is not 1 and not 2.
+not-over : (n : ℕ) → (eqb n 0 || ltb 2 n) ≡ true → 0 < n → n ≤ 2 → ⊥
+not-over n h x y =
+    elim (or-out (eqb n 0) (ltb 2 n) h) [
+      | inl k ↦ let e = eqb-is n 0 .0 k in omega arith
+      | inr k ↦ let e = ltb-is 2 n .0 k in omega arith
+    ]
+
+-- The moves at low and after it, before high, do not pass the test; the place j is among theirs or next to them.
+pub record Passed (f : ℕ → Bool) (l : List ℕ) (j low high : ℕ) : Type 0 where
+  pub here : j < length l
+  pub under : low ≤ j
+  pub over : j ≤ high
+  pub inside : high ≤ length l
+  pub none : (i : ℕ) → low ≤ i → i < high → f (getD l i 0) ≡ false
+
+-- By two answers more of them have been passed.
+pub record Further (f : ℕ → Bool) (l : List ℕ) (j low high above below : ℕ) : Type 0 where
+  pub more : 0 < above + below
+  pub room : below ≤ low
+  pub passed : Passed f l j (low - below) (high + above)
+
+-- At first none has been.
+pub passed-none : (f : ℕ → Bool) (l : List ℕ) (j : ℕ) → j < length l → Passed f l j j j
+passed-none f l j h =
+    record { here = h; under = omega arith; over = omega arith; inside = omega arith; none = λ i a b. absurd (omega arith) }
+
+module _ {f : ℕ → Bool} {l : List ℕ} {j low high above below : ℕ} (up : ascends 0 l ≡ true) (p : Passed f l j low high)
+    (a : above ≡ saysAt f l (getD l j 0 / 1024) high) (b : below ≡ saysBefore f l (getD l j 0 / 1024) low) where
+  -- What the answer from above tells.
+  told-above : FromAbove f l j high above
+  told-above = rw a (from-above f l up j (p .here) high (p .over))
+
+  -- What the answer from below tells.
+  told-below : FromBelow f l j low below
+  told-below = rw b (from-below f l up j (p .here) low (p .under))
+
+  -- No answer is more than 3.
+  pub answers-low : (above ≤ 3) × (below ≤ 3)
+  answers-low = (told-low told-above, told-low told-below)
+
+  -- Where a side is not over and none is found, the look goes on, with more that have been passed.
+  pub goes-on : (eqb (above + below) 0 || ltb 2 (above + below)) ≡ false → Further f l j low high above below
+  goes-on h =
+      let n = or-no _ _ .0 h in
+      let some = eqb-no (above + below) 0 .0 (n .0) in
+      let few = ltb-no 2 (above + below) .0 (n .1) in
+      let u = p .under in
+      let o = p .over in
+      let x = told-passed told-above (omega arith) in
+      let y = told-passed told-below (omega arith) in
+      let v = one-fits above high (length l) (x .0) (p .inside) (λ k. x .1 k .0) in
+      let w = one-fits below 0 low (y .0) (omega arith) (λ k. y .1 k .0) in record {
+        more = omega arith;
+        room = omega arith;
+        passed = record {
+          here = p .here;
+          under = omega arith;
+          over = omega arith;
+          inside = v;
+          none = λ i g k. elim (decLt i low) [
+            | yes s ↦ let e : i ≡ low - 1 = omega arith in rw e (y .1 (omega arith) .1)
+            | no s ↦ elim (decLt i high) [
+              | yes t ↦ p .none i (omega arith) t
+              | no t ↦ let e : i ≡ high = omega arith in rw e (x .1 (omega arith) .1)
+            ]
+          ];
+        };
+      }
+
+  -- Where both sides are over, none passes the test.
+  none-found : ends (getD l j 0) l ≤ high → low ≤ begins (getD l j 0) l → someOwn f l j ≡ false
+  none-found x y =
+      any-none f l (ends (getD l j 0) l) (ends-inside (getD l j 0) l) (begins (getD l j 0) l) (λ i m n. p .none i (omega arith) (omega arith))
+
+  -- When the look is over, the answers tell whether one does.
+  pub answers-tell : (eqb (above + below) 0 || ltb 2 (above + below)) ≡ true → ltb 2 (above + below) ≡ someOwn f l j
+  answers-tell h =
+      let k = not-over (above + below) h in
+      elim told-above [
+        | hits e n ↦ ltb-in 2 (above + below) (omega arith) ∙ sym n
+        | goes e n ↦ elim told-below [
+          | hits d m ↦ ltb-in 2 (above + below) (omega arith) ∙ sym m
+          | goes d m ↦ absurd (k (omega arith) (omega arith))
+          | stops d m ↦ absurd (k (omega arith) (omega arith))
+        ]
+        | stops e n ↦ elim told-below [
+          | hits d m ↦ ltb-in 2 (above + below) (omega arith) ∙ sym m
+          | goes d m ↦ absurd (k (omega arith) (omega arith))
+          | stops d m ↦ ltb-no 2 (above + below) .1 (omega arith) ∙ sym (none-found n m)
+        ]
+      ]
