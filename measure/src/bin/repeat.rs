@@ -2,12 +2,16 @@
 //! done once falls out.
 //!
 //! `repeat ours|ordinary|strong strict|mixed|maximal|crowded|signs|live load|delete|insert|many|write TIMES`
+//!
+//! With `spell` in place of the version it makes no call, and writes each one out, with the rooms that it starts from, as
+//! embed/small/calls.c reads them: so the same calls can be made on another machine.
 
 use measure::cases::{
     crowded, grid, live, maximal, signs, Case, ThereAndBack, MIXED_RULE, STRICT_RULE,
 };
 use measure::rooms::Rooms;
 use measure::sides::Side;
+use std::io::Write;
 
 /// The model of a name.
 fn case_named(name: &str) -> Case {
@@ -53,26 +57,61 @@ fn calls(case: &Case, name: &str) -> Vec<Call> {
     singles.map(call).collect()
 }
 
+/// A call and its rooms, as embed/small/calls.c reads them.
+fn spell(call: &Call, name: &str) -> Vec<u8> {
+    let Call { rooms, bytes } = call;
+    let wide = |room: &[u32]| -> Vec<u8> { room.iter().flat_map(|n| n.to_le_bytes()).collect() };
+    let half = |room: &[u16]| -> Vec<u8> { room.iter().flat_map(|n| n.to_le_bytes()).collect() };
+    let kind = match name {
+        "load" => 0,
+        "delete" | "insert" | "many" => 1,
+        _ => panic!("only loads and batches can be spelled"),
+    };
+    [
+        wide(&rooms.session),
+        wide(&rooms.labels),
+        wide(&rooms.equations),
+        rooms.values.clone(),
+        rooms.marks.clone(),
+        wide(&rooms.moves),
+        half(&rooms.work.index),
+        half(&rooms.work.queue),
+        wide(&[kind, bytes.len() as u32]),
+        bytes.clone(),
+    ]
+    .concat()
+}
+
+/// The version of a name, or none for `spell`.
+fn side_named(name: &str) -> Option<Side> {
+    match name {
+        "ours" => Some(Side::Ours),
+        "ordinary" => Some(Side::Ordinary),
+        "strong" => Some(Side::Strong),
+        "spell" => None,
+        _ => panic!("ours, ordinary, strong or spell"),
+    }
+}
+
 /// Takes its words from the command line.
 fn main() {
     let words: Vec<String> = std::env::args().collect();
     let [_, side, model, name, times] = &words[..] else {
         panic!("repeat SIDE MODEL CALL TIMES");
     };
-    let side = match side.as_str() {
-        "ours" => Side::Ours,
-        "ordinary" => Side::Ordinary,
-        "strong" => Side::Strong,
-        _ => panic!("ours, ordinary or strong"),
-    };
+    let side = side_named(side);
     let calls = calls(&case_named(model), name);
     for i in 0..times.parse().expect("a number") {
-        let Call { rooms, bytes } = &calls[i % calls.len()];
-        let mut rooms = rooms.clone();
+        let call = &calls[i % calls.len()];
+        let Some(side) = side else {
+            std::io::stdout().write_all(&spell(call, name)).unwrap();
+            continue;
+        };
+        let mut rooms = call.rooms.clone();
         match name.as_str() {
-            "load" => side.load(bytes, &mut rooms).unwrap(),
+            "load" => side.load(&call.bytes, &mut rooms).unwrap(),
             "write" => drop(side.write(&rooms, &mut [0; 9_000]).unwrap()),
-            _ => drop(side.batch(bytes, &mut rooms).unwrap()),
+            _ => drop(side.batch(&call.bytes, &mut rooms).unwrap()),
         }
     }
 }

@@ -1,4 +1,0 @@
-// The program on bench case E.
-fn main() {
-    streams::check_input();
-}
