@@ -1,19 +1,28 @@
 -- What stays inside the rooms. Assumes nothing.
-use Prim.Native.Nat.{ℕ, _≤_, _<_}
-use native.Mathlib.Nat.{mul-le-mul-right}
+use mathlib.Core.Path.{_≡_, refl, ap, _∙_}
+use Prim.Native.Nat.{ℕ, _+_, _*_, _/_, _≤_, _<_}
+use native.Mathlib.Nat.{add-mul-div-right, div-eq-of-lt}
 use native.Mathlib.Omega.{arith}
 use lib.ListN.{length, getD}
-use Rattle.rules.specs.Moves.{source}
-use Rattle.rules.specs.Rooms.{pairsOf}
-use Rattle.rules.specs.declared.Sizes.{Sizes}
-use Rattle.words.specs.Table.{pairIn, ReadsAs}
+use Rattle.rules.specs.Moves.{source, action, target}
+use Rattle.words.specs.Table.{ReadsAs}
 use Rattle.words.specs.Limits.{move-inside}
 use Rattle.words.specs.GivesWords.{join-names, step-names}
-use Rattle.engine_turn.specs.Scene.{Scene, Standing, equationOf, Targets, Leaner}
+use Rattle.engine_index.specs.Indexed.{keyOf}
+use Rattle.engine_own.specs.Looks.{Targets}
+use Rattle.engine_turn.specs.Scene.{Scene, Standing, equationOf, Leaner, Along, HeadOf}
 
--- The pair of a variable and a state is a pair.
-pub pair-low : (z : Sizes) (x s : ℕ) → x < z .variables → s < z .states → pairIn z x s < pairsOf z
-pair-low z x s h l = let k = mul-le-mul-right (z .states) h in omega arith
+-- Two numbers below n in front of which equal multiples of n stand.
+same-multiple : (n a b t u : ℕ) → t < n → u < n → a * n + t ≡ b * n + u → a ≡ b
+same-multiple n a b t u h k e =
+    let some : 0 < n = omega arith in
+    let x = add-mul-div-right t a {z = n} some in
+    let y = add-mul-div-right u b {z = n} some in
+    let p = div-eq-of-lt h in
+    let q = div-eq-of-lt k in
+    let f : t + a * n ≡ u + b * n = omega arith in
+    let r = ap (λ (m : ℕ). m / n) f in
+    omega arith
 
 module _ {c : Scene} (g : Standing c) where
   -- Moves lead to states, and come from states.
@@ -22,6 +31,11 @@ module _ {c : Scene} (g : Standing c) where
 
   pub source-inside : (j : ℕ) → j < length (c .moves) → source (getD (c .moves) j 0) < c .sizes .states
   source-inside j h = move-inside (g .drawn) j h .0
+
+  -- A move of the chain of a head of y is one of y's own at its source.
+  pub along-chain : (y head j : ℕ) → HeadOf c y head → j < length (c .moves) → keyOf (c .sizes) (getD (c .moves) j 0) ≡ head → Along c y (source (getD (c .moves) j 0)) j
+  along-chain y head j d h e six =
+      (h, (refl, same-multiple (c .sizes .states) (action (getD (c .moves) j 0)) (equationOf c y .first) (target (getD (c .moves) j 0)) (d .into) (targets-inside j h) (d .low) (e ∙ d .is)))
 
   module _ {y s : ℕ} (l : Leaner c y s) (o a b i k : ℕ) (r : ReadsAs (equationOf c y) o a b i k) where
     at-least : 4 ≤ o

@@ -8,7 +8,7 @@ use lib.ListN.{length, getD, set}
 use lib.Dec.{eqb, ltb}
 use Rattle.lists.specs.Lists.{any}
 use Rattle.systems.specs.Machine.{free, nextMark}
-use Rattle.rules.specs.Moves.{source, target}
+use Rattle.rules.specs.Moves.{source, action, target}
 use Rattle.rules.specs.Model.{Equation}
 use Rattle.rules.specs.Rooms.{pairsOf}
 use Rattle.rules.specs.Session.{unword}
@@ -120,10 +120,6 @@ unfoldable pub leanersIn : Sizes → List ℕ → List ℕ → ℕ → ℕ → L
 unfolding along pairsBy
 leanersIn z equations moves x s = along (λ w. w) (namesOf equations) x (λ j. pairsBy z equations moves s (j / 2)) (2 * length equations)
 
--- Each move leads to a state.
-abbrev pub Targets : Sizes → List ℕ → Type 0
-Targets z moves = (j : ℕ) → j < length moves → target (getD moves j 0) < z .states
-
 -- y is a variable that leans on others, and s a state.
 pub record Leaner (c : Scene) (y s : ℕ) : Type 0 where
   pub variable : y < c .sizes .variables
@@ -135,11 +131,22 @@ pub record Leaning (c : Scene) (easy : Bool) (y s : ℕ) : Type 0 where
   pub leaner : Leaner c y s
   pub told : easy ≡ eqb (easyBit (equationOf c y)) 1
 
+-- Where y is a diamond or a box, the move at j is one of its own at s.
+abbrev pub Along : Scene → ℕ → ℕ → ℕ → Type 0
+Along c y s j =
+    6 ≤ equationOf c y .operator → (j < length (c .moves)) × ((source (getD (c .moves) j 0) ≡ s) × (action (getD (c .moves) j 0) ≡ equationOf c y .first))
+
 -- y is a variable that leans on others, and `easy` says whether it is easy.
 pub record Leans (c : Scene) (easy : Bool) (y : ℕ) : Type 0 where
   pub variable : y < c .sizes .variables
   pub uses : 4 ≤ equationOf c y .operator
   pub told : easy ≡ eqb (easyBit (equationOf c y)) 1
+
+-- The head is that of the chain of the moves by y's action into some state.
+pub record HeadOf (c : Scene) (y head : ℕ) : Type 0 where
+  pub into : ℕ
+  pub low : into < c .sizes .states
+  pub is : head ≡ equationOf c y .first * c .sizes .states + into
 
 -- The word of an operand: it is that of a slot of the variable that it holds, which leans on others.
 pub record OperandOf (c : Scene) (o : ℕ) : Type 0 where

@@ -25,7 +25,7 @@ use Rattle.words.specs.Table.{Table, tableIn, modelOf, Drawn, wordAt, ownIn, pa
 use Rattle.words.specs.EquationWords.{drawn-sound, own-word, pair-inside}
 use Rattle.engine_rows.specs.Rooms.{Bits, Packed, pileIn}
 use Rattle.engine_turn.specs.Scene.{Scene, sceneOf, Standing, sketch, asksFor, Line, lineOf, visitAll, leanersIn, Bounded, Room}
-use Rattle.engine_turn.specs.Inside.{pair-low}
+use Rattle.engine_own.specs.Pairs.{pair-low}
 use Rattle.engine_turn.specs.Turns.{Visit, askOf, visited, Sketched, FromValue, Round, roundOf, visitIn, RoomFor, Turned}
 use Rattle.engine_turn.specs.PileVisits.{run-visited, all-packed}
 use Rattle.engine_turn.specs.LeanersFound.{leaners-found}

@@ -20,7 +20,7 @@ ghost use Rattle.engine_rows.specs.Rooms.{Bits, Packed};
 ghost use Rattle.engine_index.specs.Indexed.{headsOf, Indexed};
 ghost use Rattle.engine_index.specs.Operands.{Named};
 ghost use Rattle.engine_turn.specs.Turns.{Sketched, FromValue, roundOf, RoomFor, Turned};
-ghost use Rattle.engine_turn.specs.Scene.{sceneOf, Standing, fails, asksFor, lineOf, visitAll, Targets, Leaner, Leaning, Leans, OperandOf, Bounded, Room, sourcesIn, pairsBy, leanersIn, sketch};
+ghost use Rattle.engine_turn.specs.Scene.{sceneOf, Standing, fails, asksFor, lineOf, visitAll, Leaner, Leaning, Along, Leans, HeadOf, OperandOf, Bounded, Room, sourcesIn, pairsBy, leanersIn, sketch};
 
 // Where a run of visits stands: the end of the queue, and the number of visits so far.
 pub struct Spread {
@@ -45,40 +45,7 @@ fn next_mark(settling: bool, mark: u8) -> u8
     1 + 2 * settles - mark
 }
 
-// Has the pair of x and s the value `from`?
-fn has(sizes: Sizes, values: &[u8], from: u8, x: Variable, s: State) -> bool
-    requires { ⌜ (x .0 < sizes .variables) × ((s .0 < sizes .states) × (length (now values) ≡ pairsOf sizes)) ⌝ }
-    ensures { λ r. ⌜ r ≡ eqb (getD (now (values .entry)) (pairIn sizes (x .0) (s .0)) 0) from ⌝ }
-{
-    let p = limits::pair_of(sizes, s, x);
-    values[p] == from
-}
-
-// Does a move of the part lead to a pair of x that has the value `from`?
-fn leads(
-    sizes: Sizes,
-    moves: &[u32],
-    values: &[u8],
-    from: u8,
-    x: Variable,
-    first: usize,
-    end: usize,
-) -> bool
-    requires { ⌜ (x .0 < sizes .variables) × ((end ≤ length (now moves)) × (length (now values) ≡ pairsOf sizes)) ⌝ }
-    requires { ⌜ Targets sizes (now moves) ⌝ }
-    ensures { λ r. ⌜ r ≡ any (λ q. eqb (getD (now (values .entry)) (pairIn sizes (x .0) (target q)) 0) from) (slice first end (now (moves .entry))) ⌝ }
-{
-    let mut i = first;
-    while i < end {
-        if has(sizes, values, from, x, words::target_of(moves[i])) {
-            return true;
-        }
-        i = i + 1;
-    }
-    false
-}
-
-// Has no operand of y at s, whose equation is easy, the value `from`?
+// Has no operand of y at s, whose equation is easy, the value `from`? Of a diamond or a box j is one of its moves.
 fn easy_fails(
     sizes: Sizes,
     equations: &[u32],
@@ -87,29 +54,21 @@ fn easy_fails(
     from: u8,
     y: Variable,
     s: State,
+    j: usize,
 ) -> bool
     requires { ⌜ Standing (sceneOf sizes (now equations) (now moves) (now values) from) ⌝ }
     requires { ⌜ Leaner (sceneOf sizes (now equations) (now moves) (now values) from) (y .0) (s .0) ⌝ }
+    requires { ⌜ Along (sceneOf sizes (now equations) (now moves) (now values) from) (y .0) (s .0) j ⌝ }
     ensures { λ r. ⌜ r ≡ fails (sceneOf sizes (now (equations .entry)) (now (moves .entry)) (now (values .entry)) from) (y .0) (s .0) ⌝ }
 {
     let at = y.0 as usize;
     let e = words::equation_in(equations[at]);
     if e.operator < 6 {
-        let first = has(sizes, values, from, Variable(e.first), s);
-        let second = has(sizes, values, from, Variable(e.second), s);
+        let first = engine_own::has(sizes, values, from, Variable(e.first), s);
+        let second = engine_own::has(sizes, values, from, Variable(e.second), s);
         return !first & !second;
     }
-    let part = table::part_of(moves, moves.len(), s.0 as u32, e.first as u32);
-    let found = leads(
-        sizes,
-        moves,
-        values,
-        from,
-        Variable(e.second),
-        part.from,
-        part.end,
-    );
-    !found
+    !engine_own::leads_from(sizes, moves, values, from, Variable(e.second), j)
 }
 
 // Must the pair of y and s turn, where one that it leans on has turned?
@@ -123,21 +82,24 @@ fn must_turn(
     easy: bool,
     y: Variable,
     s: State,
+    j: usize,
 ) -> bool
     requires { ⌜ Standing (sceneOf sizes (now equations) (now moves) (now values) from) ⌝ }
     requires { ⌜ Leaning (sceneOf sizes (now equations) (now moves) (now values) from) easy (y .0) (s .0) ⌝ }
+    requires { ⌜ Along (sceneOf sizes (now equations) (now moves) (now values) from) (y .0) (s .0) j ⌝ }
     ensures { λ r. ⌜ r ≡ asksFor (sceneOf sizes (now (equations .entry)) (now (moves .entry)) (now (values .entry)) from) settling (y .0) (s .0) ⌝ }
 {
-    if has(sizes, values, from, y, s) {
+    if engine_own::has(sizes, values, from, y, s) {
         if settling & easy {
-            return easy_fails(sizes, equations, moves, values, from, y, s);
+            return easy_fails(sizes, equations, moves, values, from, y, s, j);
         }
         return true;
     }
     false
 }
 
-// The pair of y and s is visited: it waits if its mark leaves it free and it must turn.
+// The pair of y and s is visited: it waits if its mark leaves it free and it must turn. A visit to a diamond or a box comes along
+// its move j.
 fn visit(
     sizes: Sizes,
     equations: &[u32],
@@ -151,10 +113,12 @@ fn visit(
     easy: bool,
     y: Variable,
     s: State,
+    j: usize,
 ) -> Spread
     requires { ⌜ Standing (sceneOf sizes (now equations) (now moves) (now values) from) ⌝ }
     requires { ⌜ Leaning (sceneOf sizes (now equations) (now moves) (now values) from) easy (y .0) (s .0) ⌝ }
     requires { ⌜ (length (now marks) ≡ pairsOf sizes) × ((at .tail < 4294967296) × (at .visits < 4294967296)) ⌝ }
+    requires { ⌜ Along (sceneOf sizes (now equations) (now moves) (now values) from) (y .0) (s .0) j ⌝ }
     requires { ⌜ Room (sceneOf sizes (now equations) (now moves) (now values) from) settling (waitingOf (y .0) (s .0) ∷ []) (lineOf (now marks) (now queue) (at .tail) (at .visits)) ⌝ }
     ensures { λ r. ⌜ lineOf (now (marks .exit)) (now (queue .exit)) (r .tail) (r .visits)
         ≡ visitAll (sceneOf sizes (now (equations .entry)) (now (moves .entry)) (now (values .entry)) from) settling (waitingOf (y .0) (s .0) ∷ [])
@@ -165,11 +129,23 @@ fn visit(
     let p = limits::pair_of(sizes, s, y);
     let mark = marks[p];
     if is_free(settling, mark) {
-        if must_turn(sizes, equations, moves, values, settling, from, easy, y, s) {
+        if must_turn(
+            sizes,
+            equations,
+            moves,
+            values,
+            settling,
+            from,
+            easy,
+            y,
+            s,
+            j,
+        ) {
             marks[p] = next_mark(settling, mark);
             queue[tail] = words::waiting(y, s);
+            let end = tail + 1;
             return Spread {
-                tail: tail + 1,
+                tail: end,
                 visits: count,
             };
         }
@@ -218,7 +194,7 @@ fn visit_sources(
 ) -> Spread
     requires { ⌜ Standing (sceneOf sizes (now equations) (now moves) (now values) from) ⌝ }
     requires { ⌜ Indexed (sketch sizes (now equations) (now moves)) (now index) ⌝ }
-    requires { ⌜ Leans (sceneOf sizes (now equations) (now moves) (now values) from) easy (y .0) ⌝ }
+    requires { ⌜ Leans (sceneOf sizes (now equations) (now moves) (now values) from) easy (y .0) × HeadOf (sceneOf sizes (now equations) (now moves) (now values) from) (y .0) head ⌝ }
     requires { ⌜ (head < headsOf sizes) × ((length (now marks) ≡ pairsOf sizes) × Bounded (at .tail) (at .visits) (sourcesIn sizes (now moves) (y .0) head)) ⌝ }
     requires { ⌜ Room (sceneOf sizes (now equations) (now moves) (now values) from) settling (sourcesIn sizes (now moves) (y .0) head) (lineOf (now marks) (now queue) (at .tail) (at .visits)) ⌝ }
     ensures { λ r. ⌜ lineOf (now (marks .exit)) (now (queue .exit)) (r .tail) (r .visits)
@@ -244,6 +220,7 @@ fn visit_sources(
             easy,
             y,
             here,
+            j,
         );
         k = place_in_half(index[links + j]);
     }
@@ -291,6 +268,7 @@ fn visit_operand(
             easy,
             Variable(y),
             s,
+            0,
         );
     }
     let head = head_of(sizes, (o / 256 % 256) as u8, s);

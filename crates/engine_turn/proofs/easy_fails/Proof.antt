@@ -1,16 +1,13 @@
--- Two pairs, or a part of the moves. Assumes nothing.
-use mathlib.Core.Path.{_≡_, ap, _∙_}
+-- Two pairs, or the own moves of a state. Assumes nothing.
+use mathlib.Core.Path.{sym, ap, ap₂, _∙_}
 use mathlib.Core.Bool.{Bool, not}
-use mathlib.Core.List.{List}
 use Prim.Native.Nat.{ℕ}
 use native.Mathlib.Omega.{arith}
-use lib.ListN.{length}
-use lib.Seq.{take-length}
 use Rattle.lists.specs.Lists.{any}
 use Rattle.rules.specs.Moves.{target}
 use Rattle.table.specs.Ascending.{moves-ascend}
 use Rattle.words.specs.EquationWords.{drawn-sound}
-use Rattle.words.specs.Part.{ownMoves, part-ends, part-in}
+use Rattle.words.specs.Part.{ownMoves}
 use Rattle.engine_turn.specs.Scene.{sceneOf, hasFrom}
 use Rattle.engine_turn.specs.Inside.{targets-inside, join-inside, step-inside}
 use Rattle.engine_turn.specs.VisitLaws.{fails-join, fails-step}
@@ -25,14 +22,14 @@ mul-equation-in : tie.Need-mul-equation-in
 mul-equation-in c =
     let at-start = c .before .before .before .before in
     let d = at-start .pre .0 .drawn .long-equations in
-    let l = at-start .pre .1 .variable in
+    let l = at-start .pre .1 .0 .variable in
     omega arith
 
 shared-slice-read-equation-in : tie.Need-shared-slice-read-equation-in
 shared-slice-read-equation-in c =
     let at-start = c .before .before .before .before .before in
     let d = at-start .pre .0 .drawn .long-equations in
-    let l = at-start .pre .1 .variable in
+    let l = at-start .pre .1 .0 .variable in
     omega arith
 
 equation-in-requires : tie.Need-equation-in-requires
@@ -45,7 +42,7 @@ has-requires c κs =
     let at-if1 = c in
     let a = at-start .args in
     let g = at-start .pre .0 in
-    let l = at-start .pre .1 in
+    let l = at-start .pre .1 .0 in
     let e = at-equation-in .equation-in .result in
     let r = at-equation-in .equation-in .ensures in
     let j = join-inside g l (e .operator) (e .first) (e .second) (e .block) (e .kind) r (at-if1 .if1 .taken) in
@@ -58,7 +55,7 @@ has-requires-2 c κs =
     let at-if1 = c .before in
     let a = at-start .args in
     let g = at-start .pre .0 in
-    let l = at-start .pre .1 in
+    let l = at-start .pre .1 .0 in
     let e = at-equation-in .equation-in .result in
     let r = at-equation-in .equation-in .ensures in
     let j = join-inside g l (e .operator) (e .first) (e .second) (e .block) (e .kind) r (at-if1 .if1 .taken) in
@@ -73,55 +70,39 @@ returns c =
     let at-if1 = c .before .before in
     let a = at-start .args in
     let g = at-start .pre .0 in
-    let l = at-start .pre .1 in
+    let l = at-start .pre .1 .0 in
     let e = at-equation-in .equation-in .result in
     let r = at-equation-in .equation-in .ensures in
-    let c = sceneOf (a .sizes) (a .equations .now) (a .moves .now) (a .values .now) (a .from) in
-    rw (at-has .has .ensures, at-has2 .has2 .ensures) (fails-join c (a .y .0) (a .s .0) (e .operator) (e .first) (e .second) (e .block) (e .kind) r (at-if1 .if1 .taken))
+    let scene = sceneOf (a .sizes) (a .equations .now) (a .moves .now) (a .values .now) (a .from) in
+    rw (at-has .has .ensures, at-has2 .has2 .ensures) (fails-join scene (a .y .0) (a .s .0) (e .operator) (e .first) (e .second) (e .block) (e .kind) r (at-if1 .if1 .taken))
 
-cast-part-of : tie.Need-cast-part-of
-cast-part-of c = search needs
-
-cast-part-of-2 : tie.Need-cast-part-of-2
-cast-part-of-2 c = search needs
-
-part-of-requires : tie.Need-part-of-requires
-part-of-requires c κs =
-    let at-start = c .before .before .before .before .before .before .before .before .before .before in
+leads-from-requires : tie.Need-leads-from-requires
+leads-from-requires c κs =
+    let at-start = c .before .before .before .before .before .before .before .before in
+    let at-equation-in = c .before .before in
+    let at-if1 = c in
     let a = at-start .args in
     let g = at-start .pre .0 in
-    rw (take-length (a .moves .now)) (moves-ascend (a .sizes) 0 (a .moves .now) (drawn-sound (g .drawn) .moves))
-
-leads-requires : tie.Need-leads-requires
-leads-requires c κs =
-    let at-start = c .before .before .before .before .before .before .before .before .before .before .before in
-    let at-equation-in = c .before .before .before .before .before in
-    let at-part-of = c in
-    let a = at-start .args in
-    let g = at-start .pre .0 in
-    let l = at-start .pre .1 in
+    let l = at-start .pre .1 .0 in
     let e = at-equation-in .equation-in .result in
     let r = at-equation-in .equation-in .ensures in
-    let j = step-inside g l (e .operator) (e .first) (e .second) (e .block) (e .kind) r (omega arith) in
-    let h = part-ends (a .s .0) (e .first) (length (a .moves .now)) (a .moves .now) (at-part-of .part-of .result) (at-part-of .part-of .ensures) in
-    ((j .1 .1, (h, g .long)), targets-inside g)
+    let i = step-inside g l (e .operator) (e .first) (e .second) (e .block) (e .kind) r (omega arith) in
+    let own = at-start .pre .1 .1 (let o = r .is-operator in omega arith) in
+    ((i .1 .1, (own .0, g .long)), (targets-inside g, moves-ascend (a .sizes) 0 (a .moves .now) (drawn-sound (g .drawn) .moves)))
 
 returns-2 : tie.Need-returns-2
 returns-2 c =
-    let at-start = c .before .before .before .before .before .before .before .before .before .before .before .before in
-    let at-equation-in = c .before .before .before .before .before .before in
-    let at-part-of = c .before in
-    let at-leads = c in
+    let at-start = c .before .before .before .before .before .before .before .before .before in
+    let at-equation-in = c .before .before .before in
+    let at-if1 = c .before in
     let a = at-start .args in
-    let g = at-start .pre .0 in
-    let l = at-start .pre .1 in
     let e = at-equation-in .equation-in .result in
     let r = at-equation-in .equation-in .ensures in
-    let c = sceneOf (a .sizes) (a .equations .now) (a .moves .now) (a .values .now) (a .from) in
-    let q = at-part-of .part-of in
-    let f : ℕ → Bool = λ (m : ℕ). hasFrom c (e .second) (target m) in
-    let h : at-leads .leads .result ≡ any f (ownMoves (a .s .0) (e .first) (a .moves .now)) = at-leads .leads .ensures ∙ ap (any f) (part-in (a .s .0) (e .first) (length (a .moves .now)) (a .moves .now) (q .result) (q .ensures) ∙ ap (λ (ms : List ℕ). ownMoves (a .s .0) (e .first) ms) (take-length (a .moves .now))) in
-    ap not h ∙ fails-step c (a .y .0) (a .s .0) (e .operator) (e .first) (e .second) (e .block) (e .kind) r (omega arith)
+    let scene = sceneOf (a .sizes) (a .equations .now) (a .moves .now) (a .values .now) (a .from) in
+    let own = at-start .pre .1 .1 (let o = r .is-operator in omega arith) in
+    let f : ℕ → Bool = λ (m : ℕ). hasFrom scene (e .second) (target m) in
+    ap not (c .leads-from .ensures ∙ ap₂ {C = Bool} (λ (s k : ℕ). any f (ownMoves s k (a .moves .now))) (own .1 .0) (own .1 .1 ∙ sym (r .is-first)))
+    ∙ fails-step scene (a .y .0) (a .s .0) (e .operator) (e .first) (e .second) (e .block) (e .kind) r (omega arith)
 
 pub easy-fails-spec : {M : Type 1} → statement M
 easy-fails-spec =
@@ -134,8 +115,5 @@ easy-fails-spec =
     has-requires
     has-requires-2
     returns
-    cast-part-of
-    cast-part-of-2
-    part-of-requires
-    leads-requires
+    leads-from-requires
     returns-2)

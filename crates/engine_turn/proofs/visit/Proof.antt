@@ -4,7 +4,7 @@ use Prim.Native.Nat.{_<_}
 use native.Mathlib.Omega.{arith}
 use Rattle.words.specs.Limits.{limits}
 use Rattle.engine_turn.specs.Scene.{sceneOf}
-use Rattle.engine_turn.specs.Inside.{pair-low}
+use Rattle.engine_own.specs.Pairs.{pair-low}
 use Rattle.engine_turn.specs.VisitLaws.{visit-shut, visit-stays, visit-waits, visit-room}
 use borrow.Author.Needs.{needs}
 use Rattle.engine_turn.proofs.visit.Statement.{statement}
@@ -74,10 +74,10 @@ slice-write-queue c =
     let z = limits (at-start .pre .0 .drawn) in
     let s : a .s .0 < 1024 = omega (arith, l .state) in
     visit-room scene (a .settling) (a .y .0) (a .s .0) s (a .marks .now) (a .queue .now) (a .at .tail) (a .at .visits) (at-pair-of .pair-of .result) _ (at-is-free .is-free .result) (at-pair-of .pair-of .ensures) refl (at-is-free .is-free .ensures) (at-if1 .if1 .taken)
-    (at-must-turn .must-turn .result) (at-must-turn .must-turn .ensures) (at-if2 .if2 .taken) (at-start .pre .1 .1 .1)
+    (at-must-turn .must-turn .result) (at-must-turn .must-turn .ensures) (at-if2 .if2 .taken) (at-start .pre .1 .1 .1 .1)
 
-add-t24 : tie.Need-add-t24
-add-t24 c = search needs
+add-end : tie.Need-add-end
+add-end c = search needs
 
 same-length : tie.Need-same-length
 same-length c = search needs
@@ -96,11 +96,11 @@ returns c =
     let at-next-mark = c .before in
     let at-waiting = c in
     let a = at-start .args in
-    let c = sceneOf (a .sizes) (a .equations .now) (a .moves .now) (a .values .now) (a .from) in
+    let scene = sceneOf (a .sizes) (a .equations .now) (a .moves .now) (a .values .now) (a .from) in
     let l = at-start .pre .1 .0 .leaner in
     let z = limits (at-start .pre .0 .drawn) in
     let s : a .s .0 < 1024 = omega (arith, l .state) in
-    visit-waits c (a .settling) (a .y .0) (a .s .0) s (a .marks .now) (a .queue .now) (a .at .tail) (a .at .visits) (at-pair-of .pair-of .result) _ (at-is-free .is-free .result) (at-pair-of .pair-of .ensures) refl (at-is-free .is-free .ensures) (at-if1 .if1 .taken)
+    visit-waits scene (a .settling) (a .y .0) (a .s .0) s (a .marks .now) (a .queue .now) (a .at .tail) (a .at .visits) (at-pair-of .pair-of .result) _ (at-is-free .is-free .result) (at-pair-of .pair-of .ensures) refl (at-is-free .is-free .ensures) (at-if1 .if1 .taken)
     (at-must-turn .must-turn .result) (at-must-turn .must-turn .ensures) (at-if2 .if2 .taken) (at-next-mark .next-mark .result) (at-waiting .waiting .result) _ (at-next-mark .next-mark .ensures) (at-waiting .waiting .ensures) refl
 
 returns-2 : tie.Need-returns-2
@@ -111,11 +111,11 @@ returns-2 c =
     let at-must-turn = c .before in
     let at-if2 = c in
     let a = at-start .args in
-    let c = sceneOf (a .sizes) (a .equations .now) (a .moves .now) (a .values .now) (a .from) in
+    let scene = sceneOf (a .sizes) (a .equations .now) (a .moves .now) (a .values .now) (a .from) in
     let l = at-start .pre .1 .0 .leaner in
     let z = limits (at-start .pre .0 .drawn) in
     let s : a .s .0 < 1024 = omega (arith, l .state) in
-    visit-stays c (a .settling) (a .y .0) (a .s .0) s (a .marks .now) (a .queue .now) (a .at .tail) (a .at .visits) (at-pair-of .pair-of .result) _ (at-is-free .is-free .result) (at-pair-of .pair-of .ensures) refl (at-is-free .is-free .ensures)
+    visit-stays scene (a .settling) (a .y .0) (a .s .0) s (a .marks .now) (a .queue .now) (a .at .tail) (a .at .visits) (at-pair-of .pair-of .result) _ (at-is-free .is-free .result) (at-pair-of .pair-of .ensures) refl (at-is-free .is-free .ensures)
     (at-must-turn .must-turn .result) (at-must-turn .must-turn .ensures) (at-if2 .if2 .left)
 
 returns-3 : tie.Need-returns-3
@@ -125,11 +125,11 @@ returns-3 c =
     let at-is-free = c .before in
     let at-if1 = c in
     let a = at-start .args in
-    let c = sceneOf (a .sizes) (a .equations .now) (a .moves .now) (a .values .now) (a .from) in
+    let scene = sceneOf (a .sizes) (a .equations .now) (a .moves .now) (a .values .now) (a .from) in
     let l = at-start .pre .1 .0 .leaner in
     let z = limits (at-start .pre .0 .drawn) in
     let s : a .s .0 < 1024 = omega (arith, l .state) in
-    visit-shut c (a .settling) (a .y .0) (a .s .0) s (a .marks .now) (a .queue .now) (a .at .tail) (a .at .visits) (at-pair-of .pair-of .result) _ (at-is-free .is-free .result) (at-pair-of .pair-of .ensures) refl (at-is-free .is-free .ensures) (at-if1 .if1 .left)
+    visit-shut scene (a .settling) (a .y .0) (a .s .0) s (a .marks .now) (a .queue .now) (a .at .tail) (a .at .visits) (at-pair-of .pair-of .result) _ (at-is-free .is-free .result) (at-pair-of .pair-of .ensures) refl (at-is-free .is-free .ensures) (at-if1 .if1 .left)
 
 pub visit-spec : {M : Type 1} → statement M
 visit-spec =
@@ -145,7 +145,7 @@ visit-spec =
     waiting-requires
     mul-queue
     slice-write-queue
-    add-t24
+    add-end
     same-length
     same-length-2
     returns

@@ -6,7 +6,7 @@ use native.Mathlib.Omega.{arith}
 use lib.ListN.{length}
 use Rattle.engine_index.specs.Indexed.{headsOf}
 use Rattle.engine_turn.specs.Scene.{sceneOf, lineOf, visitAll, sourcesIn, pairsBy, Leaning, Bounded, Room}
-use Rattle.engine_turn.specs.OperandWords.{operand-leans, pairs-join, pairs-step, head-inside}
+use Rattle.engine_turn.specs.OperandWords.{operand-leans, pairs-join, pairs-step, join-along, step-head, head-inside}
 use borrow.Author.Needs.{needs}
 use Rattle.engine_turn.proofs.visit_operand.Statement.{statement}
 use Rattle.engine_turn.proofs.visit_operand.Tie as tie
@@ -27,7 +27,7 @@ visit-requires c κs =
     let e = ap length (pairs-join o (a .s .0) (at-if1 .if1 .taken)) in
     let v = lineOf (a .marks .now) (a .queue .now) (a .at .tail) (a .at .visits) in
     let room = subst (λ (l : List ℕ). Room scene (a .settling) l v) (pairs-join o (a .s .0) (at-if1 .if1 .taken)) (at-start .pre .1 .1 .1 .1) in
-    (at-start .pre .0, (leaning, ((q .1 .0, (omega (arith, q .1 .1 .0, e), omega (arith, q .1 .1 .1, e))), room)))
+    (at-start .pre .0, (leaning, ((q .1 .0, (omega (arith, q .1 .1 .0, e), omega (arith, q .1 .1 .1, e))), (join-along o (a .s .0) 0 (at-if1 .if1 .taken), room))))
 
 same-length : tie.Need-same-length
 same-length c = search needs
@@ -68,7 +68,7 @@ visit-sources-requires c κs =
     let f : pairsBy (a .sizes) (a .equations .now) (a .moves .now) (a .s .0) y ≡ sourcesIn (a .sizes) (a .moves .now) y (at-head-of .head-of .result) = pairs-step o (a .s .0) (at-if1 .if1 .left) ∙ ap (sourcesIn (a .sizes) (a .moves .now) y) (sym e) in
     let v = lineOf (a .marks .now) (a .queue .now) (a .at .tail) (a .at .visits) in
     let room = subst (λ (l : List ℕ). Room scene (a .settling) l v) f (at-start .pre .1 .1 .1 .1) in
-    (at-start .pre .0, (at-start .pre .1 .0, (operand-leans o, ((h, (q .1 .0, subst (Bounded (a .at .tail) (a .at .visits)) f (q .1 .1))), room))))
+    (at-start .pre .0, (at-start .pre .1 .0, ((operand-leans o, step-head o (a .s .0) (q .0) (at-if1 .if1 .left) _ e), ((h, (q .1 .0, subst (Bounded (a .at .tail) (a .at .visits)) f (q .1 .1))), room))))
 
 same-length-3 : tie.Need-same-length-3
 same-length-3 c = search needs

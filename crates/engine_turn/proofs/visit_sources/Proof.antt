@@ -7,9 +7,9 @@ use lib.ListN.{length, getD}
 use Rattle.words.specs.Limits.{limits}
 use Rattle.words.specs.Table.{waitingOf}
 use Rattle.engine_index.specs.Indexed.{keyOf}
-use Rattle.engine_turn.specs.Scene.{sceneOf, lineOf, visitAll, sourceOf, Leaning, Room}
-use Rattle.engine_turn.specs.Inside.{source-inside}
-use Rattle.engine_turn.specs.ChainVisits.{OnChain, falls, chain-begins, chain-room, chain-fits, chain-goes, chain-ends, head-at, link-at}
+use Rattle.engine_turn.specs.Scene.{sceneOf, lineOf, visitAll, sourceOf, Leaning, Along, Room}
+use Rattle.engine_turn.specs.Inside.{source-inside, along-chain}
+use Rattle.engine_turn.specs.ChainVisits.{OnChain, falls, chain-begins, chain-at, chain-room, chain-fits, chain-goes, chain-ends, head-at, link-at}
 use borrow.Author.Needs.{needs}
 use Rattle.engine_turn.proofs.visit_sources.Statement.{statement}
 use Rattle.engine_turn.proofs.visit_sources.Tie as tie
@@ -86,15 +86,17 @@ visit-requires c κs =
     let v = lineOf (a .marks .now) (a .queue .now) (a .at .tail) (a .at .visits) in
     let l = at-loop .loop in
     let up : l .k ≡ suc (l .k - 1) = omega (arith, at-loop-test .loop-test .taken) in
-    let s = at-start .pre .1 .1 .0 in
+    let s = at-start .pre .1 .1 .0 .0 in
     let e = at-source-of .source-of .ensures in
     let h = source-inside (at-start .pre .0) (l .k - 1) (omega (arith, l .inv .below, at-loop-test .loop-test .taken)) in
     let i : at-source-of .source-of .result .0 < a .sizes .states = omega arith in
     let leaning : Leaning scene (a .easy) (a .y .0) (at-source-of .source-of .result .0) = record { leaner = record { variable = s .variable; state = i; uses = s .uses }; told = s .told } in
     let b = chain-room (keyOf (a .sizes)) (a .moves .now) (a .head) (sourceOf (a .moves .now) (a .y .0)) scene (a .settling) (length (a .moves .now)) v (l .k) (l .k - 1) (lineOf (l .marks) (l .queue) (l .s .tail) (l .s .visits)) (l .inv) up (at-start .pre .1 .1 .1 .0 .1 .1) in
+    let at = chain-at (keyOf (a .sizes)) (a .moves .now) (a .head) (sourceOf (a .moves .now) (a .y .0)) scene (a .settling) (length (a .moves .now)) v (l .k) (l .k - 1) (lineOf (l .marks) (l .queue) (l .s .tail) (l .s .visits)) (l .inv) up in
+    let along = subst (λ (n : ℕ). Along scene (a .y .0) n (l .k - 1)) (sym e) (along-chain (at-start .pre .0) (a .y .0) (a .head) (l .k - 1) (at-start .pre .1 .1 .0 .1) (omega (arith, l .inv .below, at-loop-test .loop-test .taken)) at) in
     let fits = chain-fits (keyOf (a .sizes)) (a .moves .now) (a .head) (sourceOf (a .moves .now) (a .y .0)) scene (a .settling) (length (a .moves .now)) v (l .k) (l .k - 1) (lineOf (l .marks) (l .queue) (l .s .tail) (l .s .visits)) (l .inv) up (at-start .pre .1 .1 .1 .1) in
     let room = subst (λ (n : ℕ). Room scene (a .settling) (waitingOf (a .y .0) n ∷ []) (lineOf (l .marks) (l .queue) (l .s .tail) (l .s .visits))) (sym e) fits in
-    (at-start .pre .0, (leaning, ((l .inv .long-marks ∙ at-start .pre .1 .1 .1 .0 .1 .0, (omega (arith, b .0), omega (arith, b .1))), room)))
+    (at-start .pre .0, (leaning, ((l .inv .long-marks ∙ at-start .pre .1 .1 .1 .0 .1 .0, (omega (arith, b .0), omega (arith, b .1))), (along, room))))
 
 add-place-in-half : tie.Need-add-place-in-half Inv-loop μ-loop
 add-place-in-half c =
