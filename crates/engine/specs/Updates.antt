@@ -39,7 +39,9 @@ use Rattle.words.specs.Lent.{Drawn, drawn-cut}
 use Rattle.words.specs.Limits.{limits}
 use Rattle.engine_index.specs.Indexed.{headsOf}
 use Rattle.engine_values.specs.Starts.{part-changed, net-counted}
+use Rattle.engine_values.specs.Differences.{sub-same}
 use Rattle.engine_phase.specs.Started.{Started, withMoves}
+use Rattle.engine_phase.specs.Levels.{Levelled}
 
 -- The values, the marks and the visits that an update ends with, as the rule says.
 pub record Follows (m : Model) (t : Turned) (values marks : List ℕ) (shift settle : ℕ) : Type 0 where
@@ -53,12 +55,13 @@ abbrev pub Moved : Model → List Change → List ℕ → List ℕ → List ℕ 
 Moved m cs vs values marks shift settle = Follows m (turnAll m cs (valueAt vs)) values marks shift settle
 
 -- The same in rooms that may be longer.
-pub record MovedIn (m : Model) (cs : List Change) (values₀ marks₀ values marks : List ℕ) (shift settle : ℕ) : Type 0 where
+pub record MovedIn (m : Model) (cs : List Change) (values₀ marks₀ values marks : List ℕ) (shift settle level : ℕ) : Type 0 where
   pub part : List ℕ
   pub part-marks : List ℕ
   pub moved : Moved m cs (take (pairsOf (m .sizes)) values₀) part part-marks shift settle
   pub values-are : values ≡ part ++ drop (pairsOf (m .sizes)) values₀
   pub marks-are : marks ≡ part-marks ++ drop (pairsOf (m .sizes)) marks₀
+  pub levelled : Levelled (m .sizes) (pairsOf (m .sizes)) values₀ level values
 
 -- Old values that agree on the pairs lead to the same answer.
 module _ (m : Model) (cs : List Change) (j : Judged (m .moves) cs) (ok : Sound m) (ok′ : Sound (changed cs m)) (v w : Values)
@@ -154,16 +157,28 @@ module _ (p : ℕ) (room cleared : List ℕ) (e : cleared ≡ fill (replicate p 
       ap (drop p) e ∙ ap (λ (k : ℕ). drop k (fill zs room)) (sym (length-replicate p 0)) ∙ drop-append-seam zs (drop (length zs) room)
       ∙ ap (λ (k : ℕ). drop k room) (length-replicate p 0)
 
+-- As many of the first n pairs are true as of a room that is cut there, or goes on past them.
+trues-cut : (n : ℕ) (l : List ℕ) → trues n (valueAt (take n l)) ≡ trues n (valueAt l)
+trues-cut n l = sum-ext n _ _ (λ q h. ap (λ (x : ℕ). bit (eqb x 1)) (getD-take n l q 0 h))
+
+trues-front : (n : ℕ) (part rest : List ℕ) → length part ≡ n → trues n (valueAt (part ++ rest)) ≡ trues n (valueAt part)
+trues-front n part rest e = sym (trues-cut n (part ++ rest)) ∙ ap (λ (l : List ℕ). trues n (valueAt l)) (take-at part rest n e)
+
 -- An update of the first places, cut out of their rooms.
-pub moved-in : (m : Model) (cs : List Change) (values₀ marks₀ cleared : List ℕ) (p : ℕ) (values marks : List ℕ) (shift settle : ℕ) → p ≡ pairsOf (m .sizes)
-    → cleared ≡ fill (replicate p 0) marks₀ → Moved m cs (take p values₀) values marks shift settle
-    → MovedIn m cs values₀ marks₀ (values ++ drop p values₀) (marks ++ drop p cleared) shift settle
-moved-in m cs values₀ marks₀ cleared p values marks shift settle is-p e d = record {
+pub moved-in : (m : Model) (cs : List Change) (values₀ marks₀ cleared : List ℕ) (p : ℕ) (values marks : List ℕ) (shift settle level : ℕ) → p ≡ pairsOf (m .sizes)
+    → cleared ≡ fill (replicate p 0) marks₀ → Moved m cs (take p values₀) values marks shift settle × Levelled (m .sizes) (pairsOf (m .sizes)) (take p values₀) level values
+    → MovedIn m cs values₀ marks₀ (values ++ drop p values₀) (marks ++ drop p cleared) shift settle level
+moved-in m cs values₀ marks₀ cleared p values marks shift settle level is-p e (d, l) = record {
   part = values;
   part-marks = marks;
   moved = subst (λ (q : ℕ). Moved m cs (take q values₀) values marks shift settle) is-p d;
   values-are = ap (λ (q : ℕ). values ++ drop q values₀) is-p;
   marks-are = ap (λ (l : List ℕ). marks ++ l) (cleared-rest p marks₀ cleared e ∙ ap (λ (q : ℕ). drop q marks₀) is-p);
+  levelled =
+      let long = ap length (d .values-are) ∙ listed-length 0 (pairsOf (m .sizes)) _ in
+      let one = ap (λ (q : ℕ). trues (pairsOf (m .sizes)) (valueAt (take q values₀))) is-p ∙ trues-cut (pairsOf (m .sizes)) values₀ in
+      let two = trues-front (pairsOf (m .sizes)) values (drop p values₀) long in
+      omega arith;
 }
 
 -- What an update leaves in the rooms and what it reports, as the rule says.
@@ -178,17 +193,18 @@ pub record Leaves (m : Model) (t : Turned) (values₀ marks₀ values marks : Li
 joined : (n : ℕ) (f : ℕ → ℕ) (part room : List ℕ) → part ≡ listed 0 n f → part ++ drop n room ≡ fill (listed 0 n f) room
 joined n f part room e = part-changed n part room (ap length e ∙ listed-length 0 n f) ∙ ap (λ (l : List ℕ). fill l room) e
 
-pub update-leaves : (m : Model) (cs : List Change) (values₀ marks₀ values marks : List ℕ) (shift settle p before after : ℕ) (net : ℤ) → Started m cs (take (pairsOf (m .sizes)) values₀)
-    → MovedIn m cs values₀ marks₀ values marks shift settle → p ≡ pairsOf (m .sizes) → before ≡ trues p (valueAt values₀) → after ≡ trues p (valueAt values)
-    → net ≡ pos after -ℤ pos before → Leaves m (turnAll m cs (valueAt values₀)) values₀ marks₀ values marks shift settle net
-update-leaves m cs values₀ marks₀ values marks shift settle p before after net s d is-p is-before is-after is-net = record {
+pub update-leaves : (m : Model) (cs : List Change) (values₀ marks₀ values marks : List ℕ) (shift settle level p : ℕ) (net : ℤ) → Started m cs (take (pairsOf (m .sizes)) values₀)
+    → MovedIn m cs values₀ marks₀ values marks shift settle level → p ≡ pairsOf (m .sizes) → net ≡ pos level -ℤ pos p
+    → Leaves m (turnAll m cs (valueAt values₀)) values₀ marks₀ values marks shift settle net
+update-leaves m cs values₀ marks₀ values marks shift settle level p net s d is-p is-net = record {
   values-are = filled;
   marks-are = d .marks-are ∙ joined N (λ p. markOf (at (t .shifted) p) (at (t .settled) p)) (d .part-marks) marks₀ (f .marks-are);
   shift-is = f .shift-is;
   settle-is = f .settle-is;
   net-is =
-      net-counted N (valueAt values₀) (at (t .values)) before after net (is-before ∙ ap (λ (q : ℕ). trues q (valueAt values₀)) is-p)
-      (is-after ∙ ap₂ (λ (q : ℕ) (l : List ℕ). trues q (valueAt l)) is-p filled ∙ sum-ext N _ (λ q. bit (at (t .values) q)) (λ q h. ap bit (values-held N (at (t .values)) values₀ q h))) is-net;
+      net-counted N (valueAt values₀) (at (t .values)) (trues N (valueAt values₀)) (trues N (valueAt values)) net refl
+      (ap (λ (l : List ℕ). trues N (valueAt l)) filled ∙ sum-ext N _ (λ q. bit (at (t .values) q)) (λ q h. ap bit (values-held N (at (t .values)) values₀ q h)))
+      (is-net ∙ sub-same level p (trues N (valueAt values)) (trues N (valueAt values₀)) (let l = d .levelled in omega arith));
 }
   where
     N : ℕ
@@ -240,8 +256,8 @@ module _ (m : Model) (ok : Sound m) (values₀ own-room : List ℕ) (room : pair
   pub load-starts : Started m [] (take N own-room)
   load-starts = started-none m (take N own-room) ok (ap length part-is ∙ listed-length 0 N (λ p. bit (own (frame m) p))) (λ p. let e = own-at p in let h = bit-le (own (frame m) p) in omega arith)
 
-  pub load-leaves : (marks₀ values marks : List ℕ) (shift settle : ℕ) → MovedIn m [] own-room marks₀ values marks shift settle → values ≡ fill (bits N (at (solve m))) values₀
-  load-leaves marks₀ values marks shift settle d =
+  pub load-leaves : (marks₀ values marks : List ℕ) (shift settle level : ℕ) → MovedIn m [] own-room marks₀ values marks shift settle level → values ≡ fill (bits N (at (solve m))) values₀
+  load-leaves marks₀ values marks shift settle level d =
       d .values-are
       ∙ joined N (λ p. bit (at (solve m) p)) (d .part) own-room
       (moved-loads m ok (take N own-room) (load-starts .long) (λ p. ap (λ (x : ℕ). eqb x 1) (own-at p) ∙ bit-back (own (frame m) p)) (d .part) (d .part-marks) shift settle (d .moved))
@@ -249,9 +265,9 @@ module _ (m : Model) (ok : Sound m) (values₀ own-room : List ℕ) (room : pair
       (listed-length 0 N (λ p. bit (own (frame m) p))) is-own
 
   -- The marks that the machine left are cleared.
-  pub load-clears : (marks₀ values marks cleared : List ℕ) (shift settle p : ℕ) → MovedIn m [] own-room marks₀ values marks shift settle → p ≡ N
+  pub load-clears : (marks₀ values marks cleared : List ℕ) (shift settle level p : ℕ) → MovedIn m [] own-room marks₀ values marks shift settle level → p ≡ N
       → cleared ≡ fill (replicate p 0) marks → cleared ≡ fill (replicate N 0) marks₀
-  load-clears marks₀ values marks cleared shift settle p d is-p e =
+  load-clears marks₀ values marks cleared shift settle level p d is-p e =
       e ∙ ap (λ (q : ℕ). fill (replicate q 0) marks) is-p
       ∙ fill-again N (replicate N 0) (d .part-marks) marks marks₀ (length-replicate N 0) long (d .marks-are ∙ part-changed N (d .part-marks) marks₀ long)
     where

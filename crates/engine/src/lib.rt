@@ -20,9 +20,17 @@ ghost use Rattle.words.specs.Lent.{tableOf, Drawn};
 ghost use Rattle.engine_index.specs.Indexed.{headsOf, Indexed};
 ghost use Rattle.engine_index.specs.Operands.{Named, Blank};
 ghost use Rattle.engine_phase.specs.Started.{Started};
+ghost use Rattle.engine_phase.specs.Levels.{Levelled};
 ghost use Rattle.engine.specs.Updates.{Moved, MovedIn, Leaves};
 
-// All blocks in order, each shifted and then settled. Answers the visits.
+// What the turns of an update count: the visits, and a level that is as many as there are pairs at first and follows the number of
+// true pairs.
+pub struct Turns {
+    pub visits: Visits,
+    pub level: usize,
+}
+
+// All blocks in order, each shifted and then settled.
 fn turn_blocks(
     sizes: Sizes,
     labels: &[u32],
@@ -36,19 +44,20 @@ fn turn_blocks(
     marks: &mut [u8],
     queue: &mut [u16],
     bad: &mut [u8],
-) -> Visits
+) -> Turns
     requires { ⌜ cut.Drawn (tableIn sizes (now labels) (now equations) (now moves)) ⌝ }
     requires { ⌜ (Indexed (tableIn sizes (now labels) (now equations) (now moves)) (now index) × Named (tableIn sizes (now labels) (now equations) (now moves)) (now named) (now operand)) × (changesOk sizes (changesOf (now changes)) ≡ true) ⌝ }
     requires { ⌜ (length (now bad) ≡ sizes .states) × (pairsOf sizes < length (now queue)) ⌝ }
     requires { ⌜ Started (modelOf (tableIn sizes (now labels) (now equations) (now moves))) (changesOf (now changes)) (now values) × (now marks ≡ replicate (pairsOf sizes) 0) ⌝ }
-    ensures { λ r. ⌜ Moved (modelOf (tableIn sizes (now (labels .entry)) (now (equations .entry)) (now (moves .entry)))) (changesOf (now (changes .entry))) (now (values .entry)) (now (values .exit)) (now (marks .exit)) (r .shift) (r .settle) ⌝ }
+    ensures { λ r. ⌜ Moved (modelOf (tableIn sizes (now (labels .entry)) (now (equations .entry)) (now (moves .entry)))) (changesOf (now (changes .entry))) (now (values .entry)) (now (values .exit)) (now (marks .exit)) (r .visits .shift) (r .visits .settle) × Levelled sizes (pairsOf sizes) (now (values .entry)) (r .level) (now (values .exit)) ⌝ }
 {
     let blocks = engine_values::count_blocks(equations);
     let mut shifts: usize = 0;
     let mut settles: usize = 0;
+    let mut level = values.len();
     let mut i: usize = 0;
     while i < blocks {
-        shifts = engine_phase::phase(
+        let shifted = engine_phase::phase(
             sizes,
             labels,
             equations,
@@ -63,9 +72,12 @@ fn turn_blocks(
             bad,
             i,
             shifts,
+            level,
             false,
         );
-        settles = engine_phase::phase(
+        shifts = shifted.visits;
+        level = shifted.level;
+        let settled = engine_phase::phase(
             sizes,
             labels,
             equations,
@@ -80,15 +92,22 @@ fn turn_blocks(
             bad,
             i,
             settles,
+            level,
             true,
         );
+        settles = settled.visits;
+        level = settled.level;
         i = i + 1;
     }
     let shift = shifts as u32;
     let settle = settles as u32;
-    Visits {
+    let visits = Visits {
         shift: shift,
         settle: settle,
+    };
+    Turns {
+        visits: visits,
+        level: level,
     }
 }
 
@@ -103,12 +122,12 @@ fn index_and_turn(
     marks: &mut [u8],
     index: &mut [u16],
     queue: &mut [u16],
-) -> Visits
+) -> Turns
     requires { ⌜ cut.Drawn (tableIn sizes (now labels) (now equations) (now moves)) ⌝ }
     requires { ⌜ changesOk sizes (changesOf (now changes)) ≡ true ⌝ }
     requires { ⌜ Started (modelOf (tableIn sizes (now labels) (now equations) (now moves))) (changesOf (now changes)) (now values) × (now marks ≡ replicate (pairsOf sizes) 0) ⌝ }
     requires { ⌜ ((headsOf sizes + length (now moves) ≤ length (now index)) × ((k : ℕ) → k < headsOf sizes → getD (now index) k 0 ≡ 0)) × (pairsOf sizes < length (now queue)) ⌝ }
-    ensures { λ r. ⌜ Moved (modelOf (tableIn sizes (now (labels .entry)) (now (equations .entry)) (now (moves .entry)))) (changesOf (now (changes .entry))) (now (values .entry)) (now (values .exit)) (now (marks .exit)) (r .shift) (r .settle) ⌝ }
+    ensures { λ r. ⌜ Moved (modelOf (tableIn sizes (now (labels .entry)) (now (equations .entry)) (now (moves .entry)))) (changesOf (now (changes .entry))) (now (values .entry)) (now (values .exit)) (now (marks .exit)) (r .visits .shift) (r .visits .settle) × Levelled sizes (pairsOf sizes) (now (values .entry)) (r .level) (now (values .exit)) ⌝ }
 {
     let mut named = [0u8; 32];
     let mut operand = [0u32; 64];
@@ -146,13 +165,13 @@ fn move_values(
     marks: &mut [u8],
     index: &mut [u16],
     queue: &mut [u16],
-) -> Visits
+) -> Turns
     requires { ⌜ Drawn sizes (now labels) (now equations) (now moves) n ⌝ }
     requires { ⌜ changesOk sizes (changesOf (take count (now changes))) ≡ true ⌝ }
     requires { ⌜ Started (tableOf sizes (now labels) (now equations) (now moves) n) (changesOf (take count (now changes))) (take (pairsOf sizes) (now values)) ⌝ }
     requires { ⌜ ((pairsOf sizes ≤ length (now values)) × (pairsOf sizes ≤ length (now marks))) × (count ≤ length (now changes)) ⌝ }
     requires { ⌜ ((headsOf sizes + n ≤ length (now index)) × ((k : ℕ) → k < headsOf sizes → getD (now index) k 0 ≡ 0)) × (pairsOf sizes < length (now queue)) ⌝ }
-    ensures { λ r. ⌜ MovedIn (tableOf sizes (now (labels .entry)) (now (equations .entry)) (now (moves .entry)) n) (changesOf (take count (now (changes .entry)))) (now (values .entry)) (now (marks .entry)) (now (values .exit)) (now (marks .exit)) (r .shift) (r .settle) ⌝ }
+    ensures { λ r. ⌜ MovedIn (tableOf sizes (now (labels .entry)) (now (equations .entry)) (now (moves .entry)) n) (changesOf (take count (now (changes .entry)))) (now (values .entry)) (now (marks .entry)) (now (values .exit)) (now (marks .exit)) (r .visits .shift) (r .visits .settle) (r .level) ⌝ }
 {
     let p = limits::pairs_of(sizes);
     let states = sizes.states as usize;
@@ -195,19 +214,19 @@ fn move_in_rooms(
     marks: &mut [u8],
     index: &mut [u16],
     queue: &mut [u16],
-) -> Visits
+) -> Turns
     requires { ⌜ Drawn sizes (now labels) (now equations) (now moves) n ⌝ }
     requires { ⌜ changesOk sizes (changesOf (take count (now changes))) ≡ true ⌝ }
     requires { ⌜ Started (tableOf sizes (now labels) (now equations) (now moves) n) (changesOf (take count (now changes))) (take (pairsOf sizes) (now values)) ⌝ }
     requires { ⌜ ((pairsOf sizes ≤ length (now values)) × (pairsOf sizes ≤ length (now marks))) × (count ≤ length (now changes)) ⌝ }
     requires { ⌜ (indexNeeds sizes (length (now moves)) ≤ length (now index)) × (queueNeeds sizes ≤ length (now queue)) ⌝ }
-    ensures { λ r. ⌜ MovedIn (tableOf sizes (now (labels .entry)) (now (equations .entry)) (now (moves .entry)) n) (changesOf (take count (now (changes .entry)))) (now (values .entry)) (now (marks .entry)) (now (values .exit)) (now (marks .exit)) (r .shift) (r .settle)
+    ensures { λ r. ⌜ MovedIn (tableOf sizes (now (labels .entry)) (now (equations .entry)) (now (moves .entry)) n) (changesOf (take count (now (changes .entry)))) (now (values .entry)) (now (marks .entry)) (now (values .exit)) (now (marks .exit)) (r .visits .shift) (r .visits .settle) (r .level)
         × ((now (index .exit) ≡ indexAfter sizes (length (now (moves .entry))) (now (index .entry))) × (now (queue .exit) ≡ queueAfter sizes (now (queue .entry)))) ⌝ }
 {
     let links = limits::index_needs(sizes, moves.len());
     let waiting = limits::queue_needs(sizes);
     engine_values::clear_halves(index, links);
-    let visits = move_values(
+    let turns = move_values(
         sizes,
         labels,
         equations,
@@ -221,7 +240,7 @@ fn move_in_rooms(
         &mut queue[..waiting],
     );
     clear_work(sizes, moves.len(), index, queue);
-    visits
+    turns
 }
 
 // What an update reports: the visits, and the change in the number of true pairs.
@@ -254,8 +273,7 @@ pub fn update(
         × ((now (index .exit) ≡ indexAfter sizes (length (now (moves .entry))) (now (index .entry))) × (now (queue .exit) ≡ queueAfter sizes (now (queue .entry)))) ⌝ }
 {
     let p = limits::pairs_of(sizes);
-    let before = engine_values::count_true(values, p);
-    let visits = move_in_rooms(
+    let turns = move_in_rooms(
         sizes,
         labels,
         equations,
@@ -268,10 +286,10 @@ pub fn update(
         index,
         queue,
     );
-    let after = engine_values::count_true(values, p);
+    let visits = turns.visits;
     Effects {
         visits: visits,
-        net: engine_values::net(before, after),
+        net: engine_values::net(p, turns.level),
     }
 }
 

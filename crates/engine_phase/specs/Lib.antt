@@ -5,3 +5,4 @@ pub mod Phase
 pub mod PutRow
 pub mod LookRow
 pub mod NextRow
+pub mod Levels

@@ -29,6 +29,7 @@ ghost use Rattle.engine_rows.specs.Rooms.{Bits, Packed, pileIn, Tells, Told};
 ghost use Rattle.engine_phase.specs.Phase.{RowLeft, Somewhere, Leads, jobIn, blockAfter};
 ghost use Rattle.engine_phase.specs.PutRow.{turnsIn, turnsFrom};
 ghost use Rattle.engine_phase.specs.NextRow.{NextOf};
+ghost use Rattle.engine_phase.specs.Levels.{Counted, Level, Levelled};
 
 // The pairs of the row of y that have the value `from` and whose places are bad get their marks and wait.
 fn put_row(
@@ -232,8 +233,25 @@ fn first_value(sizes: Sizes, values: &[u8], queue: &[u16]) -> u8
     rooms::byte_at(values, p)
 }
 
+// What a phase counts: the visits of its kind, and a level that follows the number of true pairs.
+pub struct Counts {
+    pub visits: usize,
+    pub level: usize,
+}
+
+// The level after so many pairs have turned from the value `from`: true pairs fall, false ones rise.
+fn levelled(level: usize, from: u8, turned: usize) -> usize
+    requires { ⌜ (eqb from 1 ≡ true → turned ≤ level) × (eqb from 1 ≡ false → level + turned < 4294967296) ⌝ }
+    ensures { λ r. ⌜ Counted from turned level r ⌝ }
+{
+    if from == 1 {
+        return level - turned;
+    }
+    level + turned
+}
+
 // One phase of the block: all its rows are looked at, and then each pair that waits turns. All of them turn from the same value.
-// Answers the visits of the phase's kind.
+// Answers the visits of the phase's kind and the level.
 pub fn phase(
     sizes: Sizes,
     labels: &[u32],
@@ -249,15 +267,17 @@ pub fn phase(
     bad: &mut [u8],
     block: usize,
     visits: usize,
+    level: usize,
     settling: bool,
-) -> usize
+) -> Counts
     requires { ⌜ Drawn (tableIn sizes (now labels) (now equations) (now moves)) ⌝ }
     requires { ⌜ (Indexed (tableIn sizes (now labels) (now equations) (now moves)) (now index) × Named (tableIn sizes (now labels) (now equations) (now moves)) (now named) (now operand)) × (changesOk sizes (changesOf (now changes)) ≡ true) ⌝ }
     requires { ⌜ (block < blocksOf (modelOf (tableIn sizes (now labels) (now equations) (now moves)))) × ((length (now bad) ≡ sizes .states) × (pairsOf sizes < length (now queue))) ⌝ }
     requires { ⌜ Somewhere {I = ℕ} (tableIn sizes (now labels) (now equations) (now moves)) (changesOf (now changes)) (λ other. jobIn sizes block settling 0 (now values) (now marks) (now queue) 0 0 visits other) ⌝ }
+    requires { ⌜ Level sizes level (now values) ⌝ }
     ensures { λ r. ⌜ Leads {I = ℕ} (tableIn sizes (now (labels .entry)) (now (equations .entry)) (now (moves .entry))) (changesOf (now (changes .entry)))
         (λ other. jobIn sizes block settling 0 (now (values .entry)) (now (marks .entry)) (now (queue .entry)) 0 0 visits other)
-        (λ other. jobIn sizes (blockAfter settling block) (not settling) 0 (now (values .exit)) (now (marks .exit)) (now (queue .exit)) 0 0 other r) ⌝ }
+        (λ other. jobIn sizes (blockAfter settling block) (not settling) 0 (now (values .exit)) (now (marks .exit)) (now (queue .exit)) 0 0 other (r .visits)) × Levelled sizes level (now (values .entry)) (r .level) (now (values .exit)) ⌝ }
 {
     let tail = look_rows(
         sizes,
@@ -297,5 +317,10 @@ pub fn phase(
         );
         front = front + 1;
     }
-    at.visits
+    let counted = at.visits;
+    let reached = levelled(level, from, front);
+    Counts {
+        visits: counted,
+        level: reached,
+    }
 }

@@ -93,8 +93,8 @@ returns c =
     let at-move = at-clear .before .before .before .before .before .before .before .before .before .before in
     let moved = at-move .move-in-rooms .ensures in (
       (
-        load-leaves m ok (a .values .now) _ (rooms .0) is-own (a .marks .now) _ _ _ _ (moved .0),
-        load-clears m ok (a .values .now) _ (rooms .0) is-own (a .marks .now) _ _ _ _ _ (at-pairs .pairs-of .result) (moved .0) is-pairs (at-clear .clear .ensures),
+        load-leaves m ok (a .values .now) _ (rooms .0) is-own (a .marks .now) _ _ _ _ _ (moved .0),
+        load-clears m ok (a .values .now) _ (rooms .0) is-own (a .marks .now) _ _ _ _ _ _ (at-pairs .pairs-of .result) (moved .0) is-pairs (at-clear .clear .ensures),
       ),
       moved .1,
     )

@@ -177,7 +177,7 @@ returns c =
     let at-turn = c .before .before .before .before .before .before .before .before in
     let m = tableOf (a .sizes) (a .labels .now) (a .equations .now) (a .moves .now) (a .n) in
     let cs = changesOf (take (a .count) (a .changes .now)) in
-    moved-in m cs (a .values .now) (a .marks .now) (at-clear .clear .last .0) (at-pairs .pairs-of .result) _ _ _ _ is-pairs (at-clear .clear .ensures) (at-turn .index-and-turn .ensures)
+    moved-in m cs (a .values .now) (a .marks .now) (at-clear .clear .last .0) (at-pairs .pairs-of .result) _ _ _ _ _ is-pairs (at-clear .clear .ensures) (at-turn .index-and-turn .ensures)
 
 pub move-values-spec : {M : Type 1} → statement M
 move-values-spec =

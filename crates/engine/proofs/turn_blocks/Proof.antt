@@ -1,5 +1,5 @@
--- Block after block: the lists stay on the course of the update from the first values, at the first pair of block i. The blocks left are
--- counted down. Assumes nothing.
+-- Block after block: the lists stay on the course of the update from the first values, at the first pair of block i, and the level follows
+-- the number of true pairs. The blocks left are counted down. Assumes nothing.
 use mathlib.Core.Path.{_≡_, refl, sym, _∙_, subst}
 use mathlib.Core.Bool.{false}
 use mathlib.Core.List.{List, map}
@@ -7,9 +7,11 @@ use Prim.Native.Nat.{ℕ, _-_, _≤_}
 use native.Mathlib.Omega.{arith}
 use lib.ListN.{length, length-map}
 use Rattle.rules.specs.Model.{blocksOf}
+use Rattle.rules.specs.Rooms.{pairsOf}
 use Rattle.words.specs.Table.{tableIn, modelOf, changesOf, waiter}
 use Rattle.engine_phase.specs.Course.{On, on-begins, on-ends, on-few}
 use Rattle.engine_phase.specs.Phase.{jobIn}
+use Rattle.engine_phase.specs.Levels.{Levelled, level-of, levelled-on}
 use borrow.Author.Needs.{needs}
 use Rattle.engine.proofs.turn_blocks.Statement.{statement}
 use Rattle.engine.proofs.turn_blocks.Tie as tie
@@ -19,12 +21,13 @@ use Rattle.engine_phase.proofs.phase.Reads as phase-reads
 use Rattle.engine_values.proofs.count_blocks.Reads as count-blocks-reads
 
 abbrev Inv-loop : tie.InvT-loop
-Inv-loop sizes labels equations moves index named operand changes values₀ marks₀ queue₀ bad₀ blocks shifts₀ settles₀ i₀ values marks queue bad shifts settles i =
+Inv-loop sizes labels equations moves index named operand changes values₀ marks₀ queue₀ bad₀ blocks shifts₀ settles₀ level₀ i₀ values marks queue bad shifts settles level i =
     ((i ≤ blocksOf (modelOf (tableIn sizes labels equations moves))) × ((length values ≡ length values₀) × ((length marks ≡ length marks₀) × ((length queue ≡ length queue₀) × (length bad ≡ length bad₀)))))
-    × On (tableIn sizes labels equations moves) (changesOf changes) values₀ (jobIn sizes i false 0 values marks queue 0 0 shifts settles)
+    × (On (tableIn sizes labels equations moves) (changesOf changes) values₀ (jobIn sizes i false 0 values marks queue 0 0 shifts settles)
+    × Levelled sizes (pairsOf sizes) values₀ level values)
 
 abbrev μ-loop : tie.MeasureT-loop
-μ-loop sizes labels equations moves index named operand changes values₀ marks₀ queue₀ bad₀ blocks shifts₀ settles₀ i₀ values marks queue bad shifts settles i =
+μ-loop sizes labels equations moves index named operand changes values₀ marks₀ queue₀ bad₀ blocks shifts₀ settles₀ level₀ i₀ values marks queue bad shifts settles level i =
     blocksOf (modelOf (tableIn sizes labels equations moves)) - i
 
 count-blocks-requires : tie.Need-count-blocks-requires Inv-loop μ-loop
@@ -38,8 +41,11 @@ loop-holds c =
     let pre = at-start .pre in
     let room = pre .1 .1 .0 .1 in (
       (omega arith, (refl, (refl, (refl, refl)))),
-      subst (λ (ms : List ℕ). On t (changesOf (a .changes .now)) (a .values .now) (jobIn (a .sizes) 0 false 0 (a .values .now) ms (a .queue .now) 0 0 0 0)) (sym (pre .1 .1 .1 .1))
-          (on-begins (pre .1 .1 .1 .0) (map (waiter (a .sizes)) (a .queue .now)) (let e = length-map (a .queue .now) (waiter (a .sizes)) in omega arith)),
+      (
+        subst (λ (ms : List ℕ). On t (changesOf (a .changes .now)) (a .values .now) (jobIn (a .sizes) 0 false 0 (a .values .now) ms (a .queue .now) 0 0 0 0)) (sym (pre .1 .1 .1 .1))
+            (on-begins (pre .1 .1 .1 .0) (map (waiter (a .sizes)) (a .queue .now)) (let e = length-map (a .queue .now) (waiter (a .sizes)) in omega arith)),
+        let l = pre .1 .1 .1 .0 .long in omega arith,
+      ),
     )
 
 phase-requires : tie.Need-phase-requires Inv-loop μ-loop
@@ -52,7 +58,7 @@ phase-requires c κs =
     let inv = l .inv in
     let taken = c .before .before .before .before .loop-test .taken in
     let count = at-blocks .count-blocks .ensures in
-    (pre .0, (pre .1 .0, ((omega arith, (inv .0 .1 .1 .1 .1 ∙ pre .1 .1 .0 .0, omega (arith, inv .0 .1 .1 .1 .0, pre .1 .1 .0 .1))), record { start = at-start .args .values .now; index = l .settles; on = inv .1 })))
+    (pre .0, (pre .1 .0, ((omega arith, (inv .0 .1 .1 .1 .1 ∙ pre .1 .1 .0 .0, omega (arith, inv .0 .1 .1 .1 .0, pre .1 .1 .0 .1))), (record { start = at-start .args .values .now; index = l .settles; on = inv .1 .0 }, level-of (at-start .args .sizes) (l .level) (at-start .args .values .now) (l .values) (inv .1 .1)))))
 
 phase-requires-2 : tie.Need-phase-requires-2 Inv-loop μ-loop
 phase-requires-2 c κs =
@@ -72,13 +78,21 @@ phase-requires-2 c κs =
         pre .1 .0,
         (
           (omega arith, (kept .1 .1 .1 .1 .1 .1 .1 .1 .1 .1 .1 .0 ∙ inv .0 .1 .1 .1 .1 ∙ pre .1 .1 .0 .0, omega (arith, kept .1 .1 .1 .1 .1 .1 .1 .1 .1 .1 .0, inv .0 .1 .1 .1 .0, pre .1 .1 .0 .1))),
-          record { start = at-start .args .values .now; index = first .result; on = first .ensures (at-start .args .values .now) (l .settles) (inv .1) },
+          (
+            record { start = at-start .args .values .now; index = first .result .visits; on = first .ensures .0 (at-start .args .values .now) (l .settles) (inv .1 .0) },
+            level-of (at-start .args .sizes) (first .result .level) (at-start .args .values .now) (first .last .1 .1 .1 .1 .1 .1 .1 .1 .0)
+                (levelled-on (at-start .args .sizes) (pairsOf (at-start .args .sizes)) (l .level) (first .result .level) (at-start .args .values .now) (l .values) (first .last .1 .1 .1 .1 .1 .1 .1 .1 .0) (inv .1 .1) (first .ensures .1)),
+          ),
         ),
       ),
     )
 
 add-i : tie.Need-add-i Inv-loop μ-loop
-add-i c = search needs
+add-i c =
+    let at-second = c .before .before .before .before .before .before .before .before in
+    let at-phase = at-second .before .before .before .before .before .before .before .before .before .before .before .before .before in
+    let at-test = at-phase .before .before .before .before .before in
+    omega (arith, at-test .loop-test .taken)
 
 loop-less : tie.Need-loop-less Inv-loop μ-loop
 loop-less c =
@@ -110,7 +124,11 @@ loop-again c =
     let second = at-second .phase2 in
     let a = at-start .args in (
       (omega arith, (second .kept .1 .1 .1 .1 .1 .1 .1 .1 .0 ∙ first .kept .1 .1 .1 .1 .1 .1 .1 .1 .0 ∙ inv .0 .1 .0, (second .kept .1 .1 .1 .1 .1 .1 .1 .1 .1 .0 ∙ first .kept .1 .1 .1 .1 .1 .1 .1 .1 .1 .0 ∙ inv .0 .1 .1 .0, (second .kept .1 .1 .1 .1 .1 .1 .1 .1 .1 .1 .0 ∙ first .kept .1 .1 .1 .1 .1 .1 .1 .1 .1 .1 .0 ∙ inv .0 .1 .1 .1 .0, second .kept .1 .1 .1 .1 .1 .1 .1 .1 .1 .1 .1 .0 ∙ first .kept .1 .1 .1 .1 .1 .1 .1 .1 .1 .1 .1 .0 ∙ inv .0 .1 .1 .1 .1)))),
-      second .ensures (a .values .now) (first .result) (first .ensures (a .values .now) (l .settles) (inv .1)),
+      (
+        second .ensures .0 (a .values .now) (first .result .visits) (first .ensures .0 (a .values .now) (l .settles) (inv .1 .0)),
+        levelled-on (a .sizes) (pairsOf (a .sizes)) (first .result .level) (second .result .level) (a .values .now) (first .last .1 .1 .1 .1 .1 .1 .1 .1 .0) (second .last .1 .1 .1 .1 .1 .1 .1 .1 .0)
+            (levelled-on (a .sizes) (pairsOf (a .sizes)) (l .level) (first .result .level) (a .values .now) (l .values) (first .last .1 .1 .1 .1 .1 .1 .1 .1 .0) (inv .1 .1) (first .ensures .1)) (second .ensures .1),
+      ),
     )
 
 cast-shift : tie.Need-cast-shift Inv-loop μ-loop
@@ -121,7 +139,7 @@ cast-shift c =
     let pre = at-start .pre in
     let l = at-loop .loop in
     let inv = l .inv in
-    let few = on-few (pre .0) (jobIn (at-start .args .sizes) (l .i) false 0 (l .values) (l .marks) (l .queue) 0 0 (l .shifts) (l .settles)) (inv .1) in
+    let few = on-few (pre .0) (jobIn (at-start .args .sizes) (l .i) false 0 (l .values) (l .marks) (l .queue) 0 0 (l .shifts) (l .settles)) (inv .1 .0) in
     record { fits = omega (arith, few .0) }
 
 cast-settle : tie.Need-cast-settle Inv-loop μ-loop
@@ -132,7 +150,7 @@ cast-settle c =
     let pre = at-start .pre in
     let l = at-loop .loop in
     let inv = l .inv in
-    let few = on-few (pre .0) (jobIn (at-start .args .sizes) (l .i) false 0 (l .values) (l .marks) (l .queue) 0 0 (l .shifts) (l .settles)) (inv .1) in
+    let few = on-few (pre .0) (jobIn (at-start .args .sizes) (l .i) false 0 (l .values) (l .marks) (l .queue) 0 0 (l .shifts) (l .settles)) (inv .1 .0) in
     record { fits = omega (arith, few .1) }
 
 same-length : tie.Need-same-length Inv-loop μ-loop
@@ -157,8 +175,8 @@ returns c =
     let inv = l .inv in
     let count = at-blocks .count-blocks .ensures in
     let over = c .loop-test .left in
-    let ended = on-ends (jobIn (at-start .args .sizes) (l .i) false 0 (l .values) (l .marks) (l .queue) 0 0 (l .shifts) (l .settles)) (inv .1) (omega arith) refl refl in
-    record { values-are = ended .values; marks-are = ended .marks; shift-is = ended .shift; settle-is = ended .settle }
+    let ended = on-ends (jobIn (at-start .args .sizes) (l .i) false 0 (l .values) (l .marks) (l .queue) 0 0 (l .shifts) (l .settles)) (inv .1 .0) (omega arith) refl refl in
+    (record { values-are = ended .values; marks-are = ended .marks; shift-is = ended .shift; settle-is = ended .settle }, inv .1 .1)
 
 pub turn-blocks-spec : {M : Type 1} → statement M
 turn-blocks-spec =
