@@ -30,6 +30,7 @@ use Rattle.words.specs.Table.{Table, modelOf, Drawn, wordAt, ownIn, waiter}
 use Rattle.words.specs.EquationWords.{own-word}
 use Rattle.words.specs.Limits.{limits, pairs-few}
 use Rattle.engine_rows.specs.Rooms.{Bits, Packed, pileIn}
+use Rattle.engine_rows.specs.Queued.{hits-none}
 use Rattle.engine_turn.specs.Scene.{sketch, Bounded}
 use Rattle.engine_turn.specs.Turns.{Visit, visited, RoomFor, Turned, roundOf}
 use Rattle.engine_turn.specs.TurnRuns.{bit-of, leaners-same}
@@ -70,11 +71,6 @@ pub record RowLeft (z : Sizes) (f : ℕ → Bool) (settling : Bool) (p n : ℕ) 
   pub packed : Packed z queue tail
 
 module _ (f : ℕ → Bool) (next : ℕ → ℕ) (p : ℕ) where
-  hits-none : (n : ℕ) → ((s : ℕ) → s < n → f (p + s) ≡ false) → hits f p n ≡ []
-  hits-none zero h = refl
-  hits-none (suc n) h =
-      ap (λ (b : Bool). hits f p n ++ cond b ((p + n) ∷ []) []) (h n (omega arith)) ∙ append-nil (hits f p n) ∙ hits-none n (λ s l. h s (omega arith))
-
   marks-none : (n : ℕ) (ms : List ℕ) → ((s : ℕ) → s < n → f (p + s) ≡ false) → rowMarks f next p n ms ≡ ms
   marks-none zero ms h = refl
   marks-none (suc n) ms h =
@@ -87,8 +83,8 @@ pub row-none : (z : Sizes) (f : ℕ → Bool) (settling : Bool) (p n : ℕ) (mar
     → RowLeft z f settling p n marks queue tail marks queue tail
 row-none z f settling p n marks queue tail h packed = record {
   marks-are = sym (marks-none f (nextMark settling) p n marks h);
-  tail-is = let e = ap length (hits-none f (nextMark settling) p n h) in omega arith;
-  waits = sym (ap (λ (l : List ℕ). between (map (waiter z) queue) 0 tail ++ l) (hits-none f (nextMark settling) p n h) ∙ append-nil (between (map (waiter z) queue) 0 tail));
+  tail-is = let e = ap length (hits-none f p n h) in omega arith;
+  waits = sym (ap (λ (l : List ℕ). between (map (waiter z) queue) 0 tail ++ l) (hits-none f p n h) ∙ append-nil (between (map (waiter z) queue) 0 tail));
   packed = packed;
 }
 

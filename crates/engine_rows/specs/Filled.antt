@@ -8,6 +8,7 @@ use native.Mathlib.Omega.{arith}
 use lib.ListN.{length, getD, set, length-set, replicate, length-replicate, getD-replicate, List·getD-eq-default}
 use mir.Val.{boolByte}
 use lib.Seq.{getD-set-same, getD-set-other, ext-getD}
+use Rattle.words.specs.Bits.{byte-bit}
 use Rattle.lists.specs.Lists.{bit, listed, someBelow}
 use Rattle.lists.specs.TableLaws.{listed-is, listed-length}
 use Rattle.lists.specs.Tests.{or-no}
@@ -18,11 +19,6 @@ pub record Filled (n : ℕ) (f : ℕ → ℕ) (room l : List ℕ) : Type 0 where
   pub long : length l ≡ length room
   pub done : (p : ℕ) → p < n → getD l p 0 ≡ f p
   pub rest : (p : ℕ) → n ≤ p → getD l p 0 ≡ getD room p 0
-
--- A truth value as a byte is its bit.
-pub byte-bit : (x : Bool) → boolByte x ≡ bit x
-byte-bit true = refl
-byte-bit false = refl
 
 -- Nothing is written at the start.
 pub filled-none : (f : ℕ → ℕ) (room : List ℕ) → Filled 0 f room room

@@ -13,7 +13,8 @@ use lib.Seq.{take-suc, take-suc-set, take-set-le, length-take-le, drop-drop, get
 use lib.Dec.{eqb}
 use Rattle.lists.specs.Lists.{listed, someBelow}
 use Rattle.lists.specs.TableLaws.{listed-is, listed-length}
-use Rattle.lists.specs.Tests.{tell, or-no, eqb-is, eqb-no}
+use Rattle.lists.specs.Ranges.{some-no}
+use Rattle.lists.specs.Tests.{tell, eqb-is, eqb-no}
 use Rattle.systems.specs.Machine.{nextMark}
 use Rattle.systems.specs.ListMachine.{between}
 use Rattle.systems.specs.Fair.{between-split}
@@ -58,14 +59,14 @@ some-more f p n s m any es em e =
     ap (λ (b : Bool). b || f s) e ∙ ap (λ (k : ℕ). someBelow n (λ i. f (p + i)) || f k) es ∙ ap (λ (k : ℕ). someBelow k (λ i. f (p + i))) (sym em)
 
 -- Places of which none must turn.
-hits-none : (f : ℕ → Bool) (p n : ℕ) → someBelow n (λ i. f (p + i)) ≡ false → hits f p n ≡ []
-hits-none f p zero e = refl
-hits-none f p (suc n) e = let o = or-no (someBelow n (λ i. f (p + i))) (f (p + n)) .0 e in hits-no f p n (o .1) ∙ hits-none f p n (o .0)
+pub hits-none : (f : ℕ → Bool) (p n : ℕ) → ((s : ℕ) → s < n → f (p + s) ≡ false) → hits f p n ≡ []
+hits-none f p zero h = refl
+hits-none f p (suc n) h = hits-no f p n (h n (omega arith)) ∙ hits-none f p n (λ s l. h s (omega arith))
 
 -- Places of which none must turn are passed over.
 pub queued-over : (y : ℕ) (g : ℕ → Bool) (before : List ℕ) (tail p n : ℕ) → someBelow n (λ i. g (p + i)) ≡ false → Queued y g before tail p n tail before
 queued-over y g before tail p n none =
-    let miss = hits-none g p n none in
+    let miss = hits-none g p n (some-no n (λ i. g (p + i)) none) in
     record {
       long = refl;
       reaches = rw miss (sym (add-zero tail));

@@ -162,11 +162,7 @@ own-filled z labels equations moves n d room =
     (listed-same 0 (pairsOf z) (λ p. bit (eqb (kindIn z equations p) 1)) (λ p. bit (own (frame m) p))
     (λ p h. ap bit (sym (own-kind z labels equations moves n d p (omega arith)))))
 
--- A truth value as a byte.
-pub byte-bit : (b : Bool) → boolByte b ≡ bit b
-byte-bit true = refl
-byte-bit false = refl
-
+-- A truth value as a byte is small.
 pub byte-small : (b : Bool) → boolByte b ≤ 1
 byte-small true = omega arith
 byte-small false = omega arith

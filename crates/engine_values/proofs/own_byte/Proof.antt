@@ -5,7 +5,7 @@ use lib.ListN.{getD}
 use lib.Dec.{eqb}
 use mir.Val.{boolByte}
 use Rattle.rules.specs.Session.{unword}
-use Rattle.engine_values.specs.Starts.{byte-bit}
+use Rattle.words.specs.Bits.{byte-bit}
 use borrow.Author.Needs.{needs}
 use Rattle.engine_values.proofs.own_byte.Statement.{statement}
 use Rattle.engine_values.proofs.own_byte.Tie as tie
