@@ -1,9 +1,12 @@
 -- What stays inside the rooms. Assumes nothing.
-use mathlib.Core.Path.{_≡_, refl, ap, _∙_}
+use mathlib.Core.Path.{_≡_, refl, sym, ap, _∙_}
+use mathlib.Core.Bool.{Bool, true, false, not}
 use Prim.Native.Nat.{ℕ, _+_, _*_, _/_, _≤_, _<_}
 use native.Mathlib.Nat.{add-mul-div-right, div-eq-of-lt}
 use native.Mathlib.Omega.{arith}
 use lib.ListN.{length, getD}
+use lib.Dec.{ltb}
+use Rattle.lists.specs.Tests.{not-not, ltb-out, ltb-no}
 use Rattle.rules.specs.Moves.{source, action, target}
 use Rattle.words.specs.Table.{ReadsAs}
 use Rattle.words.specs.Limits.{move-inside}
@@ -33,9 +36,18 @@ module _ {c : Scene} (g : Standing c) where
   source-inside j h = move-inside (g .drawn) j h .0
 
   -- A move of the chain of a head of y is one of y's own at its source.
-  pub along-chain : (y head j : ℕ) → HeadOf c y head → j < length (c .moves) → keyOf (c .sizes) (getD (c .moves) j 0) ≡ head → Along c y (source (getD (c .moves) j 0)) j
-  along-chain y head j d h e six =
-      (h, (refl, same-multiple (c .sizes .states) (action (getD (c .moves) j 0)) (equationOf c y .first) (target (getD (c .moves) j 0)) (d .into) (targets-inside j h) (d .low) (e ∙ d .is)))
+  pub along-chain : (y head j : ℕ) → HeadOf c y head → j < length (c .moves) → keyOf (c .sizes) (getD (c .moves) j 0) ≡ head → Along c true y (source (getD (c .moves) j 0)) j
+  along-chain y head j d h e = record {
+    told = sym (d .step);
+    own = λ t. (h, (refl, same-multiple (c .sizes .states) (action (getD (c .moves) j 0)) (equationOf c y .first) (target (getD (c .moves) j 0)) (d .into) (targets-inside j h) (d .low) (e ∙ d .is)));
+  }
+
+  -- What `step` says, by the operator.
+  pub along-join : {step : Bool} {y s j : ℕ} → Along c step y s j → step ≡ false → equationOf c y .operator < 6
+  along-join {y = y} a e = ltb-out (equationOf c y .operator) 6 (sym (not-not (ltb (equationOf c y .operator) 6)) ∙ ap not (sym (a .told) ∙ e))
+
+  pub along-step : {step : Bool} {y s j : ℕ} → Along c step y s j → step ≡ true → 6 ≤ equationOf c y .operator
+  along-step {y = y} a e = ltb-no (equationOf c y .operator) 6 .0 (sym (not-not (ltb (equationOf c y .operator) 6)) ∙ ap not (sym (a .told) ∙ e))
 
   module _ {y s : ℕ} (l : Leaner c y s) (o a b i k : ℕ) (r : ReadsAs (equationOf c y) o a b i k) where
     at-least : 4 ≤ o

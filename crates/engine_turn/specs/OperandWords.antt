@@ -97,14 +97,11 @@ module _ {c : Scene} {o : ℕ} (p : OperandOf c o) where
   pairs-step s h = rw (is-step h, second-is h) refl
 
   -- A join has no moves, and the head of a step is that of its action.
-  pub join-along : (s j : ℕ) → o / 256 / 256 % 256 % 2 ≡ 0 → Along c y s j
-  join-along s j h six =
-      let k : bit (isStep e) ≡ 1 = ap (λ (b : Bool). bit (not b)) (ltb-no (e .operator) 6 .1 six) in
-      let m : bit (isStep e) ≡ 0 = ap bit (is-not h) in
-      absurd (omega arith)
+  pub join-along : (s j : ℕ) → o / 256 / 256 % 256 % 2 ≡ 0 → Along c false y s j
+  join-along s j h = record { told = sym (is-not h); own = λ t. let k = ap bit t in absurd (omega arith) }
 
   pub step-head : (s : ℕ) → s < c .sizes .states → (o / 256 / 256 % 256 % 2 ≡ 0 → ⊥) → (head : ℕ) → head ≡ o / 256 % 256 * c .sizes .states + s → HeadOf c y head
-  step-head s l h head is = record { into = s; low = l; is = is ∙ ap (λ (a : ℕ). a * c .sizes .states + s) (second-is h) }
+  step-head s l h head is = record { step = is-step h; into = s; low = l; is = is ∙ ap (λ (a : ℕ). a * c .sizes .states + s) (second-is h) }
 
   -- Its head is inside.
   pub head-inside : Standing c → (s : ℕ) → s < c .sizes .states → (o / 256 / 256 % 256 % 2 ≡ 0 → ⊥) → o / 256 % 256 * c .sizes .states + s < headsOf (c .sizes)

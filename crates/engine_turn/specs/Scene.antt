@@ -131,10 +131,10 @@ pub record Leaning (c : Scene) (easy : Bool) (y s : ℕ) : Type 0 where
   pub leaner : Leaner c y s
   pub told : easy ≡ eqb (easyBit (equationOf c y)) 1
 
--- Where y is a diamond or a box, the move at j is one of its own at s.
-abbrev pub Along : Scene → ℕ → ℕ → ℕ → Type 0
-Along c y s j =
-    6 ≤ equationOf c y .operator → (j < length (c .moves)) × ((source (getD (c .moves) j 0) ≡ s) × (action (getD (c .moves) j 0) ≡ equationOf c y .first))
+-- `step` says whether y is a diamond or a box; where it is, the move at j is one of its own at s.
+pub record Along (c : Scene) (step : Bool) (y s j : ℕ) : Type 0 where
+  pub told : step ≡ isStep (equationOf c y)
+  pub own : step ≡ true → (j < length (c .moves)) × ((source (getD (c .moves) j 0) ≡ s) × (action (getD (c .moves) j 0) ≡ equationOf c y .first))
 
 -- y is a variable that leans on others, and `easy` says whether it is easy.
 pub record Leans (c : Scene) (easy : Bool) (y : ℕ) : Type 0 where
@@ -142,8 +142,9 @@ pub record Leans (c : Scene) (easy : Bool) (y : ℕ) : Type 0 where
   pub uses : 4 ≤ equationOf c y .operator
   pub told : easy ≡ eqb (easyBit (equationOf c y)) 1
 
--- The head is that of the chain of the moves by y's action into some state.
+-- y is a diamond or a box, and the head is that of the chain of the moves by its action into some state.
 pub record HeadOf (c : Scene) (y head : ℕ) : Type 0 where
+  pub step : isStep (equationOf c y) ≡ true
   pub into : ℕ
   pub low : into < c .sizes .states
   pub is : head ≡ equationOf c y .first * c .sizes .states + into

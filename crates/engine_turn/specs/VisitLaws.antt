@@ -54,6 +54,13 @@ module _ (c : Scene) where
         let m : (1024 * y + s) % 1024 ≡ s = omega arith in
         rw (d, m, e) refl
 
+    -- A pair that need not turn stays, whatever its mark.
+    pub visit-stays : (asked : Bool) → asked ≡ asksFor c ph y s → asked ≡ false
+        → lineOf marks queue tail (visits + 1) ≡ visitAll c ph (waitingOf y s ∷ []) (lineOf marks queue tail visits)
+    visit-stays asked f e =
+        ap (λ (n : ℕ). lineOf marks queue tail n) (add-one visits)
+        ∙ sym (one-by false (and-no (free ph (getD marks place 0)) (sym f ∙ e)))
+
     module _ (p mark : ℕ) (ready : Bool) (is-p : p ≡ place) (is-mark : mark ≡ getD marks p 0) (is-ready : ready ≡ free ph mark) where
       ready-at : ready ≡ free ph (getD marks place 0)
       ready-at = is-ready ∙ ap (free ph) (is-mark ∙ ap (λ (n : ℕ). getD marks n 0) is-p)
@@ -62,12 +69,6 @@ module _ (c : Scene) where
       visit-shut e =
           ap (λ (n : ℕ). lineOf marks queue tail n) (add-one visits)
           ∙ sym (one-by false (ap (λ (b : Bool). b && asksFor c ph y s) (sym ready-at ∙ e)))
-
-      pub visit-stays : (asked : Bool) → asked ≡ asksFor c ph y s → asked ≡ false
-          → lineOf marks queue tail (visits + 1) ≡ visitAll c ph (waitingOf y s ∷ []) (lineOf marks queue tail visits)
-      visit-stays asked f e =
-          ap (λ (n : ℕ). lineOf marks queue tail n) (add-one visits)
-          ∙ sym (one-by false (and-no (free ph (getD marks place 0)) (sym f ∙ e)))
 
       pub visit-waits : ready ≡ true → (asked : Bool) → asked ≡ asksFor c ph y s → asked ≡ true
           → (k w : ℕ) (q : List ℕ) → k ≡ nextMark ph mark → w ≡ waitingOf y s → q ≡ set queue tail w

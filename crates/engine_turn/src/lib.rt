@@ -20,7 +20,7 @@ ghost use Rattle.engine_rows.specs.Rooms.{Bits, Packed};
 ghost use Rattle.engine_index.specs.Indexed.{headsOf, Indexed};
 ghost use Rattle.engine_index.specs.Operands.{Named};
 ghost use Rattle.engine_turn.specs.Turns.{Sketched, FromValue, roundOf, RoomFor, Turned};
-ghost use Rattle.engine_turn.specs.Scene.{sceneOf, Standing, fails, asksFor, lineOf, visitAll, Leaner, Leaning, Along, Leans, HeadOf, OperandOf, Bounded, Room, sourcesIn, pairsBy, leanersIn, sketch};
+ghost use Rattle.engine_turn.specs.Scene.{sceneOf, Standing, hasFrom, fails, asksFor, lineOf, visitAll, Leaner, Leaning, Along, Leans, HeadOf, OperandOf, Bounded, Room, sourcesIn, pairsBy, leanersIn, sketch};
 
 // Where a run of visits stands: the end of the queue, and the number of visits so far.
 pub struct Spread {
@@ -45,25 +45,27 @@ fn next_mark(settling: bool, mark: u8) -> u8
     1 + 2 * settles - mark
 }
 
-// Has no operand of y at s, whose equation is easy, the value `from`? Of a diamond or a box j is one of its moves.
+// Has no operand of y at s, whose equation is easy, the value `from`? `step` says whether it is a diamond or a box, of which j is one
+// of its moves.
 fn easy_fails(
     sizes: Sizes,
     equations: &[u32],
     moves: &[u32],
     values: &[u8],
     from: u8,
+    step: bool,
     y: Variable,
     s: State,
     j: usize,
 ) -> bool
     requires { ⌜ Standing (sceneOf sizes (now equations) (now moves) (now values) from) ⌝ }
     requires { ⌜ Leaner (sceneOf sizes (now equations) (now moves) (now values) from) (y .0) (s .0) ⌝ }
-    requires { ⌜ Along (sceneOf sizes (now equations) (now moves) (now values) from) (y .0) (s .0) j ⌝ }
+    requires { ⌜ Along (sceneOf sizes (now equations) (now moves) (now values) from) step (y .0) (s .0) j ⌝ }
     ensures { λ r. ⌜ r ≡ fails (sceneOf sizes (now (equations .entry)) (now (moves .entry)) (now (values .entry)) from) (y .0) (s .0) ⌝ }
 {
     let at = y.0 as usize;
     let e = words::equation_in(equations[at]);
-    if e.operator < 6 {
+    if !step {
         let first = engine_own::has(sizes, values, from, Variable(e.first), s);
         let second = engine_own::has(sizes, values, from, Variable(e.second), s);
         return !first & !second;
@@ -71,7 +73,7 @@ fn easy_fails(
     !engine_own::leads_from(sizes, moves, values, from, Variable(e.second), j)
 }
 
-// Must the pair of y and s turn, where one that it leans on has turned?
+// Must the pair of y and s, which has the value `from`, turn where one that it leans on has turned?
 fn must_turn(
     sizes: Sizes,
     equations: &[u32],
@@ -80,26 +82,25 @@ fn must_turn(
     settling: bool,
     from: u8,
     easy: bool,
+    step: bool,
     y: Variable,
     s: State,
     j: usize,
 ) -> bool
     requires { ⌜ Standing (sceneOf sizes (now equations) (now moves) (now values) from) ⌝ }
     requires { ⌜ Leaning (sceneOf sizes (now equations) (now moves) (now values) from) easy (y .0) (s .0) ⌝ }
-    requires { ⌜ Along (sceneOf sizes (now equations) (now moves) (now values) from) (y .0) (s .0) j ⌝ }
+    requires { ⌜ Along (sceneOf sizes (now equations) (now moves) (now values) from) step (y .0) (s .0) j ⌝ }
+    requires { ⌜ hasFrom (sceneOf sizes (now equations) (now moves) (now values) from) (y .0) (s .0) ≡ true ⌝ }
     ensures { λ r. ⌜ r ≡ asksFor (sceneOf sizes (now (equations .entry)) (now (moves .entry)) (now (values .entry)) from) settling (y .0) (s .0) ⌝ }
 {
-    if engine_own::has(sizes, values, from, y, s) {
-        if settling & easy {
-            return easy_fails(sizes, equations, moves, values, from, y, s, j);
-        }
-        return true;
+    if settling & easy {
+        return easy_fails(sizes, equations, moves, values, from, step, y, s, j);
     }
-    false
+    true
 }
 
-// The pair of y and s is visited: it waits if its mark leaves it free and it must turn. A visit to a diamond or a box comes along
-// its move j.
+// The pair of y and s is visited: it waits if its mark leaves it free and it must turn. A visit to a diamond or a box, which `step`
+// says, comes along its move j.
 fn visit(
     sizes: Sizes,
     equations: &[u32],
@@ -111,6 +112,7 @@ fn visit(
     settling: bool,
     from: u8,
     easy: bool,
+    step: bool,
     y: Variable,
     s: State,
     j: usize,
@@ -118,7 +120,7 @@ fn visit(
     requires { ⌜ Standing (sceneOf sizes (now equations) (now moves) (now values) from) ⌝ }
     requires { ⌜ Leaning (sceneOf sizes (now equations) (now moves) (now values) from) easy (y .0) (s .0) ⌝ }
     requires { ⌜ (length (now marks) ≡ pairsOf sizes) × ((at .tail < 4294967296) × (at .visits < 4294967296)) ⌝ }
-    requires { ⌜ Along (sceneOf sizes (now equations) (now moves) (now values) from) (y .0) (s .0) j ⌝ }
+    requires { ⌜ Along (sceneOf sizes (now equations) (now moves) (now values) from) step (y .0) (s .0) j ⌝ }
     requires { ⌜ Room (sceneOf sizes (now equations) (now moves) (now values) from) settling (waitingOf (y .0) (s .0) ∷ []) (lineOf (now marks) (now queue) (at .tail) (at .visits)) ⌝ }
     ensures { λ r. ⌜ lineOf (now (marks .exit)) (now (queue .exit)) (r .tail) (r .visits)
         ≡ visitAll (sceneOf sizes (now (equations .entry)) (now (moves .entry)) (now (values .entry)) from) settling (waitingOf (y .0) (s .0) ∷ [])
@@ -127,27 +129,30 @@ fn visit(
     let tail = at.tail;
     let count = at.visits + 1;
     let p = limits::pair_of(sizes, s, y);
-    let mark = marks[p];
-    if is_free(settling, mark) {
-        if must_turn(
-            sizes,
-            equations,
-            moves,
-            values,
-            settling,
-            from,
-            easy,
-            y,
-            s,
-            j,
-        ) {
-            marks[p] = next_mark(settling, mark);
-            queue[tail] = words::waiting(y, s);
-            let end = tail + 1;
-            return Spread {
-                tail: end,
-                visits: count,
-            };
+    if values[p] == from {
+        let mark = marks[p];
+        if is_free(settling, mark) {
+            if must_turn(
+                sizes,
+                equations,
+                moves,
+                values,
+                settling,
+                from,
+                easy,
+                step,
+                y,
+                s,
+                j,
+            ) {
+                marks[p] = next_mark(settling, mark);
+                queue[tail] = words::waiting(y, s);
+                let end = tail + 1;
+                return Spread {
+                    tail: end,
+                    visits: count,
+                };
+            }
         }
     }
     Spread {
@@ -218,6 +223,7 @@ fn visit_sources(
             settling,
             from,
             easy,
+            true,
             y,
             here,
             j,
@@ -266,6 +272,7 @@ fn visit_operand(
             settling,
             from,
             easy,
+            false,
             Variable(y),
             s,
             0,

@@ -1,5 +1,6 @@
 -- The chain of a head, walked to its end. Assumes nothing.
 use mathlib.Core.Path.{_≡_, sym, ap, _∙_, subst}
+use mathlib.Core.Bool.{true}
 use mathlib.Core.List.{[], _∷_}
 use Prim.Native.Nat.{ℕ, suc, _+_, _-_, _<_}
 use native.Mathlib.Omega.{arith}
@@ -93,7 +94,7 @@ visit-requires c κs =
     let leaning : Leaning scene (a .easy) (a .y .0) (at-source-of .source-of .result .0) = record { leaner = record { variable = s .variable; state = i; uses = s .uses }; told = s .told } in
     let b = chain-room (keyOf (a .sizes)) (a .moves .now) (a .head) (sourceOf (a .moves .now) (a .y .0)) scene (a .settling) (length (a .moves .now)) v (l .k) (l .k - 1) (lineOf (l .marks) (l .queue) (l .s .tail) (l .s .visits)) (l .inv) up (at-start .pre .1 .1 .1 .0 .1 .1) in
     let at = chain-at (keyOf (a .sizes)) (a .moves .now) (a .head) (sourceOf (a .moves .now) (a .y .0)) scene (a .settling) (length (a .moves .now)) v (l .k) (l .k - 1) (lineOf (l .marks) (l .queue) (l .s .tail) (l .s .visits)) (l .inv) up in
-    let along = subst (λ (n : ℕ). Along scene (a .y .0) n (l .k - 1)) (sym e) (along-chain (at-start .pre .0) (a .y .0) (a .head) (l .k - 1) (at-start .pre .1 .1 .0 .1) (omega (arith, l .inv .below, at-loop-test .loop-test .taken)) at) in
+    let along = subst (λ (n : ℕ). Along scene true (a .y .0) n (l .k - 1)) (sym e) (along-chain (at-start .pre .0) (a .y .0) (a .head) (l .k - 1) (at-start .pre .1 .1 .0 .1) (omega (arith, l .inv .below, at-loop-test .loop-test .taken)) at) in
     let fits = chain-fits (keyOf (a .sizes)) (a .moves .now) (a .head) (sourceOf (a .moves .now) (a .y .0)) scene (a .settling) (length (a .moves .now)) v (l .k) (l .k - 1) (lineOf (l .marks) (l .queue) (l .s .tail) (l .s .visits)) (l .inv) up (at-start .pre .1 .1 .1 .1) in
     let room = subst (λ (n : ℕ). Room scene (a .settling) (waitingOf (a .y .0) n ∷ []) (lineOf (l .marks) (l .queue) (l .s .tail) (l .s .visits))) (sym e) fits in
     (at-start .pre .0, (leaning, ((l .inv .long-marks ∙ at-start .pre .1 .1 .1 .0 .1 .0, (omega (arith, b .0), omega (arith, b .1))), (along, room))))
