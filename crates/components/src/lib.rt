@@ -9,7 +9,7 @@ ghost use lib.ListN.{getD, length};
 ghost use Rattle.lists.specs.Lists.{bit, fill, mask, lowest};
 ghost use Rattle.rules.specs.Model.{guilty, placed};
 ghost use Rattle.rules.specs.Session.{word, unword};
-ghost use Rattle.components.specs.Reaching.{rowOf, Round, Reaches};
+ghost use Rattle.components.specs.Reaching.{rowOf, Round, Reaches, sameSets};
 ghost use Rattle.components.specs.Numbering.{standsBy, componentBy, guiltyBy, lowerBy, lowestBy, numbersBy};
 ghost use Rattle.components.specs.Stored.{held, chainsOk};
 ghost use Rattle.laws.specs.Placed.{withBlock};
@@ -51,7 +51,31 @@ fn round(equations: &[u32], n: usize, old: &[u32], new: &mut [u32])
     }
 }
 
-// What each of n variables leads to: n + 1 rounds suffice.
+// Whether a round has left all sets as they were.
+fn same(old: &[u32; 32], new: &[u32; 32]) -> bool
+    ensures { λ r. ⌜ r ≡ sameSets (now (old .entry)) (now (new .entry)) 32 ⌝ }
+{
+    let mut x: usize = 0;
+    let mut still = true;
+    while x < 32 {
+        still = still & (old[x] == new[x]);
+        x = x + 1;
+    }
+    still
+}
+
+// How many rounds the sets stand for after one more than k: all, where the round has left them as they were.
+fn counted(n: usize, k: usize, still: bool) -> usize
+    requires { ⌜ (n ≤ 32) × (k ≤ n) ⌝ }
+    ensures { λ r. ⌜ (r ≡ cond still (n + 1) (k + 1)) × (k < r) × (r ≤ n + 1) ⌝ }
+{
+    if still {
+        return n + 1;
+    }
+    k + 1
+}
+
+// What each of n variables leads to: n + 1 rounds suffice, and the first that changes nothing is the last.
 pub fn reaches(equations: &[u32], n: usize) -> [u32; 32]
     requires { ⌜ n ≤ 32 ⌝ }
     ensures { λ r. ⌜ Reaches (now (equations .entry)) n r ⌝ }
@@ -61,8 +85,8 @@ pub fn reaches(equations: &[u32], n: usize) -> [u32; 32]
     while k <= n {
         let mut new = [0u32; 32];
         round(equations, n, &old, &mut new);
+        k = counted(n, k, same(&old, &new));
         old = new;
-        k = k + 1;
     }
     old
 }
