@@ -46,7 +46,7 @@ fn round(equations: &[u32], n: usize, old: &[u32], new: &mut [u32])
 {
     let mut x: usize = 0;
     while x < n {
-        rooms::set_word(new, x, row(rooms::word_at(equations, x), x, old));
+        new[x] = row(rooms::word_at(equations, x), x, old);
         x = x + 1;
     }
 }
