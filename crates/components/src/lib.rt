@@ -164,24 +164,24 @@ fn kind_of(w: u32) -> u32
 }
 
 // Whether x is on a closed chain that holds both signs.
-fn is_guilty(equations: &[u32], reach: &[u32], n: usize, x: usize) -> bool
+fn is_guilty(equations: &[u32], reach: &[u32; 32], n: usize, x: usize) -> bool
+    requires { ⌜ (x < n) × (n ≤ 32) × (n ≤ length (now equations)) ⌝ }
     ensures { λ r. ⌜ r ≡ guiltyBy (now (equations .entry)) (now (reach .entry)) n x ⌝ }
 {
-    let kind = kind_of(rooms::word_at(equations, x));
-    let own = rooms::word_at(reach, x);
+    let kind = kind_of(equations[x]);
+    let own = reach[x];
     let mut y: usize = 0;
     let mut found = false;
     while y < n {
-        found = found
-            | ((own == rooms::word_at(reach, y)) & (kind != kind_of(rooms::word_at(equations, y))));
+        found = found | ((own == reach[y]) & (kind != kind_of(equations[y])));
         y = y + 1;
     }
     found
 }
 
 // The lowest of those up to x, where `best` is the lowest of those before x, or x.
-fn lower(equations: &[u32], reach: &[u32], n: usize, x: usize, best: usize) -> usize
-    requires { ⌜ x < 32 ⌝ }
+fn lower(equations: &[u32], reach: &[u32; 32], n: usize, x: usize, best: usize) -> usize
+    requires { ⌜ (x < n) × (n ≤ 32) × (n ≤ length (now equations)) ⌝ }
     ensures { λ r. ⌜ r ≡ lowerBy (now (equations .entry)) (now (reach .entry)) n x best ⌝ }
 {
     if best < x {
@@ -194,8 +194,8 @@ fn lower(equations: &[u32], reach: &[u32], n: usize, x: usize, best: usize) -> u
 }
 
 // The lowest equation on a closed chain that holds both signs; n where there is none.
-pub fn lowest_guilty(equations: &[u32], reach: &[u32], n: usize) -> usize
-    requires { ⌜ n ≤ 32 ⌝ }
+pub fn lowest_guilty(equations: &[u32], reach: &[u32; 32], n: usize) -> usize
+    requires { ⌜ (n ≤ 32) × (n ≤ length (now equations)) ⌝ }
     ensures { λ r. ⌜ r ≡ lowestBy (now (equations .entry)) (now (reach .entry)) n ⌝ }
 {
     let mut x: usize = 0;

@@ -8,9 +8,6 @@ use Rattle.components.proofs.chains_ok.Tie as tie
 reaches-requires : tie.Need-reaches-requires
 reaches-requires c κs = search needs
 
-slice-aggregate-lowest-guilty : tie.Need-slice-aggregate-lowest-guilty
-slice-aggregate-lowest-guilty c = search needs
-
 lowest-guilty-requires : tie.Need-lowest-guilty-requires
 lowest-guilty-requires c κs = search needs
 
@@ -29,7 +26,6 @@ chains-ok-spec =
     tie.close
     (tie.spec
     reaches-requires
-    slice-aggregate-lowest-guilty
     lowest-guilty-requires
     slice-aggregate-numbers-ok
     numbers-ok-requires
