@@ -92,14 +92,15 @@ pub fn reaches(equations: &[u32], n: usize) -> [u32; 32]
 }
 
 // Whether x stands for its component: no variable before x has the same reach.
-fn stands(reach: &[u32], x: usize) -> bool
+fn stands(reach: &[u32; 32], x: usize) -> bool
+    requires { ⌜ x < 32 ⌝ }
     ensures { λ r. ⌜ r ≡ standsBy (now (reach .entry)) x ⌝ }
 {
-    let own = rooms::word_at(reach, x);
+    let own = reach[x];
     let mut y: usize = 0;
     let mut found = false;
     while y < x {
-        found = found | (own == rooms::word_at(reach, y));
+        found = found | (own == reach[y]);
         y = y + 1;
     }
     !found
@@ -117,7 +118,7 @@ fn joined(set: u32, x: usize, asked: bool) -> u32
 }
 
 // Those of n variables that stand for their components, as a set of bits.
-fn standing(reach: &[u32], n: usize) -> u32
+fn standing(reach: &[u32; 32], n: usize) -> u32
     requires { ⌜ n ≤ 32 ⌝ }
     ensures { λ r. ⌜ r ≡ mask n (standsBy (now (reach .entry))) ⌝ }
 {
@@ -224,7 +225,7 @@ fn block_of(w: u32) -> u32
 }
 
 // Whether each of n equations holds the number of its component.
-fn numbers_ok(equations: &[u32], reach: &[u32], n: usize) -> bool
+fn numbers_ok(equations: &[u32], reach: &[u32; 32], n: usize) -> bool
     requires { ⌜ n ≤ 32 ⌝ }
     ensures { λ r. ⌜ r ≡ numbersBy (now (equations .entry)) (now (reach .entry)) n n ⌝ }
 {

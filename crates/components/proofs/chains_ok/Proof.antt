@@ -11,9 +11,6 @@ reaches-requires c κs = search needs
 lowest-guilty-requires : tie.Need-lowest-guilty-requires
 lowest-guilty-requires c κs = search needs
 
-slice-aggregate-numbers-ok : tie.Need-slice-aggregate-numbers-ok
-slice-aggregate-numbers-ok c = search needs
-
 numbers-ok-requires : tie.Need-numbers-ok-requires
 numbers-ok-requires c κs = search needs
 
@@ -27,6 +24,5 @@ chains-ok-spec =
     (tie.spec
     reaches-requires
     lowest-guilty-requires
-    slice-aggregate-numbers-ok
     numbers-ok-requires
     returns)
