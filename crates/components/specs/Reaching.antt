@@ -1,4 +1,5 @@
--- Rounds on sets of bits: what each variable leads to. After n + 1 rounds it is what the rules say. Assumes nothing.
+-- Rounds on sets of bits: what each variable leads to. After n + 1 rounds it is what the rules say, and so it is after a round that
+-- changes nothing. Assumes nothing.
 use mathlib.Core.Path.{_≡_, refl, sym, ap, ap₂, _∙_, subst}
 use mathlib.Core.Logic.{inl, inr}
 use mathlib.Core.Bool.{Bool, true, false, cond, _&&_, _||_}
