@@ -66,7 +66,7 @@ fill-past (v ∷ new) [] (suc x) h = ap (λ (t : List ℕ). getD (new ++ t) x 0)
 fill-past (v ∷ new) (w ∷ room) (suc x) h = fill-past new room x (le-of-suc-le-suc h)
 
 -- Rooms of one length with the same entries are the same.
-same-entries : (u v : List ℕ) → length u ≡ length v → ((x : ℕ) → getD u x 0 ≡ getD v x 0) → u ≡ v
+pub same-entries : (u v : List ℕ) → length u ≡ length v → ((x : ℕ) → getD u x 0 ≡ getD v x 0) → u ≡ v
 same-entries [] [] h f = refl
 same-entries [] (y ∷ v) h f = absurd (omega arith)
 same-entries (x ∷ u) [] h f = absurd (omega arith)

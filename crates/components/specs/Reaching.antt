@@ -1,25 +1,27 @@
--- Rounds on sets of bits: what each variable leads to. After n + 1 rounds it is what the rules say. Assumes nothing.
+-- Rounds on sets of bits: what each variable leads to. After n + 1 rounds it is what the rules say, and so it is after a round that
+-- changes nothing. Assumes nothing.
 use mathlib.Core.Path.{_≡_, refl, sym, ap, ap₂, _∙_, subst}
 use mathlib.Core.Logic.{inl, inr}
 use mathlib.Core.Bool.{Bool, true, false, cond, _&&_, _||_}
 use mathlib.Core.List.{List}
-use Prim.Native.Nat.{ℕ, zero, suc, _+_, _/_, _%_, _^_, _≤_, _<_}
+use Prim.Native.Nat.{ℕ, zero, suc, _+_, _-_, _/_, _%_, _^_, _≤_, _<_}
 use native.Mathlib.Decide.{decLt}
 use native.Mathlib.Numerals.{add-one}
 use native.Mathlib.Omega.{arith}
 use lib.Bits.{bitOr}
-use lib.ListN.{length, getD, set, replicate}
+use lib.ListN.{length, getD, set, replicate, List·getD-eq-default}
 use lib.Dec.{eqb, ltb}
-use Rattle.lists.specs.Lists.{any, mask}
+use Rattle.lists.specs.Lists.{any, mask, eachBelow}
 use Rattle.lists.specs.Smallest.{at, rounds, smallest}
-use Rattle.lists.specs.Tests.{tell, or-false, ltb-in, ltb-no}
+use Rattle.lists.specs.Ranges.{each-out}
+use Rattle.lists.specs.Tests.{tell, or-false, eqb-out, ltb-in, ltb-no, cond-yes, cond-no}
 use Rattle.lists.specs.Entries.{zeros-at}
 use Rattle.lists.specs.TableLaws.{table-at, table-past}
 use Rattle.lists.specs.Masks.{mask-or, mask-one, mask-none, mask-same}
 use Rattle.rules.specs.Chains.{Names, leadRule, leads, reach}
 use Rattle.rules.specs.Model.{namesOf}
 use Rattle.rules.specs.Session.{unword}
-use Rattle.components.specs.Filled.{Filled, filled-below, filled-past, filled-next}
+use Rattle.components.specs.Filled.{Filled, filled-below, filled-past, filled-next, same-entries}
 
 -- The variables that the words of equations name.
 abbrev pub wordNames : List ℕ → Names
@@ -65,6 +67,23 @@ pub round-next : (ws old new₀ new last : List ℕ) (x w v : ℕ) → Round ws 
     → Round ws old new₀ (x + 1) last
 round-next ws old new₀ new last x w v r l e f g =
     filled-next (λ y. rowOf old (getD ws y 0) y) new₀ x new last v r l (f ∙ ap (λ (k : ℕ). rowOf old k x) e) g
+
+-- The first k sets of two rounds are the same.
+unfoldable pub sameSets : List ℕ → List ℕ → ℕ → Bool
+sameSets old new k = eachBelow k (λ x. eqb (getD old x 0) (getD new x 0))
+
+-- One set more, from what code has in hand; and where all are the same, so are the lists.
+pub same-more : (old new : List ℕ) (x : ℕ) (still : Bool) → still ≡ sameSets old new x → (still && eqb (getD old x 0) (getD new x 0)) ≡ sameSets old new (x + 1)
+unfolding sameSets
+same-more old new x still e =
+    ap (λ (b : Bool). b && eqb (getD old x 0) (getD new x 0)) e ∙ ap (λ (k : ℕ). eachBelow k (λ y. eqb (getD old y 0) (getD new y 0))) (sym (add-one x))
+
+same-lists : (old new : List ℕ) (k : ℕ) → length old ≡ k → length new ≡ k → sameSets old new k ≡ true → old ≡ new
+unfolding sameSets
+same-lists old new k e f t = same-entries old new (e ∙ sym f) (λ x. elim (decLt x k) [
+  | yes h ↦ eqb-out (getD old x 0) (getD new x 0) (each-out k (λ y. eqb (getD old y 0) (getD new y 0)) t x h)
+  | no h ↦ List·getD-eq-default old 0 (omega arith) ∙ sym (List·getD-eq-default new 0 (omega arith))
+])
 
 -- x leads to y as far as k rounds tell.
 abbrev pub after : ℕ → Names → ℕ → ℕ → ℕ → Bool
@@ -132,6 +151,24 @@ module _ (ws : List ℕ) (n : ℕ) where
           ∙ sym (mask-none n (λ y. after n (wordNames ws) (suc k) x y) (λ y q. after-past (suc k) x y (omega arith)))
     ];
   })
+
+  -- Sets that a round leaves as they are stand for any number of rounds more.
+  rounded-stays : (j k : ℕ) (l : List ℕ) → Round ws l (replicate 32 0) n l → Rounded ws n k l → Rounded ws n (j + k) l
+  rounded-stays zero k l d r = subst (λ (i : ℕ). Rounded ws n i l) (omega arith) r
+  rounded-stays (suc j) k l d r = subst (λ (i : ℕ). Rounded ws n i l) (omega arith) (rounded-next (j + k) l l (rounded-stays j k l d r) d)
+
+  -- A round more, from what code has in hand: the sets stand for all rounds, where it has changed none.
+  pub rounded-counted : (k : ℕ) (old new : List ℕ) (still : Bool) (j : ℕ) → k ≤ n → Rounded ws n k old → Round ws old (replicate 32 0) n new
+      → still ≡ sameSets old new 32 → j ≡ cond still (n + 1) (k + 1) → Rounded ws n j new
+  rounded-counted k old new still j h r d e f =
+      elim (tell true still) [
+        | inl t ↦
+            let same : old ≡ new = same-lists old new 32 (r .size) (d .size) (sym e ∙ t) in
+            let stays = rounded-stays (n + 1 - k) k new (subst (λ (l : List ℕ). Round ws l (replicate 32 0) n new) same d) (subst (Rounded ws n k) same r) in
+            let all : n + 1 - k + k ≡ j = let c = f ∙ cond-yes (n + 1) (k + 1) t in omega arith in
+            subst (λ (i : ℕ). Rounded ws n i new) all stays
+        | inr t ↦ subst (λ (i : ℕ). Rounded ws n i new) (sym (f ∙ cond-no (n + 1) (k + 1) t)) (rounded-next k old new r d)
+      ]
 
   -- After the last round it is what each variable leads to.
   pub rounded-reaches : (k : ℕ) (l : List ℕ) → Rounded ws n k l → k ≡ suc n → Reaches ws n l

@@ -9,7 +9,7 @@ ghost use lib.ListN.{getD, length};
 ghost use Rattle.lists.specs.Lists.{bit, fill, mask, lowest};
 ghost use Rattle.rules.specs.Model.{guilty, placed};
 ghost use Rattle.rules.specs.Session.{word, unword};
-ghost use Rattle.components.specs.Reaching.{rowOf, Round, Reaches};
+ghost use Rattle.components.specs.Reaching.{rowOf, Round, Reaches, sameSets};
 ghost use Rattle.components.specs.Numbering.{standsBy, componentBy, guiltyBy, lowerBy, lowestBy, numbersBy};
 ghost use Rattle.components.specs.Stored.{held, chainsOk};
 ghost use Rattle.laws.specs.Placed.{withBlock};
@@ -46,12 +46,36 @@ fn round(equations: &[u32], n: usize, old: &[u32], new: &mut [u32])
 {
     let mut x: usize = 0;
     while x < n {
-        rooms::set_word(new, x, row(rooms::word_at(equations, x), x, old));
+        new[x] = row(rooms::word_at(equations, x), x, old);
         x = x + 1;
     }
 }
 
-// What each of n variables leads to: n + 1 rounds suffice.
+// Whether a round has left all sets as they were.
+fn same(old: &[u32; 32], new: &[u32; 32]) -> bool
+    ensures { λ r. ⌜ r ≡ sameSets (now (old .entry)) (now (new .entry)) 32 ⌝ }
+{
+    let mut x: usize = 0;
+    let mut still = true;
+    while x < 32 {
+        still = still & (old[x] == new[x]);
+        x = x + 1;
+    }
+    still
+}
+
+// How many rounds the sets stand for after one more than k: all, where the round has left them as they were.
+fn counted(n: usize, k: usize, still: bool) -> usize
+    requires { ⌜ (n ≤ 32) × (k ≤ n) ⌝ }
+    ensures { λ r. ⌜ (r ≡ cond still (n + 1) (k + 1)) × (k < r) × (r ≤ n + 1) ⌝ }
+{
+    if still {
+        return n + 1;
+    }
+    k + 1
+}
+
+// What each of n variables leads to: n + 1 rounds suffice, and the first that changes nothing is the last.
 pub fn reaches(equations: &[u32], n: usize) -> [u32; 32]
     requires { ⌜ n ≤ 32 ⌝ }
     ensures { λ r. ⌜ Reaches (now (equations .entry)) n r ⌝ }
@@ -61,21 +85,22 @@ pub fn reaches(equations: &[u32], n: usize) -> [u32; 32]
     while k <= n {
         let mut new = [0u32; 32];
         round(equations, n, &old, &mut new);
+        k = counted(n, k, same(&old, &new));
         old = new;
-        k = k + 1;
     }
     old
 }
 
 // Whether x stands for its component: no variable before x has the same reach.
-fn stands(reach: &[u32], x: usize) -> bool
+fn stands(reach: &[u32; 32], x: usize) -> bool
+    requires { ⌜ x < 32 ⌝ }
     ensures { λ r. ⌜ r ≡ standsBy (now (reach .entry)) x ⌝ }
 {
-    let own = rooms::word_at(reach, x);
+    let own = reach[x];
     let mut y: usize = 0;
     let mut found = false;
     while y < x {
-        found = found | (own == rooms::word_at(reach, y));
+        found = found | (own == reach[y]);
         y = y + 1;
     }
     !found
@@ -93,7 +118,7 @@ fn joined(set: u32, x: usize, asked: bool) -> u32
 }
 
 // Those of n variables that stand for their components, as a set of bits.
-fn standing(reach: &[u32], n: usize) -> u32
+fn standing(reach: &[u32; 32], n: usize) -> u32
     requires { ⌜ n ≤ 32 ⌝ }
     ensures { λ r. ⌜ r ≡ mask n (standsBy (now (reach .entry))) ⌝ }
 {
@@ -140,24 +165,24 @@ fn kind_of(w: u32) -> u32
 }
 
 // Whether x is on a closed chain that holds both signs.
-fn is_guilty(equations: &[u32], reach: &[u32], n: usize, x: usize) -> bool
+fn is_guilty(equations: &[u32], reach: &[u32; 32], n: usize, x: usize) -> bool
+    requires { ⌜ (x < n) × (n ≤ 32) × (n ≤ length (now equations)) ⌝ }
     ensures { λ r. ⌜ r ≡ guiltyBy (now (equations .entry)) (now (reach .entry)) n x ⌝ }
 {
-    let kind = kind_of(rooms::word_at(equations, x));
-    let own = rooms::word_at(reach, x);
+    let kind = kind_of(equations[x]);
+    let own = reach[x];
     let mut y: usize = 0;
     let mut found = false;
     while y < n {
-        found = found
-            | ((own == rooms::word_at(reach, y)) & (kind != kind_of(rooms::word_at(equations, y))));
+        found = found | ((own == reach[y]) & (kind != kind_of(equations[y])));
         y = y + 1;
     }
     found
 }
 
 // The lowest of those up to x, where `best` is the lowest of those before x, or x.
-fn lower(equations: &[u32], reach: &[u32], n: usize, x: usize, best: usize) -> usize
-    requires { ⌜ x < 32 ⌝ }
+fn lower(equations: &[u32], reach: &[u32; 32], n: usize, x: usize, best: usize) -> usize
+    requires { ⌜ (x < n) × (n ≤ 32) × (n ≤ length (now equations)) ⌝ }
     ensures { λ r. ⌜ r ≡ lowerBy (now (equations .entry)) (now (reach .entry)) n x best ⌝ }
 {
     if best < x {
@@ -170,8 +195,8 @@ fn lower(equations: &[u32], reach: &[u32], n: usize, x: usize, best: usize) -> u
 }
 
 // The lowest equation on a closed chain that holds both signs; n where there is none.
-pub fn lowest_guilty(equations: &[u32], reach: &[u32], n: usize) -> usize
-    requires { ⌜ n ≤ 32 ⌝ }
+pub fn lowest_guilty(equations: &[u32], reach: &[u32; 32], n: usize) -> usize
+    requires { ⌜ (n ≤ 32) × (n ≤ length (now equations)) ⌝ }
     ensures { λ r. ⌜ r ≡ lowestBy (now (equations .entry)) (now (reach .entry)) n ⌝ }
 {
     let mut x: usize = 0;
@@ -200,7 +225,7 @@ fn block_of(w: u32) -> u32
 }
 
 // Whether each of n equations holds the number of its component.
-fn numbers_ok(equations: &[u32], reach: &[u32], n: usize) -> bool
+fn numbers_ok(equations: &[u32], reach: &[u32; 32], n: usize) -> bool
     requires { ⌜ n ≤ 32 ⌝ }
     ensures { λ r. ⌜ r ≡ numbersBy (now (equations .entry)) (now (reach .entry)) n n ⌝ }
 {

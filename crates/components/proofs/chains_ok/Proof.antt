@@ -8,14 +8,8 @@ use Rattle.components.proofs.chains_ok.Tie as tie
 reaches-requires : tie.Need-reaches-requires
 reaches-requires c κs = search needs
 
-slice-aggregate-lowest-guilty : tie.Need-slice-aggregate-lowest-guilty
-slice-aggregate-lowest-guilty c = search needs
-
 lowest-guilty-requires : tie.Need-lowest-guilty-requires
 lowest-guilty-requires c κs = search needs
-
-slice-aggregate-numbers-ok : tie.Need-slice-aggregate-numbers-ok
-slice-aggregate-numbers-ok c = search needs
 
 numbers-ok-requires : tie.Need-numbers-ok-requires
 numbers-ok-requires c κs = search needs
@@ -29,8 +23,6 @@ chains-ok-spec =
     tie.close
     (tie.spec
     reaches-requires
-    slice-aggregate-lowest-guilty
     lowest-guilty-requires
-    slice-aggregate-numbers-ok
     numbers-ok-requires
     returns)

@@ -8,9 +8,6 @@ use Rattle.components.proofs.first_guilty.Tie as tie
 reaches-requires : tie.Need-reaches-requires
 reaches-requires c κs = search needs
 
-slice-aggregate-lowest-guilty : tie.Need-slice-aggregate-lowest-guilty
-slice-aggregate-lowest-guilty c = search needs
-
 lowest-guilty-requires : tie.Need-lowest-guilty-requires
 lowest-guilty-requires c κs = search needs
 
@@ -20,4 +17,4 @@ returns c = lowest-by _ _ _ _ (c .before .before .reaches .ensures) (omega arith
 pub first-guilty-spec : {M : Type 1} → statement M
 first-guilty-spec =
     tie.close
-    (tie.spec reaches-requires slice-aggregate-lowest-guilty lowest-guilty-requires returns)
+    (tie.spec reaches-requires lowest-guilty-requires returns)

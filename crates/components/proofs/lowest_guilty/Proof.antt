@@ -1,4 +1,5 @@
--- `components::lowest_guilty` meets its contract. Assumes nothing.
+-- `components::lowest_guilty` meets its contract. The loop's invariant: `best` is the lowest guilty variable below x, or x. Assumes
+-- nothing.
 use mathlib.Core.Path.{_≡_, refl, _∙_}
 use Prim.Native.Nat.{_-_, _≤_}
 use native.Mathlib.Omega.{arith}
@@ -32,8 +33,9 @@ loop-again c = (omega arith, c .lower .ensures ∙ lower-next _ _ _ _ _ (c .befo
 returns : tie.Need-returns Inv-loop μ-loop
 unfolding lowestBy
 returns c =
-    let e : c .before .loop .x ≡ c .before .before .before .before .args .n = omega arith in
-    rw (c .before .loop .inv .1, e) refl
+    let at-loop = c .before in
+    let e : at-loop .loop .x ≡ at-loop .before .before .args .n = omega arith in
+    rw (at-loop .loop .inv .1, e) refl
 
 pub lowest-guilty-spec : {M : Type 1} → statement M
 lowest-guilty-spec =

@@ -21,9 +21,6 @@ abbrev μ-loop : tie.MeasureT-loop
 reaches-requires : tie.Need-reaches-requires Inv-loop μ-loop
 reaches-requires c κs = search needs
 
-slice-aggregate-standing : tie.Need-slice-aggregate-standing Inv-loop μ-loop
-slice-aggregate-standing c = search needs
-
 standing-requires : tie.Need-standing-requires Inv-loop μ-loop
 standing-requires c κs = search needs
 
@@ -74,7 +71,6 @@ number-all-spec =
     Inv-loop
     μ-loop
     reaches-requires
-    slice-aggregate-standing
     standing-requires
     loop-holds
     word-at-requires

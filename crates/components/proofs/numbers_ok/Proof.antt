@@ -1,4 +1,4 @@
--- `components::numbers_ok` meets its contract. Assumes nothing.
+-- `components::numbers_ok` meets its contract. The loop's invariant: the equations below x hold their numbers. Assumes nothing.
 use mathlib.Core.Path.{_≡_, refl, ap, _∙_}
 use Prim.Native.Nat.{ℕ, _-_, _≤_}
 use native.Mathlib.Omega.{arith}
@@ -28,7 +28,7 @@ block-of-requires : tie.Need-block-of-requires Inv-loop μ-loop
 block-of-requires c κs = search needs
 
 component-of-requires : tie.Need-component-of-requires Inv-loop μ-loop
-component-of-requires c κs = (omega arith, c .before .before .before .before .standing .ensures)
+component-of-requires c κs = (omega arith, c .before .before .before .before .before .standing .ensures)
 
 add-x : tie.Need-add-x Inv-loop μ-loop
 add-x c = search needs
@@ -38,13 +38,17 @@ loop-less c = search needs
 
 loop-again : tie.Need-loop-again Inv-loop μ-loop
 loop-again c =
-    let block = c .before .block-of .ensures ∙ ap (λ (w : ℕ). unword w .block) (c .before .before .word-at .ensures) in
-    (omega arith, numbers-next _ _ _ _ _ _ _ (c .before .before .before .before .loop .inv .1) block (c .component-of .ensures .0))
+    let at-block = c .before .before in
+    let at-word = at-block .before in
+    let at-loop = at-word .before .before in
+    let block = at-block .block-of .ensures ∙ ap (λ (w : ℕ). unword w .block) (at-word .word-at .ensures) in
+    (omega arith, numbers-next _ _ _ _ _ _ _ (at-loop .loop .inv .1) block (c .component-of .ensures .0))
 
 returns : tie.Need-returns Inv-loop μ-loop
 returns c =
-    let e : c .before .loop .x ≡ c .before .before .before .before .before .args .n = omega arith in
-    rw e at (c .before .loop .inv .1)
+    let at-loop = c .before in
+    let e : at-loop .loop .x ≡ at-loop .before .before .before .args .n = omega arith in
+    rw e at (at-loop .loop .inv .1)
 
 pub numbers-ok-spec : {M : Type 1} → statement M
 numbers-ok-spec =

@@ -1,9 +1,9 @@
--- `components::reaches` meets its contract. Assumes nothing.
+-- `components::reaches` meets its contract. The loop's invariant: the sets are those after k rounds. Assumes nothing.
 use mathlib.Core.Path.{_≡_, sym}
 use Prim.Native.Nat.{suc, _-_, _≤_}
 use native.Mathlib.Omega.{arith}
 use borrow.Author.Needs.{needs}
-use Rattle.components.specs.Reaching.{Rounded, rounded-none, rounded-next, rounded-reaches}
+use Rattle.components.specs.Reaching.{Rounded, rounded-none, rounded-counted, rounded-reaches}
 use Rattle.components.proofs.reaches.Statement.{statement}
 use Rattle.components.proofs.reaches.Tie as tie
 
@@ -25,20 +25,29 @@ slice-aggregate-round-2 c = search needs
 round-requires : tie.Need-round-requires Inv-loop μ-loop
 round-requires c κs = search needs
 
-add-k : tie.Need-add-k Inv-loop μ-loop
-add-k c = search needs
+same-requires : tie.Need-same-requires Inv-loop μ-loop
+same-requires c κs = search needs
+
+counted-requires : tie.Need-counted-requires Inv-loop μ-loop
+counted-requires c κs = search needs
 
 loop-less : tie.Need-loop-less Inv-loop μ-loop
-loop-less c = search needs
+loop-less c = omega (arith, c .counted .ensures .1, c .counted .ensures .2)
 
 loop-again : tie.Need-loop-again Inv-loop μ-loop
 loop-again c =
-    (omega arith, rounded-next _ _ _ _ _ (c .before .before .before .before .before .loop .inv .1) (c .before .round .ensures))
+    let at-same = c .before in
+    let at-round = at-same .before .before .before .before in
+    let at-test = at-round .before .before .before in
+    let at-loop = at-test .before in
+    let more = rounded-counted _ _ _ _ _ _ _ (omega (arith, at-test .loop-test .taken)) (at-loop .loop .inv .1) (at-round .round .ensures) (at-same .same .ensures) (c .counted .ensures .0) in
+    (omega (arith, c .counted .ensures .2), more)
 
 returns : tie.Need-returns Inv-loop μ-loop
 returns c =
-    let e : c .before .loop .k ≡ suc (c .before .before .before .args .n) = omega arith in
-    rounded-reaches _ _ _ _ (c .before .loop .inv .1) e
+    let at-loop = c .before in
+    let e : at-loop .loop .k ≡ suc (at-loop .before .before .args .n) = omega arith in
+    rounded-reaches _ _ _ _ (at-loop .loop .inv .1) e
 
 pub reaches-spec : {M : Type 1} → statement M
 reaches-spec =
@@ -50,7 +59,8 @@ reaches-spec =
     slice-aggregate-round
     slice-aggregate-round-2
     round-requires
-    add-k
+    same-requires
+    counted-requires
     loop-less
     loop-again
     returns)

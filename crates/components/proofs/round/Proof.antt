@@ -1,5 +1,5 @@
--- `components::round` meets its contract. Assumes nothing.
-use mathlib.Core.Path.{_≡_}
+-- `components::round` meets its contract. The loop's invariant: the sets below x are those of the round. Assumes nothing.
+use mathlib.Core.Path.{_≡_, refl}
 use Prim.Native.Nat.{_-_, _≤_}
 use native.Mathlib.Omega.{arith}
 use borrow.Author.Needs.{needs}
@@ -23,8 +23,11 @@ word-at-requires c κs = search needs
 row-requires : tie.Need-row-requires Inv-loop μ-loop
 row-requires c κs = search needs
 
-set-word-requires : tie.Need-set-word-requires Inv-loop μ-loop
-set-word-requires c κs = search needs
+mul-new : tie.Need-mul-new Inv-loop μ-loop
+mul-new c = search needs
+
+slice-write-new : tie.Need-slice-write-new Inv-loop μ-loop
+slice-write-new c = search needs
 
 add-x : tie.Need-add-x Inv-loop μ-loop
 add-x c = search needs
@@ -34,18 +37,19 @@ loop-less c = search needs
 
 loop-again : tie.Need-loop-again Inv-loop μ-loop
 loop-again c =
-    let at-set = c .before .before in
-    let at-loop = at-set .before .before .before .before .before in
+    let at-word = c .before in
+    let at-loop = at-word .before .before in
     let ws = at-loop .before .before .before .before .args .equations .now in
-    (omega arith, round-next ws _ _ _ _ _ _ _ (at-loop .loop .inv .1) (omega arith) (at-set .before .before .word-at .ensures) (at-set .before .row .ensures) (at-set .set-word .ensures))
+    (omega arith, round-next ws _ _ _ _ _ _ _ (at-loop .loop .inv .1) (omega arith) (at-word .word-at .ensures) (c .row .ensures) refl)
 
 same-length : tie.Need-same-length Inv-loop μ-loop
 same-length c = c .before .loop .inv .1 .size
 
 returns : tie.Need-returns Inv-loop μ-loop
 returns c =
-    let e : c .before .loop .x ≡ c .before .before .before .before .before .args .n = omega arith in
-    filled-end _ _ _ _ _ (c .before .loop .inv .1) e
+    let at-loop = c .before in
+    let e : at-loop .loop .x ≡ at-loop .before .before .before .before .args .n = omega arith in
+    filled-end _ _ _ _ _ (at-loop .loop .inv .1) e
 
 pub round-spec : {M : Type 1} → statement M
 round-spec =
@@ -56,7 +60,8 @@ round-spec =
     loop-holds
     word-at-requires
     row-requires
-    set-word-requires
+    mul-new
+    slice-write-new
     add-x
     loop-less
     loop-again

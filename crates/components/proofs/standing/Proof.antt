@@ -1,4 +1,4 @@
--- `components::standing` meets its contract. Assumes nothing.
+-- `components::standing` meets its contract. The loop's invariant: the set has those below x that stand. Assumes nothing.
 use mathlib.Core.Path.{_≡_, refl, ap, _∙_}
 use Prim.Native.Nat.{ℕ, _-_, _≤_}
 use native.Mathlib.Omega.{arith}
@@ -24,7 +24,7 @@ stands-requires c κs = search needs
 joined-requires : tie.Need-joined-requires Inv-loop μ-loop
 joined-requires c κs =
     let at-loop = c .before .before in
-    let m = mask-lt (at-loop .loop .x) (standsBy (at-loop .before .before .args .reach .now)) in
+    let m = mask-lt (at-loop .loop .x) (standsBy (at-loop .before .args .reach .now)) in
     let e = at-loop .loop .inv .1 in
     (omega arith, omega arith)
 
@@ -37,14 +37,15 @@ loop-less c = search needs
 loop-again : tie.Need-loop-again Inv-loop μ-loop
 loop-again c =
     let at-loop = c .before .before .before in
-    let l = at-loop .before .before .args .reach .now in
+    let l = at-loop .before .args .reach .now in
     (omega arith, c .joined .ensures ∙ standing-more l (at-loop .loop .x) _ _ (at-loop .loop .inv .1) (c .before .stands .ensures))
 
 returns : tie.Need-returns Inv-loop μ-loop
 returns c =
-    let a = c .before .before .before .args in
-    let e : c .before .loop .x ≡ a .n = omega arith in
-    c .before .loop .inv .1 ∙ ap (λ (k : ℕ). mask k (standsBy (a .reach .now))) e
+    let at-loop = c .before in
+    let a = at-loop .before .args in
+    let e : at-loop .loop .x ≡ a .n = omega arith in
+    at-loop .loop .inv .1 ∙ ap (λ (k : ℕ). mask k (standsBy (a .reach .now))) e
 
 pub standing-spec : {M : Type 1} → statement M
 standing-spec =

@@ -1,8 +1,8 @@
--- `components::stands` meets its contract. Assumes nothing.
-use mathlib.Core.Path.{_≡_, refl, ap₂}
+-- `components::stands` meets its contract. The loop's invariant: `found` tells whether a variable below y has x's reach. Assumes
+-- nothing.
+use mathlib.Core.Path.{_≡_, refl}
 use Prim.Native.Nat.{_-_, _≤_}
 use native.Mathlib.Omega.{arith}
-use lib.Dec.{eqb}
 use borrow.Author.Needs.{needs}
 use Rattle.lists.specs.Lists.{someBelow}
 use Rattle.components.specs.Numbering.{tiedBy, standsBy, some-more}
@@ -15,14 +15,20 @@ Inv-loop reach x own y₀ found₀ y found = (y ≤ x) × (found ≡ someBelow y
 abbrev μ-loop : tie.MeasureT-loop
 μ-loop reach x own y₀ found₀ y found = x - y
 
-word-at-requires : tie.Need-word-at-requires Inv-loop μ-loop
-word-at-requires c κs = search needs
+mul-own : tie.Need-mul-own Inv-loop μ-loop
+mul-own c = search needs
+
+element-copy-out-own : tie.Need-element-copy-out-own Inv-loop μ-loop
+element-copy-out-own c = search needs
 
 loop-holds : tie.Need-loop-holds Inv-loop μ-loop
 loop-holds c = (omega arith, refl)
 
-word-at-requires-2 : tie.Need-word-at-requires-2 Inv-loop μ-loop
-word-at-requires-2 c κs = search needs
+mul-found : tie.Need-mul-found Inv-loop μ-loop
+mul-found c = search needs
+
+element-copy-out-found : tie.Need-element-copy-out-found Inv-loop μ-loop
+element-copy-out-found c = search needs
 
 add-y : tie.Need-add-y Inv-loop μ-loop
 add-y c = search needs
@@ -34,14 +40,15 @@ loop-again : tie.Need-loop-again Inv-loop μ-loop
 unfolding tiedBy
 loop-again c =
     let at-loop = c .before .before in
-    let a = at-loop .before .before .before .args in
-    (omega arith, some-more (tiedBy (a .reach .now) (a .x)) (at-loop .loop .y) _ _ (at-loop .loop .inv .1) (ap₂ eqb (at-loop .before .word-at .ensures) (c .word-at2 .ensures)))
+    let a = at-loop .before .before .args in
+    (omega arith, some-more (tiedBy (a .reach .now) (a .x)) (at-loop .loop .y) _ _ (at-loop .loop .inv .1) refl)
 
 returns : tie.Need-returns Inv-loop μ-loop
 unfolding standsBy
 returns c =
-    let e : c .before .loop .y ≡ c .before .before .before .before .args .x = omega arith in
-    rw (c .before .loop .inv .1, e) refl
+    let at-loop = c .before in
+    let e : at-loop .loop .y ≡ at-loop .before .before .args .x = omega arith in
+    rw (at-loop .loop .inv .1, e) refl
 
 pub stands-spec : {M : Type 1} → statement M
 stands-spec =
@@ -49,9 +56,11 @@ stands-spec =
     (tie.spec
     Inv-loop
     μ-loop
-    word-at-requires
+    mul-own
+    element-copy-out-own
     loop-holds
-    word-at-requires-2
+    mul-found
+    element-copy-out-found
     add-y
     loop-less
     loop-again
