@@ -1,14 +1,14 @@
 -- A look outwards from one move of a part, at both sides in turn: what has been passed, and what is told when it is over. Assumes nothing.
-use mathlib.Core.Path.{_≡_, refl, sym, _∙_}
+use mathlib.Core.Path.{_≡_, refl}
 use mathlib.Core.Logic.{inl, inr}
-use mathlib.Core.Bool.{Bool, true, false, _||_}
+use mathlib.Core.Bool.{Bool, true, false}
 use mathlib.Core.List.{List}
 use Prim.Native.Nat.{ℕ, _+_, _-_, _/_, _≤_, _<_}
 use native.Mathlib.Decide.{decLt}
 use native.Mathlib.Omega.{arith}
 use lib.ListN.{length, getD}
-use lib.Dec.{eqb, ltb}
-use Rattle.lists.specs.Tests.{tell, ltb-is, ltb-in, ltb-no, eqb-is, eqb-in, eqb-no, or-out, or-no}
+use lib.Dec.{eqb}
+use Rattle.lists.specs.Tests.{tell, ltb-in, ltb-no, eqb-is, eqb-in, eqb-no}
 use Rattle.table.specs.Ascending.{ascends}
 use Rattle.engine_own.specs.Looks.{someOwn, says, saysAt, saysBefore}
 use Rattle.engine_own.specs.Places.{begins, ends, ends-inside, stands-in, stands-out, any-at, any-none}
@@ -19,19 +19,19 @@ data Told (over passed found : Type 0) (r : ℕ) : Type 0 where
   goes : r ≡ 1 → passed → Told over passed found r
   hits : r ≡ 2 → found → Told over passed found r
 
--- Where one is found, it is.
+-- Where the answer is 2, one is found.
 told-found : {o p q : Type 0} {r : ℕ} → Told o p q r → r ≡ 2 → q
 told-found (stops e x) h = absurd (omega arith)
 told-found (goes e x) h = absurd (omega arith)
 told-found (hits e x) h = x
 
--- Where none is found, the answer is 1 or 0, and 1 only where one more is passed.
+-- Where it is not, it is 1 or 0, and 1 only where one more is passed.
 told-passed : {o p q : Type 0} {r : ℕ} → Told o p q r → (r ≡ 2 → ⊥) → (r ≤ 1) × (0 < r → p)
 told-passed (stops e x) h = (omega arith, λ k. absurd (omega arith))
 told-passed (goes e x) h = (omega arith, λ k. x)
 told-passed (hits e x) h = absurd (h e)
 
--- Where the answer is 0, the side is over.
+-- Where it is 0, the side is over.
 told-over : {o p q : Type 0} {r : ℕ} → Told o p q r → r ≡ 0 → o
 told-over (stops e x) h = x
 told-over (goes e x) h = absurd (omega arith)
@@ -133,18 +133,18 @@ module _ {f : ℕ → Bool} {l : List ℕ} {j low high : ℕ} (up : ascends 0 l 
   told-below : {below : ℕ} → below ≡ saysBefore f l (getD l j 0 / 1024) low → FromBelow f l j low below
   told-below b = rw b (from-below f l up j (p .here) low (p .under))
 
-  -- One is found above.
+  -- Where the answer from above is 2, one passes the test.
   pub found-above : {above : ℕ} → above ≡ saysAt f l (getD l j 0 / 1024) high → above ≡ 2 → someOwn f l j ≡ true
   found-above a = told-found (told-above a)
 
-  -- One is found below.
+  -- The same of the answer from below.
   pub found-below : {below : ℕ} → below ≡ saysBefore f l (getD l j 0 / 1024) low → below ≡ 2 → someOwn f l j ≡ true
   found-below b = told-found (told-below b)
 
 module _ {f : ℕ → Bool} {l : List ℕ} {j low high above below : ℕ} (up : ascends 0 l ≡ true) (p : Passed f l j low high)
     (a : above ≡ saysAt f l (getD l j 0 / 1024) high) (b : below ≡ saysBefore f l (getD l j 0 / 1024) low)
     (h : above ≡ 2 → ⊥) (k : below ≡ 2 → ⊥) where
-  -- Where none is found, each answer is at most 1.
+  -- Where neither finds one, each is at most 1.
   pub answers-low : (above ≤ 1) × (below ≤ 1)
   answers-low = (told-passed (told-above up p a) h .0, told-passed (told-below up p b) k .0)
 
@@ -156,12 +156,8 @@ module _ {f : ℕ → Bool} {l : List ℕ} {j low high above below : ℕ} (up : 
       let x = told-passed (told-above up p a) h in
       let y = told-passed (told-below up p b) k in
       let v = one-fits above high (length l) (x .0) (p .inside) (λ t. x .1 t .0) in
-      let w = one-fits below 0 low (y .0) (omega arith) (λ t. y .1 t .0) in
-      let more : 0 < above + below = elim (decLt 0 (above + below)) [
-        | yes t ↦ t
-        | no t ↦ absurd (n (omega arith))
-      ] in record {
-        more = more;
+      let w = one-fits below 0 low (y .0) (omega arith) (λ t. y .1 t .0) in record {
+        more = omega arith;
         room = omega arith;
         passed = record {
           here = p .here;

@@ -82,7 +82,8 @@ fn look_down(
 // Does a move with the source and the action of the move at j lead to a pair of x that has the value `from`? Those at `low` and after
 // it, before `high`, do not, and each turn looks at one more on either side: a look is as long as the shorter way to one that does. Where
 // pairs lose the value one by one, and each look starts from the move to the one that did last, all looks at n moves pass at most about
-// n times the logarithm of n of them, since what is passed on the shorter side becomes part of a stretch twice as long.
+// n times the logarithm of n of them, since what is passed on the shorter side becomes part of a stretch twice as long. An answer that
+// finds one is returned at once, and not with the other: so branches tell the next places, and no place waits for a value.
 pub fn leads_from(
     sizes: Sizes,
     moves: &[u32],

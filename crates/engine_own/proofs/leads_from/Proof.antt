@@ -70,13 +70,13 @@ returns-2 c =
 add-told : tie.Need-add-told Inv-loop μ-loop
 add-told c =
     let at-look-down = c .before in
-    let at-else = c .before .before in
+    let at-first = c .before .before in
     let at-look-up = c .before .before .before in
     let at-loop = loop-before-else c in
     let at-start = start-before-loop at-loop in
-    let l =
-        answers-low (at-start .pre .1 .1) (at-loop .loop .inv) (at-look-up .look-up .ensures) (at-look-down .look-down .ensures)
-        (at-else .if1 .left) (c .if2 .left) in
+    let u = at-look-up .look-up .ensures in
+    let d = at-look-down .look-down .ensures in
+    let l = answers-low (at-start .pre .1 .1) (at-loop .loop .inv) u d (at-first .if1 .left) (c .if2 .left) in
     omega arith
 
 returns-3 : tie.Need-returns-3 Inv-loop μ-loop
