@@ -23,9 +23,9 @@ reaches z values from x q = eqb (getD values (pairIn z x (target q)) 0) from
 abbrev pub someOwn : (ℕ → Bool) → List ℕ → ℕ → Bool
 someOwn f moves j = any f (ownMoves (source (getD moves j 0)) (action (getD moves j 0)) moves)
 
--- What a move says: 0 if it is not of the part, 1 if it is and does not pass the test, 3 if it does.
+-- What a move says: 0 if it is not of the part, 1 if it is and does not pass the test, 2 if it does.
 unfoldable pub says : (ℕ → Bool) → ℕ → ℕ → ℕ
-says f part q = cond (eqb (q / 1024) part) (cond (f q) 3 1) 0
+says f part q = cond (eqb (q / 1024) part) (cond (f q) 2 1) 0
 
 -- What the move at a place says; 0 past the last.
 unfoldable pub saysAt : (ℕ → Bool) → List ℕ → ℕ → ℕ → ℕ

@@ -1,14 +1,14 @@
 -- A look outwards from one move of a part, at both sides in turn: what has been passed, and what is told when it is over. Assumes nothing.
-use mathlib.Core.Path.{_≡_, refl, sym, _∙_}
+use mathlib.Core.Path.{_≡_, refl}
 use mathlib.Core.Logic.{inl, inr}
-use mathlib.Core.Bool.{Bool, true, false, _||_}
+use mathlib.Core.Bool.{Bool, true, false}
 use mathlib.Core.List.{List}
 use Prim.Native.Nat.{ℕ, _+_, _-_, _/_, _≤_, _<_}
 use native.Mathlib.Decide.{decLt}
 use native.Mathlib.Omega.{arith}
 use lib.ListN.{length, getD}
-use lib.Dec.{eqb, ltb}
-use Rattle.lists.specs.Tests.{tell, ltb-is, ltb-in, ltb-no, eqb-is, eqb-in, eqb-no, or-out, or-no}
+use lib.Dec.{eqb}
+use Rattle.lists.specs.Tests.{tell, ltb-in, ltb-no, eqb-is, eqb-in, eqb-no}
 use Rattle.table.specs.Ascending.{ascends}
 use Rattle.engine_own.specs.Looks.{someOwn, says, saysAt, saysBefore}
 use Rattle.engine_own.specs.Places.{begins, ends, ends-inside, stands-in, stands-out, any-at, any-none}
@@ -17,19 +17,25 @@ use Rattle.engine_own.specs.Places.{begins, ends, ends-inside, stands-in
 data Told (over passed found : Type 0) (r : ℕ) : Type 0 where
   stops : r ≡ 0 → over → Told over passed found r
   goes : r ≡ 1 → passed → Told over passed found r
-  hits : r ≡ 3 → found → Told over passed found r
+  hits : r ≡ 2 → found → Told over passed found r
 
--- An answer is at most 3.
-told-low : {o p q : Type 0} {r : ℕ} → Told o p q r → r ≤ 3
-told-low (stops e x) = omega arith
-told-low (goes e x) = omega arith
-told-low (hits e x) = omega arith
+-- Where the answer is 2, one is found.
+told-found : {o p q : Type 0} {r : ℕ} → Told o p q r → r ≡ 2 → q
+told-found (stops e x) h = absurd (omega arith)
+told-found (goes e x) h = absurd (omega arith)
+told-found (hits e x) h = x
 
--- Where none is found, it is 1 or 0, and 1 only where one more is passed.
-told-passed : {o p q : Type 0} {r : ℕ} → Told o p q r → r ≤ 2 → (r ≤ 1) × (0 < r → p)
+-- Where it is not, it is 1 or 0, and 1 only where one more is passed.
+told-passed : {o p q : Type 0} {r : ℕ} → Told o p q r → (r ≡ 2 → ⊥) → (r ≤ 1) × (0 < r → p)
 told-passed (stops e x) h = (omega arith, λ k. absurd (omega arith))
 told-passed (goes e x) h = (omega arith, λ k. x)
-told-passed (hits e x) h = absurd (omega arith)
+told-passed (hits e x) h = absurd (h e)
+
+-- Where it is 0, the side is over.
+told-over : {o p q : Type 0} {r : ℕ} → Told o p q r → r ≡ 0 → o
+told-over (stops e x) h = x
+told-over (goes e x) h = absurd (omega arith)
+told-over (hits e x) h = absurd (omega arith)
 
 -- What a move says.
 says-told : (f : ℕ → Bool) (part q : ℕ)
@@ -99,14 +105,6 @@ one-fits r m n h k f =
       | no x ↦ omega arith
     ]
 
--- The sum of two answers at which a look is over is not 1 and not 2.
-not-over : (n : ℕ) → (eqb n 0 || ltb 2 n) ≡ true → 0 < n → n ≤ 2 → ⊥
-not-over n h x y =
-    elim (or-out (eqb n 0) (ltb 2 n) h) [
-      | inl k ↦ let e = eqb-is n 0 .0 k in omega arith
-      | inr k ↦ let e = ltb-is 2 n .0 k in omega arith
-    ]
-
 -- The moves at low and after it, before high, do not pass the test; the place j is among theirs or next to them.
 pub record Passed (f : ℕ → Bool) (l : List ℕ) (j low high : ℕ) : Type 0 where
   pub here : j < length l
@@ -126,32 +124,39 @@ pub passed-none : (f : ℕ → Bool) (l : List ℕ) (j : ℕ) → j < length l �
 passed-none f l j h =
     record { here = h; under = omega arith; over = omega arith; inside = omega arith; none = λ i a b. absurd (omega arith) }
 
-module _ {f : ℕ → Bool} {l : List ℕ} {j low high above below : ℕ} (up : ascends 0 l ≡ true) (p : Passed f l j low high)
-    (a : above ≡ saysAt f l (getD l j 0 / 1024) high) (b : below ≡ saysBefore f l (getD l j 0 / 1024) low) where
+module _ {f : ℕ → Bool} {l : List ℕ} {j low high : ℕ} (up : ascends 0 l ≡ true) (p : Passed f l j low high) where
   -- What the answer from above tells.
-  told-above : FromAbove f l j high above
-  told-above = rw a (from-above f l up j (p .here) high (p .over))
+  told-above : {above : ℕ} → above ≡ saysAt f l (getD l j 0 / 1024) high → FromAbove f l j high above
+  told-above a = rw a (from-above f l up j (p .here) high (p .over))
 
   -- What the answer from below tells.
-  told-below : FromBelow f l j low below
-  told-below = rw b (from-below f l up j (p .here) low (p .under))
+  told-below : {below : ℕ} → below ≡ saysBefore f l (getD l j 0 / 1024) low → FromBelow f l j low below
+  told-below b = rw b (from-below f l up j (p .here) low (p .under))
 
-  -- No answer is more than 3.
-  pub answers-low : (above ≤ 3) × (below ≤ 3)
-  answers-low = (told-low told-above, told-low told-below)
+  -- Where the answer from above is 2, one passes the test.
+  pub found-above : {above : ℕ} → above ≡ saysAt f l (getD l j 0 / 1024) high → above ≡ 2 → someOwn f l j ≡ true
+  found-above a = told-found (told-above a)
 
-  -- Where a side is not over and none is found, the look goes on, with more that have been passed.
-  pub goes-on : (eqb (above + below) 0 || ltb 2 (above + below)) ≡ false → Further f l j low high above below
-  goes-on h =
-      let n = or-no _ _ .0 h in
-      let some = eqb-no (above + below) 0 .0 (n .0) in
-      let few = ltb-no 2 (above + below) .0 (n .1) in
+  -- The same of the answer from below.
+  pub found-below : {below : ℕ} → below ≡ saysBefore f l (getD l j 0 / 1024) low → below ≡ 2 → someOwn f l j ≡ true
+  found-below b = told-found (told-below b)
+
+module _ {f : ℕ → Bool} {l : List ℕ} {j low high above below : ℕ} (up : ascends 0 l ≡ true) (p : Passed f l j low high)
+    (a : above ≡ saysAt f l (getD l j 0 / 1024) high) (b : below ≡ saysBefore f l (getD l j 0 / 1024) low)
+    (h : above ≡ 2 → ⊥) (k : below ≡ 2 → ⊥) where
+  -- Where neither finds one, each is at most 1.
+  pub answers-low : (above ≤ 1) × (below ≤ 1)
+  answers-low = (told-passed (told-above up p a) h .0, told-passed (told-below up p b) k .0)
+
+  -- Where a side is not over, the look goes on, with more that have been passed.
+  pub goes-on : (above + below ≡ 0 → ⊥) → Further f l j low high above below
+  goes-on n =
       let u = p .under in
       let o = p .over in
-      let x = told-passed told-above (omega arith) in
-      let y = told-passed told-below (omega arith) in
-      let v = one-fits above high (length l) (x .0) (p .inside) (λ k. x .1 k .0) in
-      let w = one-fits below 0 low (y .0) (omega arith) (λ k. y .1 k .0) in record {
+      let x = told-passed (told-above up p a) h in
+      let y = told-passed (told-below up p b) k in
+      let v = one-fits above high (length l) (x .0) (p .inside) (λ t. x .1 t .0) in
+      let w = one-fits below 0 low (y .0) (omega arith) (λ t. y .1 t .0) in record {
         more = omega arith;
         room = omega arith;
         passed = record {
@@ -159,7 +164,7 @@ module _ {f : ℕ → Bool} {l : List ℕ} {j low high above below : ℕ} (up : 
           under = omega arith;
           over = omega arith;
           inside = v;
-          none = λ i g k. elim (decLt i low) [
+          none = λ i g q. elim (decLt i low) [
             | yes s ↦ let e : i ≡ low - 1 = omega arith in rw e (y .1 (omega arith) .1)
             | no s ↦ elim (decLt i high) [
               | yes t ↦ p .none i (omega arith) t
@@ -170,24 +175,8 @@ module _ {f : ℕ → Bool} {l : List ℕ} {j low high above below : ℕ} (up : 
       }
 
   -- Where both sides are over, none passes the test.
-  none-found : ends (getD l j 0) l ≤ high → low ≤ begins (getD l j 0) l → someOwn f l j ≡ false
-  none-found x y =
-      any-none f l (ends (getD l j 0) l) (ends-inside (getD l j 0) l) (begins (getD l j 0) l) (λ i m n. p .none i (omega arith) (omega arith))
-
-  -- When the look is over, the answers tell whether one does.
-  pub answers-tell : (eqb (above + below) 0 || ltb 2 (above + below)) ≡ true → ltb 2 (above + below) ≡ someOwn f l j
-  answers-tell h =
-      let k = not-over (above + below) h in
-      elim told-above [
-        | hits e n ↦ ltb-in 2 (above + below) (omega arith) ∙ sym n
-        | goes e n ↦ elim told-below [
-          | hits d m ↦ ltb-in 2 (above + below) (omega arith) ∙ sym m
-          | goes d m ↦ absurd (k (omega arith) (omega arith))
-          | stops d m ↦ absurd (k (omega arith) (omega arith))
-        ]
-        | stops e n ↦ elim told-below [
-          | hits d m ↦ ltb-in 2 (above + below) (omega arith) ∙ sym m
-          | goes d m ↦ absurd (k (omega arith) (omega arith))
-          | stops d m ↦ ltb-no 2 (above + below) .1 (omega arith) ∙ sym (none-found n m)
-        ]
-      ]
+  pub none-found : above + below ≡ 0 → someOwn f l j ≡ false
+  none-found n =
+      let x = told-over (told-above up p a) (omega arith) in
+      let y = told-over (told-below up p b) (omega arith) in
+      any-none f l (ends (getD l j 0) l) (ends-inside (getD l j 0) l) (begins (getD l j 0) l) (λ i m q. p .none i (omega arith) (omega arith))

@@ -24,8 +24,8 @@ pub fn has(sizes: Sizes, values: &[u8], from: u8, x: Variable, s: State) -> bool
     values[p] == from
 }
 
-// What the move m says: 0 if it is not of the part, 1 if it is and leads to no pair of x that has the value `from`, 3 if it leads to
-// one. So the sum of two answers is 1 or 2 where neither found one and not both are past the part.
+// What the move m says: 0 if it is not of the part, 1 if it is and leads to no pair of x that has the value `from`, 2 if it leads to
+// one.
 fn tell(sizes: Sizes, values: &[u8], from: u8, x: Variable, part: u32, m: u32) -> u8
     requires { ⌜ (x .0 < sizes .variables) × ((target m < sizes .states) × (length (now values) ≡ pairsOf sizes)) ⌝ }
     ensures { λ r. ⌜ r ≡ says (reaches sizes (now (values .entry)) from (x .0)) part m ⌝ }
@@ -34,7 +34,7 @@ fn tell(sizes: Sizes, values: &[u8], from: u8, x: Variable, part: u32, m: u32) -
         return 0;
     }
     if has(sizes, values, from, x, words::target_of(m)) {
-        return 3;
+        return 2;
     }
     1
 }
@@ -82,7 +82,8 @@ fn look_down(
 // Does a move with the source and the action of the move at j lead to a pair of x that has the value `from`? Those at `low` and after
 // it, before `high`, do not, and each turn looks at one more on either side: a look is as long as the shorter way to one that does. Where
 // pairs lose the value one by one, and each look starts from the move to the one that did last, all looks at n moves pass at most about
-// n times the logarithm of n of them, since what is passed on the shorter side becomes part of a stretch twice as long.
+// n times the logarithm of n of them, since what is passed on the shorter side becomes part of a stretch twice as long. An answer that
+// finds one is returned at once, and not with the other: so branches tell the next places, and no place waits for a value.
 pub fn leads_from(
     sizes: Sizes,
     moves: &[u32],
@@ -102,10 +103,16 @@ pub fn leads_from(
     let mut high = j;
     loop {
         let above = look_up(sizes, moves, values, from, x, part, high);
+        if above == 2 {
+            return true;
+        }
         let below = look_down(sizes, moves, values, from, x, part, low);
+        if below == 2 {
+            return true;
+        }
         let told = above + below;
-        if (told == 0) | (2 < told) {
-            return 2 < told;
+        if told == 0 {
+            return false;
         }
         high = high + above as usize;
         low = low - below as usize;

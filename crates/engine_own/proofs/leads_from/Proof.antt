@@ -1,11 +1,11 @@
--- The moves at `low` and after it, before `high`, lead to no pair of x with the value; each turn adds one at either side. The measure
--- is what is left at both sides. Assumes nothing.
-use mathlib.Core.Bool.{Bool}
-use Prim.Native.Nat.{ℕ, _+_, _-_}
+-- The moves at `low` and after it, before `high`, lead to no pair of x with the value; each turn adds one at either side that is not
+-- over. The measure is what is left at both sides. Assumes nothing.
+use mathlib.Core.Path.{sym}
+use Prim.Native.Nat.{_+_, _-_}
 use native.Mathlib.Omega.{arith}
 use lib.ListN.{length}
 use Rattle.engine_own.specs.Looks.{reaches}
-use Rattle.engine_own.specs.Outwards.{Passed, Further, passed-none, answers-low, goes-on, answers-tell}
+use Rattle.engine_own.specs.Outwards.{Passed, Further, passed-none, found-above, found-below, answers-low, none-found, goes-on}
 use borrow.Author.Needs.{needs}
 use Rattle.engine_own.proofs.leads_from.Statement.{statement}
 use Rattle.engine_own.proofs.leads_from.Tie as tie
@@ -20,8 +20,8 @@ abbrev μ-loop : tie.MeasureT-loop
 abbrev start-before-loop : tie.At-loop Inv-loop μ-loop → tie.Start Inv-loop μ-loop
 start-before-loop c = c .before .before .before .before
 
-abbrev loop-before-else : tie.Else1 Inv-loop μ-loop → tie.At-loop Inv-loop μ-loop
-loop-before-else c = c .before .before .before
+abbrev loop-before-else : tie.Else2 Inv-loop μ-loop → tie.At-loop Inv-loop μ-loop
+loop-before-else c = c .before .before .before .before
 
 mul-part : tie.Need-mul-part Inv-loop μ-loop
 mul-part c =
@@ -45,48 +45,72 @@ look-up-requires c κs =
     let p = at-start .pre in
     ((p .0 .0, p .0 .1 .1), p .1 .0)
 
+returns : tie.Need-returns Inv-loop μ-loop
+returns c =
+    let at-look-up = c .before in
+    let at-loop = c .before .before in
+    let at-start = start-before-loop at-loop in
+    sym (found-above (at-start .pre .1 .1) (at-loop .loop .inv) (at-look-up .look-up .ensures) (c .if1 .taken))
+
 look-down-requires : tie.Need-look-down-requires Inv-loop μ-loop
 look-down-requires c κs =
-    let at-loop = c .before in
+    let at-loop = c .before .before in
     let at-start = start-before-loop at-loop in
     let p = at-start .pre in
     let i = at-loop .loop .inv in
     ((p .0 .0, (omega arith, p .0 .1 .1)), p .1 .0)
 
+returns-2 : tie.Need-returns-2 Inv-loop μ-loop
+returns-2 c =
+    let at-look-down = c .before in
+    let at-loop = c .before .before .before .before in
+    let at-start = start-before-loop at-loop in
+    sym (found-below (at-start .pre .1 .1) (at-loop .loop .inv) (at-look-down .look-down .ensures) (c .if2 .taken))
+
 add-told : tie.Need-add-told Inv-loop μ-loop
 add-told c =
-    let at-look-up = c .before in
-    let at-loop = c .before .before in
+    let at-look-down = c .before in
+    let at-first = c .before .before in
+    let at-look-up = c .before .before .before in
+    let at-loop = loop-before-else c in
     let at-start = start-before-loop at-loop in
-    let l = answers-low (at-start .pre .1 .1) (at-loop .loop .inv) (at-look-up .look-up .ensures) (c .look-down .ensures) in
+    let u = at-look-up .look-up .ensures in
+    let d = at-look-down .look-down .ensures in
+    let l = answers-low (at-start .pre .1 .1) (at-loop .loop .inv) u d (at-first .if1 .left) (c .if2 .left) in
     omega arith
 
-returns : tie.Need-returns Inv-loop μ-loop
-returns c =
-    let at-look-down = c .before in
-    let at-look-up = c .before .before in
-    let at-loop = c .before .before .before in
+returns-3 : tie.Need-returns-3 Inv-loop μ-loop
+returns-3 c =
+    let at-second = c .before in
+    let at-look-down = c .before .before in
+    let at-first = c .before .before .before in
+    let at-look-up = c .before .before .before .before in
+    let at-loop = loop-before-else at-second in
     let at-start = start-before-loop at-loop in
-    answers-tell (at-start .pre .1 .1) (at-loop .loop .inv) (at-look-up .look-up .ensures) (at-look-down .look-down .ensures) (c .if1 .taken)
+    sym (none-found (at-start .pre .1 .1) (at-loop .loop .inv) (at-look-up .look-up .ensures) (at-look-down .look-down .ensures)
+    (at-first .if1 .left) (at-second .if2 .left) (c .if3 .taken))
 
 -- What two answers tell where the look goes on.
-abbrev Goes : tie.Else1 Inv-loop μ-loop → Type 0
+abbrev Goes : tie.Else3 Inv-loop μ-loop → Type 0
 Goes c =
-    let at-look-down = c .before in
-    let at-look-up = c .before .before in
-    let at-loop = loop-before-else c in
+    let at-look-down = c .before .before in
+    let at-look-up = c .before .before .before .before in
+    let at-loop = loop-before-else (c .before) in
     let a = start-before-loop at-loop .args in
     Further (reaches (a .sizes) (a .values .now) (a .from) (a .x .0)) (a .moves .now) (a .j) (at-loop .loop .low) (at-loop .loop .high)
     (at-look-up .look-up .result) (at-look-down .look-down .result)
 
 -- Where it goes on, more moves have been passed.
-further : (c : tie.Else1 Inv-loop μ-loop) → Goes c
+further : (c : tie.Else3 Inv-loop μ-loop) → Goes c
 further c =
-    let at-look-down = c .before in
-    let at-look-up = c .before .before in
-    let at-loop = loop-before-else c in
+    let at-second = c .before in
+    let at-look-down = c .before .before in
+    let at-first = c .before .before .before in
+    let at-look-up = c .before .before .before .before in
+    let at-loop = loop-before-else at-second in
     let at-start = start-before-loop at-loop in
-    goes-on (at-start .pre .1 .1) (at-loop .loop .inv) (at-look-up .look-up .ensures) (at-look-down .look-down .ensures) (c .if1 .left)
+    goes-on (at-start .pre .1 .1) (at-loop .loop .inv) (at-look-up .look-up .ensures) (at-look-down .look-down .ensures)
+    (at-first .if1 .left) (at-second .if2 .left) (c .if3 .left)
 
 cast-high : tie.Need-cast-high Inv-loop μ-loop
 cast-high c = search needs
@@ -116,9 +140,11 @@ leads-from-spec =
     shared-slice-read-part
     loop-holds
     look-up-requires
-    look-down-requires
-    add-told
     returns
+    look-down-requires
+    returns-2
+    add-told
+    returns-3
     cast-high
     add-high
     cast-low
