@@ -2,7 +2,7 @@
 // far as they go. What stands after them is nobody's here.
 ghost use mathlib.Core.Path.{_≡_};
 ghost use mathlib.Core.Bool.{true};
-ghost use Prim.Native.Nat.{_+_, _≤_, _<_};
+ghost use Prim.Native.Nat.{ℕ, _+_, _*_, _≤_, _<_};
 ghost use lib.ListN.{length};
 ghost use Rattle.runs.specs.Runs.{GoodLabel, GoodMove, withLabel, withMove, Labelled, Moved};
 use rules::Sizes;
@@ -21,6 +21,12 @@ pub struct MoveRun {
     pub least: u64,
     pub moving: u32,
     pub at: usize,
+}
+
+// Where moves are read without a stop: whether all so far were good, and where the next is read.
+struct Passed {
+    good: bool,
+    run: MoveRun,
 }
 
 // Whether a good label stands next.
@@ -93,8 +99,49 @@ fn with_move(bytes: &[u8], x: MoveRun) -> MoveRun
     }
 }
 
-// Past all good moves that stand next and have room.
-pub fn moves_run(bytes: &[u8], z: Sizes, room: usize, x: MoveRun) -> MoveRun
+// Past the whole move that stands next, and whether it is good and all before it are: without a branch.
+fn pass(bytes: &[u8], z: Sizes, x: Passed) -> Passed
+    requires { ⌜ (x .run .at + 6 ≤ length (now bytes)) × (x .run .count < 1024) ⌝ }
+    ensures { λ r. ⌜ (r .run ≡ withMove (now (bytes .entry)) (x .run)) × (r .good ≡ true → (x .good ≡ true) × GoodMove (now (bytes .entry)) z (x .run)) ⌝ }
+{
+    let y = x.run;
+    let at = y.at;
+    let m = wire::move_at(bytes, at + 1);
+    let q = limits::packed(m);
+    let here = (bytes[at] == 5) & limits::move_ok(z, m) & (y.least <= q);
+    let good = x.good & here;
+    let count = y.count + 1;
+    let least = q + 1;
+    let moving = limits::moving_with(y.moving, m.source);
+    let end = at + 6;
+    let run = MoveRun {
+        count: count,
+        least: least,
+        moving: moving,
+        at: end,
+    };
+    Passed {
+        good: good,
+        run: run,
+    }
+}
+
+// Past the next n moves, each of which stands whole, and whether all of them are good.
+fn pass_all(bytes: &[u8], z: Sizes, x: MoveRun, n: usize) -> Passed
+    requires { ⌜ (x .at + 6 * n ≤ length (now bytes)) × (x .count + n ≤ 1024) ⌝ }
+    ensures { λ r. ⌜ ((room : ℕ) → x .count + n ≤ room → r .good ≡ true → Moved (now (bytes .entry)) z room x (r .run)) ⌝ }
+{
+    let mut y = Passed { good: true, run: x };
+    let mut k: usize = 0;
+    while k < n {
+        y = pass(bytes, z, y);
+        k = k + 1;
+    }
+    y
+}
+
+// Past all good moves that stand next and have room, one after another.
+fn one_by_one(bytes: &[u8], z: Sizes, room: usize, x: MoveRun) -> MoveRun
     requires { ⌜ (x .at ≤ length (now bytes)) × (room ≤ 1024) ⌝ }
     ensures { λ r. ⌜ Moved (now (bytes .entry)) z room x r ⌝ }
 {
@@ -103,4 +150,34 @@ pub fn moves_run(bytes: &[u8], z: Sizes, room: usize, x: MoveRun) -> MoveRun
         y = with_move(bytes, y);
     }
     y
+}
+
+// The lower of two numbers.
+fn lower(a: usize, b: usize) -> usize
+    ensures { λ r. ⌜ (r ≤ a) × (r ≤ b) ⌝ }
+{
+    if a < b {
+        return a;
+    }
+    b
+}
+
+// Past all good moves that stand next and have room: at once where all that stand there are good, one after another where
+// one of them is not.
+pub fn moves_run(bytes: &[u8], z: Sizes, room: usize, x: MoveRun) -> MoveRun
+    requires { ⌜ (x .at ≤ length (now bytes)) × (room ≤ 1024) ⌝ }
+    ensures { λ r. ⌜ Moved (now (bytes .entry)) z room x r ⌝ }
+{
+    let at = x.at;
+    let count = x.count as usize;
+    if room < count {
+        return x;
+    }
+    let n = lower(room - count, (bytes.len() - at) / 6);
+    let all = pass_all(bytes, z, x, n);
+    if all.good {
+        let run = all.run;
+        return run;
+    }
+    one_by_one(bytes, z, room, x)
 }
