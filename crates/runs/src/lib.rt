@@ -23,7 +23,7 @@ pub struct MoveRun {
     pub at: usize,
 }
 
-// Where moves are read without a stop: whether all so far were good, and where the next is read.
+// Past one move or some: whether all of them are good, and where the next is read.
 struct Passed {
     good: bool,
     run: MoveRun,
@@ -68,51 +68,17 @@ pub fn labels_run(bytes: &[u8], z: Sizes, x: LabelRun) -> LabelRun
     y
 }
 
-// Whether a good move stands next.
-fn good_move(bytes: &[u8], z: Sizes, x: MoveRun) -> bool
-    requires { ⌜ x .at ≤ length (now bytes) ⌝ }
-    ensures { λ r. ⌜ (r ≡ true → GoodMove (now (bytes .entry)) z x) ⌝ }
-{
-    let at = x.at;
-    if bytes.len() - at < 6 {
-        return false;
-    }
-    let m = wire::move_at(bytes, at + 1);
-    (bytes[at] == 5) & limits::move_ok(z, m) & (x.least <= limits::packed(m))
-}
-
-// Past the move that stands next.
-fn with_move(bytes: &[u8], x: MoveRun) -> MoveRun
+// Past the whole move that stands next, and whether it is good: without a branch.
+fn pass(bytes: &[u8], z: Sizes, x: MoveRun) -> Passed
     requires { ⌜ (x .at + 6 ≤ length (now bytes)) × (x .count < 1024) ⌝ }
-    ensures { λ r. ⌜ r ≡ withMove (now (bytes .entry)) x ⌝ }
+    ensures { λ r. ⌜ (r .run ≡ withMove (now (bytes .entry)) x) × (r .good ≡ true → GoodMove (now (bytes .entry)) z x) ⌝ }
 {
     let at = x.at;
     let m = wire::move_at(bytes, at + 1);
+    let good = (bytes[at] == 5) & limits::move_ok(z, m) & (x.least <= limits::packed(m));
     let count = x.count + 1;
     let least = limits::packed(m) + 1;
     let moving = limits::moving_with(x.moving, m.source);
-    MoveRun {
-        count: count,
-        least: least,
-        moving: moving,
-        at: at + 6,
-    }
-}
-
-// Past the whole move that stands next, and whether it is good and all before it are: without a branch.
-fn pass(bytes: &[u8], z: Sizes, x: Passed) -> Passed
-    requires { ⌜ (x .run .at + 6 ≤ length (now bytes)) × (x .run .count < 1024) ⌝ }
-    ensures { λ r. ⌜ (r .run ≡ withMove (now (bytes .entry)) (x .run)) × (r .good ≡ true → (x .good ≡ true) × GoodMove (now (bytes .entry)) z (x .run)) ⌝ }
-{
-    let y = x.run;
-    let at = y.at;
-    let m = wire::move_at(bytes, at + 1);
-    let q = limits::packed(m);
-    let here = (bytes[at] == 5) & limits::move_ok(z, m) & (y.least <= q);
-    let good = x.good & here;
-    let count = y.count + 1;
-    let least = q + 1;
-    let moving = limits::moving_with(y.moving, m.source);
     let end = at + 6;
     let run = MoveRun {
         count: count,
@@ -131,13 +97,16 @@ fn pass_all(bytes: &[u8], z: Sizes, x: MoveRun, n: usize) -> Passed
     requires { ⌜ (x .at + 6 * n ≤ length (now bytes)) × (x .count + n ≤ 1024) ⌝ }
     ensures { λ r. ⌜ ((room : ℕ) → x .count + n ≤ room → r .good ≡ true → Moved (now (bytes .entry)) z room x (r .run)) ⌝ }
 {
-    let mut y = Passed { good: true, run: x };
+    let mut good = true;
+    let mut y = x;
     let mut k: usize = 0;
     while k < n {
-        y = pass(bytes, z, y);
+        let p = pass(bytes, z, y);
+        good = good & p.good;
+        y = p.run;
         k = k + 1;
     }
-    y
+    Passed { good: good, run: y }
 }
 
 // Past all good moves that stand next and have room, one after another.
@@ -146,8 +115,12 @@ fn one_by_one(bytes: &[u8], z: Sizes, room: usize, x: MoveRun) -> MoveRun
     ensures { λ r. ⌜ Moved (now (bytes .entry)) z room x r ⌝ }
 {
     let mut y = x;
-    while ((y.count as usize) < room) & good_move(bytes, z, y) {
-        y = with_move(bytes, y);
+    while ((y.count as usize) < room) & (6 <= bytes.len() - y.at) {
+        let p = pass(bytes, z, y);
+        if !p.good {
+            return y;
+        }
+        y = p.run;
     }
     y
 }

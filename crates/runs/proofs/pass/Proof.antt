@@ -1,4 +1,4 @@
--- `runs::pass` meets its contract: its test is that of `good_move`, and where it leads is where `with_move` does. Assumes nothing.
+-- `runs::pass` meets its contract. Assumes nothing.
 use mathlib.Core.Path.{refl}
 use native.Mathlib.Numerals.{add-one}
 use borrow.Author.Needs.{needs}
@@ -12,17 +12,20 @@ add-move-at c = search needs
 move-at-requires : tie.Need-move-at-requires
 move-at-requires c κs = search needs
 
-packed-requires : tie.Need-packed-requires
-packed-requires c κs = search needs
-
-shared-slice-read-here : tie.Need-shared-slice-read-here
-shared-slice-read-here c = search needs
+shared-slice-read-good : tie.Need-shared-slice-read-good
+shared-slice-read-good c = search needs
 
 move-ok-requires : tie.Need-move-ok-requires
 move-ok-requires c κs = search needs
 
+packed-requires : tie.Need-packed-requires
+packed-requires c κs = search needs
+
 add-count : tie.Need-add-count
 add-count c = search needs
+
+packed-requires-2 : tie.Need-packed-requires-2
+packed-requires-2 c κs = search needs
 
 add-least : tie.Need-add-least
 add-least c = search needs
@@ -34,14 +37,14 @@ add-end : tie.Need-add-end
 add-end c = search needs
 
 returns : tie.Need-returns
-returns c = let at-ok = c .before .before .before .before in
-    let at-packed = at-ok .before .before in
-    let at-move = at-packed .before in
-    let at-start = at-move .before .before .before in (
-      rw (c .moving-with .ensures, at-packed .packed .ensures .0, at-move .move-at .ensures, add-one, add-one) refl,
-      λ e. let both = and-is (at-start .args .x .good) _ .0 e in
-          let k = simp and-is at (rw (at-packed .packed .ensures .0, at-ok .move-ok .ensures, at-move .move-at .ensures) at (both .1)) in
-          (both .0, record { inside-bytes = at-start .pre .0; kind = eqb-is _ _ .0 (k .0 .0); fits = k .0 .1; order = leb-is _ _ .0 (k .1) }),
+returns c = let at-least = c .before in
+    let at-packed = at-least .before .before .before in
+    let at-ok = at-packed .before in
+    let at-move = at-ok .before .before in
+    let at-start = at-move .before .before in (
+      rw (c .moving-with .ensures, at-least .packed2 .ensures .0, at-move .move-at .ensures, add-one, add-one) refl,
+      λ e. let k = simp and-is at (rw (at-packed .packed .ensures .0, at-ok .move-ok .ensures, at-move .move-at .ensures) at e) in
+          record { inside-bytes = at-start .pre .0; kind = eqb-is _ _ .0 (k .0 .0); fits = k .0 .1; order = leb-is _ _ .0 (k .1) },
     )
 
 pub pass-spec : {M : Type 1} → statement M
@@ -50,10 +53,11 @@ pass-spec =
     (tie.spec
     add-move-at
     move-at-requires
-    packed-requires
-    shared-slice-read-here
+    shared-slice-read-good
     move-ok-requires
+    packed-requires
     add-count
+    packed-requires-2
     add-least
     moving-with-requires
     add-end
