@@ -2,7 +2,7 @@
 // far as they go. What stands after them is nobody's here.
 ghost use mathlib.Core.Path.{_≡_};
 ghost use mathlib.Core.Bool.{true};
-ghost use Prim.Native.Nat.{_+_, _≤_, _<_};
+ghost use Prim.Native.Nat.{ℕ, _+_, _*_, _≤_, _<_};
 ghost use lib.ListN.{length};
 ghost use Rattle.runs.specs.Runs.{GoodLabel, GoodMove, withLabel, withMove, Labelled, Moved};
 use rules::Sizes;
@@ -21,6 +21,12 @@ pub struct MoveRun {
     pub least: u64,
     pub moving: u32,
     pub at: usize,
+}
+
+// Past one move or some: whether all of them are good, and where the next is read.
+struct Passed {
+    good: bool,
+    run: MoveRun,
 }
 
 // Whether a good label stands next.
@@ -62,45 +68,89 @@ pub fn labels_run(bytes: &[u8], z: Sizes, x: LabelRun) -> LabelRun
     y
 }
 
-// Whether a good move stands next.
-fn good_move(bytes: &[u8], z: Sizes, x: MoveRun) -> bool
-    requires { ⌜ x .at ≤ length (now bytes) ⌝ }
-    ensures { λ r. ⌜ (r ≡ true → GoodMove (now (bytes .entry)) z x) ⌝ }
-{
-    let at = x.at;
-    if bytes.len() - at < 6 {
-        return false;
-    }
-    let m = wire::move_at(bytes, at + 1);
-    (bytes[at] == 5) & limits::move_ok(z, m) & (x.least <= limits::packed(m))
-}
-
-// Past the move that stands next.
-fn with_move(bytes: &[u8], x: MoveRun) -> MoveRun
+// Past the whole move that stands next, and whether it is good: without a branch.
+fn pass(bytes: &[u8], z: Sizes, x: MoveRun) -> Passed
     requires { ⌜ (x .at + 6 ≤ length (now bytes)) × (x .count < 1024) ⌝ }
-    ensures { λ r. ⌜ r ≡ withMove (now (bytes .entry)) x ⌝ }
+    ensures { λ r. ⌜ (r .run ≡ withMove (now (bytes .entry)) x) × (r .good ≡ true → GoodMove (now (bytes .entry)) z x) ⌝ }
 {
     let at = x.at;
     let m = wire::move_at(bytes, at + 1);
+    let good = (bytes[at] == 5) & limits::move_ok(z, m) & (x.least <= limits::packed(m));
     let count = x.count + 1;
     let least = limits::packed(m) + 1;
     let moving = limits::moving_with(x.moving, m.source);
-    MoveRun {
+    let end = at + 6;
+    let run = MoveRun {
         count: count,
         least: least,
         moving: moving,
-        at: at + 6,
+        at: end,
+    };
+    Passed {
+        good: good,
+        run: run,
     }
 }
 
-// Past all good moves that stand next and have room.
-pub fn moves_run(bytes: &[u8], z: Sizes, room: usize, x: MoveRun) -> MoveRun
+// Past the next n moves, each of which stands whole, and whether all of them are good.
+fn pass_all(bytes: &[u8], z: Sizes, x: MoveRun, n: usize) -> Passed
+    requires { ⌜ (x .at + 6 * n ≤ length (now bytes)) × (x .count + n ≤ 1024) ⌝ }
+    ensures { λ r. ⌜ ((room : ℕ) → x .count + n ≤ room → r .good ≡ true → Moved (now (bytes .entry)) z room x (r .run)) ⌝ }
+{
+    let mut good = true;
+    let mut y = x;
+    let mut k: usize = 0;
+    while k < n {
+        let p = pass(bytes, z, y);
+        good = good & p.good;
+        y = p.run;
+        k = k + 1;
+    }
+    Passed { good: good, run: y }
+}
+
+// Past all good moves that stand next and have room, one after another.
+fn one_by_one(bytes: &[u8], z: Sizes, room: usize, x: MoveRun) -> MoveRun
     requires { ⌜ (x .at ≤ length (now bytes)) × (room ≤ 1024) ⌝ }
     ensures { λ r. ⌜ Moved (now (bytes .entry)) z room x r ⌝ }
 {
     let mut y = x;
-    while ((y.count as usize) < room) & good_move(bytes, z, y) {
-        y = with_move(bytes, y);
+    while ((y.count as usize) < room) & (6 <= bytes.len() - y.at) {
+        let p = pass(bytes, z, y);
+        if !p.good {
+            return y;
+        }
+        y = p.run;
     }
     y
+}
+
+// The lower of two numbers.
+fn lower(a: usize, b: usize) -> usize
+    ensures { λ r. ⌜ (r ≤ a) × (r ≤ b) ⌝ }
+{
+    if a < b {
+        return a;
+    }
+    b
+}
+
+// Past all good moves that stand next and have room: at once where all that stand there are good, one after another where
+// one of them is not.
+pub fn moves_run(bytes: &[u8], z: Sizes, room: usize, x: MoveRun) -> MoveRun
+    requires { ⌜ (x .at ≤ length (now bytes)) × (room ≤ 1024) ⌝ }
+    ensures { λ r. ⌜ Moved (now (bytes .entry)) z room x r ⌝ }
+{
+    let at = x.at;
+    let count = x.count as usize;
+    if room < count {
+        return x;
+    }
+    let n = lower(room - count, (bytes.len() - at) / 6);
+    let all = pass_all(bytes, z, x, n);
+    if all.good {
+        let run = all.run;
+        return run;
+    }
+    one_by_one(bytes, z, room, x)
 }

@@ -1,59 +1,44 @@
--- `runs::moves_run` meets its contract. Assumes nothing.
-use Prim.Native.Nat.{_-_, _≤_}
+-- `runs::moves_run` meets its contract: by `pass_all` where that finds all moves good, else by `one_by_one`. Assumes nothing.
 use native.Mathlib.Omega.{arith}
-use lib.ListN.{length}
 use borrow.Author.Needs.{needs}
-use Rattle.lists.specs.Tests.{and-is, ltb-is}
-use Rattle.runs.specs.Runs.{Moved, none, more}
+use Rattle.runs.specs.Runs.{none}
 use Rattle.runs.proofs.moves_run.Statement.{statement}
 use Rattle.runs.proofs.moves_run.Tie as tie
 
-abbrev Inv-loop : tie.InvT-loop
-Inv-loop bytes z room y₀ y = (y .at ≤ length bytes) × Moved bytes z room y₀ y
+cast-count : tie.Need-cast-count
+cast-count c = search needs
 
-abbrev μ-loop : tie.MeasureT-loop
-μ-loop bytes z room y₀ y = length bytes - y .at
+returns : tie.Need-returns
+returns c = none
 
-loop-holds : tie.Need-loop-holds Inv-loop μ-loop
-loop-holds c = (omega arith, none)
+sub-lower : tie.Need-sub-lower
+sub-lower c = search needs
 
-cast-if1 : tie.Need-cast-if1 Inv-loop μ-loop
-cast-if1 c = search needs
+lower-requires : tie.Need-lower-requires
+lower-requires c κs = search needs
 
-good-move-requires : tie.Need-good-move-requires Inv-loop μ-loop
-good-move-requires c κs = c .before .loop .inv .0
+pass-all-requires : tie.Need-pass-all-requires
+pass-all-requires c κs = search needs
 
-with-move-requires : tie.Need-with-move-requires Inv-loop μ-loop
-with-move-requires c κs = let t = simp and-is at (c .if1 .taken) in
-    let n = ltb-is (c .before .before .before .loop .y .count) _ .0 (t .0) in
-    let g = c .before .good-move .ensures (t .1) in
-    (g .inside-bytes, omega arith)
+returns-2 : tie.Need-returns-2
+returns-2 c = let at-all = c .before .before in
+    at-all .pass-all .ensures _ (omega arith) (c .before .if2 .taken)
 
-loop-less : tie.Need-loop-less Inv-loop μ-loop
-loop-less c = let at-good = c .before .before in
-    let t = simp and-is at (c .before .if1 .taken) in
-    let g = at-good .good-move .ensures (t .1) .inside-bytes in
-    rw (c .with-move .ensures) (omega arith)
+one-by-one-requires : tie.Need-one-by-one-requires
+one-by-one-requires c κs = search needs
 
-loop-again : tie.Need-loop-again Inv-loop μ-loop
-loop-again c = let at-good = c .before .before in
-    let t = simp and-is at (c .before .if1 .taken) in
-    let g = at-good .good-move .ensures (t .1) in
-    rw (c .with-move .ensures) (g .inside-bytes, more _ (at-good .before .before .loop .inv .1) (ltb-is _ _ .0 (t .0)) g)
-
-returns : tie.Need-returns Inv-loop μ-loop
-returns c = c .before .before .before .loop .inv .1
+returns-3 : tie.Need-returns-3
+returns-3 c = search needs
 
 pub moves-run-spec : {M : Type 1} → statement M
 moves-run-spec =
     tie.close
     (tie.spec
-    Inv-loop
-    μ-loop
-    loop-holds
-    cast-if1
-    good-move-requires
-    with-move-requires
-    loop-less
-    loop-again
-    returns)
+    cast-count
+    returns
+    sub-lower
+    lower-requires
+    pass-all-requires
+    returns-2
+    one-by-one-requires
+    returns-3)
