@@ -1,17 +1,17 @@
 //! A row is a variable at all states. Each loop here goes over whole rows without a jump, so that it becomes vector code; in
-//! a row of answers 1 stands for yes.
+//! a row of answers an odd number stands for yes. A pair that waits may have 2 more than its value.
 
 use super::index::Into;
 use crate::ordinary::sizes::MOST_STATES;
 
 const MOST: usize = MOST_STATES as usize;
 
-/// A row of answers. The places past the states are 0.
+/// A row of answers. The places past the states are 0, and after `keep` the others 0 or 1.
 pub type Row = [u8; MOST];
 
 /// Whether some pair of a row has a value.
 pub fn has(values: &[u8], value: u8) -> bool {
-    values.iter().fold(0, |any, v| any | (v ^ value ^ 1)) == 1
+    values.iter().fold(0, |any, v| any | (v ^ value ^ 1)) & 1 == 1
 }
 
 /// Whether some pair of a row has an odd mark: it turned and did not come back.
@@ -40,14 +40,21 @@ pub fn fails_both(one: &[u8], two: &[u8], own: u8, bad: &mut [u8]) {
     }
 }
 
-/// Where some move of an action leads to a pair of the row that is not `own`; the row of answers has no yes yet.
+/// Where some move of an action leads to a pair of the row that is not `own`; the row of answers has no yes yet. Eight targets
+/// that are `own` are passed over together.
 pub fn fails_some(moves: Into, row: &[u8], own: u8, bad: &mut Row) {
     if !has(row, own ^ 1) {
         return;
     }
-    for (head, value) in moves.heads.iter().zip(row) {
-        let fails = value ^ own;
-        moves.arrivals.sources(*head, |s| bad[s % MOST] |= fails);
+    let all = [own; 8];
+    for (heads, values) in moves.heads.chunks(8).zip(row.chunks(8)) {
+        if values == all {
+            continue;
+        }
+        for (head, value) in heads.iter().zip(values) {
+            let fails = value ^ own;
+            moves.arrivals.sources(*head, |s, _| bad[s % MOST] |= fails);
+        }
     }
 }
 
@@ -56,7 +63,7 @@ pub fn fails_all(moves: Into, row: &[u8], own: u8, bad: &mut Row) {
     bad[..row.len()].fill(1);
     for (head, value) in moves.heads.iter().zip(row) {
         if *value == own {
-            moves.arrivals.sources(*head, |s| bad[s % MOST] = 0);
+            moves.arrivals.sources(*head, |s, _| bad[s % MOST] = 0);
         }
     }
 }
@@ -82,15 +89,16 @@ pub fn add_gone(values: &[u8], marks: &[u8], own: u8, seeds: &mut [u8]) {
 pub fn add_gone_sources(moves: Into, values: &[u8], marks: &[u8], own: u8, seeds: &mut Row) {
     for ((head, value), mark) in moves.heads.iter().zip(values).zip(marks) {
         if mark & 1 == 1 && *value == own {
-            moves.arrivals.sources(*head, |s| seeds[s % MOST] = 1);
+            moves.arrivals.sources(*head, |s, _| seeds[s % MOST] = 1);
         }
     }
 }
 
-/// Turns the bits `by` of the marks round where the answer is yes.
-pub fn mark(turns: &[u8], by: u8, marks: &mut [u8]) {
-    for (mark, turn) in marks.iter_mut().zip(turns) {
-        *mark ^= turn * by;
+/// Turns bits of the values and bits of the marks round where the answer is yes.
+pub fn turn(turns: &[u8], by: [u8; 2], values: &mut [u8], marks: &mut [u8]) {
+    for ((turn, value), mark) in turns.iter().zip(values).zip(marks) {
+        *value ^= turn * by[0];
+        *mark ^= turn * by[1];
     }
 }
 

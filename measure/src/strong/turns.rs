@@ -1,9 +1,15 @@
-//! The turns of a phase: first come, first served, each pair that waits turns, and the pairs of its component that lean on it
-//! are visited and may come to wait behind the others. A pair that waits is one number, 1,024 × variable + state.
+//! The turns of a phase. A pair turns as soon as it is found that it must, and then waits in the queue until the pairs of its
+//! component that lean on it are visited: first come, first served, and those that must turn as well wait behind the others.
+//! Which pairs turn and how many leanings are visited is the same in any order. A pair that waits is one number,
+//! 1,024 × variable + state.
+//!
+//! An easy diamond or box takes a pair that waits for one that has not turned, since it is visited again along the move to it: so
+//! its looks need not go past all that have turned together. Where one names a variable, a pair of that variable which has lost
+//! the component's own value has 2 more than its value as long as it waits.
 
-use super::names::Operand;
+use super::names::{Operand, EASY, SOME, STEP, WATCHED};
 use super::system::System;
-use crate::ordinary::moves::{pack, target};
+use crate::ordinary::moves::target;
 
 /// The phases: pairs come to their component's own value, or lose it.
 pub const SHIFTING: bool = false;
@@ -39,7 +45,7 @@ struct Run<'a> {
     visits: usize,
 }
 
-/// Turns the first so many pairs of the queue, and whoever comes to wait behind them.
+/// Turns whatever must turn because the first so many pairs of the queue have.
 #[inline(always)]
 pub fn turn<const PHASE: bool>(
     system: &System,
@@ -55,7 +61,7 @@ pub fn turn<const PHASE: bool>(
     turn_all::<PHASE>(system, own, values, marks, queue, waits)
 }
 
-/// Turns the pairs of a queue that is not empty.
+/// The same for a queue that is not empty.
 #[inline(never)]
 fn turn_all<const PHASE: bool>(
     system: &System,
@@ -78,12 +84,14 @@ fn turn_all<const PHASE: bool>(
     while at < run.tail {
         let (x, t) = taken(run.queue[at]);
         at += 1;
-        run.values[x * system.states + t] = own ^ u8::from(PHASE == SETTLING);
-        let mut number = system.names.last(x);
-        while number != 0 {
-            let operand = system.names.operand(number);
-            run.visit_all::<PHASE>(operand, t);
-            number = operand.before;
+        let mut place = x;
+        loop {
+            let operand = system.names.operand(place);
+            run.visit_all::<PHASE>(operand, x, t);
+            place = operand.next.into();
+            if place == 0 {
+                break;
+            }
         }
     }
     Turned {
@@ -93,27 +101,32 @@ fn turn_all<const PHASE: bool>(
 }
 
 impl Run<'_> {
-    /// Visits the pairs that lean by an operand on a pair of a state.
+    /// Visits the pairs that lean by an operand on the pair of a variable and a state, which waits no longer.
     #[inline(always)]
-    fn visit_all<const PHASE: bool>(&mut self, operand: &Operand, state: usize) {
+    fn visit_all<const PHASE: bool>(&mut self, operand: &Operand, x: usize, state: usize) {
         let (system, own) = (self.system, self.own);
-        if !operand.step {
+        let looks = PHASE == SETTLING && operand.is & EASY != 0;
+        if operand.is & STEP != 0 {
+            if looks {
+                self.values[x * system.states + state] = own ^ 1;
+            }
+            let arrivals = system.arrivals;
+            let head = arrivals.heads[usize::from(operand.other) + state];
+            arrivals.sources(head, |source, place| {
+                self.visits += 1;
+                self.visit::<PHASE>(operand, source, |values| {
+                    looks && leads(system, operand, place, own, values)
+                });
+            });
+        } else if operand.is != 0 {
             self.visits += 1;
-            return self.visit::<PHASE>(operand, state, |values| {
-                values[usize::from(operand.other) + state] == own
+            self.visit::<PHASE>(operand, state, |values| {
+                looks && values[usize::from(operand.other) + state] == own
             });
         }
-        let arrivals = system.arrivals;
-        let head = arrivals.heads[usize::from(operand.other) + state];
-        arrivals.sources(head, |source| {
-            self.visits += 1;
-            self.visit::<PHASE>(operand, source, |values| {
-                leads(system, operand, source, own, values)
-            });
-        });
     }
 
-    /// Has a pair wait that must turn; `still` tells of an easy one whether it keeps its value.
+    /// Turns a pair that has the value to turn from, unless it keeps that still.
     #[inline(always)]
     fn visit<const PHASE: bool>(
         &mut self,
@@ -122,31 +135,56 @@ impl Run<'_> {
         still: impl FnOnce(&[u8]) -> bool,
     ) {
         let pair = usize::from(operand.row) + state;
-        if (self.values[pair] == self.own) != (PHASE == SETTLING) {
+        if (self.values[pair] == self.own) != (PHASE == SETTLING) || still(self.values) {
             return;
         }
-        let mark = self.marks[pair];
-        let turns = match PHASE {
-            SHIFTING => mark == 0,
-            SETTLING => mark < 2 && !(operand.easy && still(self.values)),
-        };
-        if turns {
-            self.marks[pair] = if PHASE == SETTLING { 3 - mark } else { 1 };
-            self.queue[self.tail] = operand.first | state as u16;
-            self.tail += 1;
+        match PHASE {
+            SHIFTING => {
+                self.values[pair] = self.own;
+                self.marks[pair] = 1;
+            }
+            SETTLING => {
+                self.values[pair] = self.own ^ (operand.is & (SOME | WATCHED));
+                self.marks[pair] ^= 3;
+            }
+        }
+        self.queue[self.tail] = operand.first | state as u16;
+        self.tail += 1;
+    }
+}
+
+/// Whether a move with the source and the action of the one at a place, which leads to a pair that has lost the component's own
+/// value, leads to a pair that has it or waits. The look goes outwards from the place, on both sides by turns. What it passes on
+/// the shorter side becomes part of a stretch twice as long: so all looks at n moves pass at most about n times the logarithm
+/// of n. It is marked as rare so that the loop that calls it keeps its registers.
+#[cold]
+#[inline(never)]
+fn leads(system: &System, operand: &Operand, place: usize, own: u8, values: &[u8]) -> bool {
+    let e = &system.equations[usize::from(operand.first >> 10)];
+    let row = &values[system.row(e.second)];
+    let (before, after) = system.arrivals.moves.split_at(place);
+    let Some((along, after)) = after.split_first() else {
+        return false;
+    };
+    let same = |packed: &&u32| part(**packed) == part(*along);
+    let has = |packed: &u32| row[target(*packed) as usize] != own ^ 1;
+    let mut up = after.iter().take_while(same);
+    let mut down = before.iter().rev().take_while(same);
+    loop {
+        match up.next() {
+            None => return down.any(has),
+            Some(packed) if has(packed) => return true,
+            _ => {}
+        }
+        match down.next() {
+            None => return up.any(has),
+            Some(packed) if has(packed) => return true,
+            _ => {}
         }
     }
 }
 
-/// Whether a move of a diamond's or box's action still leads from a state to a pair with the component's own value.
-#[inline(never)]
-fn leads(system: &System, operand: &Operand, state: usize, own: u8, values: &[u8]) -> bool {
-    let e = &system.equations[usize::from(operand.first >> 10)];
-    let row = &values[system.row(e.second)];
-    let key = pack(state as u32, e.first, 0);
-    let moves = system.arrivals.moves;
-    let from = moves.partition_point(|packed| *packed < key);
-    let part = moves[from..].iter();
-    let mut part = part.take_while(|packed| **packed < key + 1024);
-    part.any(|packed| row[target(*packed) as usize] == own)
+/// The source and the action of a packed move as one number.
+fn part(packed: u32) -> u32 {
+    packed >> 10
 }

@@ -1,4 +1,5 @@
-//! How the values follow a batch: component by component, shift and settle, each all looks first and then all turns.
+//! How the values follow a batch: component by component, shift and settle, each all looks first and then the turns that follow
+//! from them.
 
 use super::changes::Changes;
 use super::components::components;
