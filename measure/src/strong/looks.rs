@@ -1,5 +1,5 @@
-//! The looks of a phase: which pairs of a variable must turn, told for all of them together. They turn at once and come to wait
-//! in the queue, and each look answers where the queue ends then.
+//! The looks of a phase: which pairs of a variable must turn, told for all of them together before any pair of the phase has
+//! turned. They get their mark and come to wait in the queue, and each look answers where the queue ends then.
 
 use super::changes::Changes;
 use super::names::is_easy;
@@ -13,11 +13,11 @@ use crate::ordinary::sizes::MOST_STATES;
 /// A row without a yes.
 const NONE: Row = [0; MOST_STATES as usize];
 
-/// Turns the pairs of a variable that have the component's own value and whose equation gives the other.
+/// Has the pairs of a variable wait that have the component's own value and whose equation gives the other.
 pub fn settle(
     system: &System,
     y: usize,
-    values: &mut [u8],
+    values: &[u8],
     marks: &mut [u8],
     queue: &mut [u16],
     tail: usize,
@@ -33,8 +33,7 @@ pub fn settle(
     if !rows::keep(&values[row.clone()], own, here) {
         return tail;
     }
-    let by = if system.names.is_watched(y) { 3 } else { 1 };
-    rows::turn(here, [by, 3], &mut values[row.clone()], &mut marks[row]);
+    rows::mark(here, 3, &mut marks[row]);
     rows::enqueue(&bad, system.states, waiting(y, 0), queue, tail)
 }
 
@@ -55,12 +54,13 @@ fn fails(system: &System, e: &Equation, own: u8, values: &[u8], bad: &mut Row) {
     }
 }
 
-/// Turns the pairs of a variable that have not the component's own value and that the changes or the earlier components seed.
+/// Has the pairs of a variable wait that have not the component's own value and that the changes or the earlier components
+/// seed.
 pub fn shift(
     system: &System,
     y: usize,
     changes: &Changes,
-    values: &mut [u8],
+    values: &[u8],
     marks: &mut [u8],
     queue: &mut [u16],
     tail: usize,
@@ -80,12 +80,12 @@ pub fn shift(
     if !(changed || gone) || !rows::keep(&values[row.clone()], own ^ 1, here) {
         return tail;
     }
-    rows::turn(here, [1, 1], &mut values[row.clone()], &mut marks[row]);
+    rows::mark(here, 1, &mut marks[row]);
     rows::enqueue(&seeds, system.states, waiting(y, 0), queue, tail)
 }
 
 /// Adds the sources of changes that seed a diamond or a box: an insert where that can help, a delete of a move to a pair that
-/// had not the component's own value where that can. A pair with an odd mark had the other value.
+/// had not the component's own value where that can. Of the component's own pairs none has turned yet, though some may wait.
 fn add_changed(
     system: &System,
     e: &Equation,
@@ -95,11 +95,12 @@ fn add_changed(
     seeds: &mut Row,
 ) {
     let (own, gains) = (u8::from(e.greatest), is_easy(e));
+    let done = u8::from(system.equations[e.second as usize].block != e.block);
     let row = system.row(e.second);
     let (values, marks) = (&values[row.clone()], &marks[row]);
     for (packed, insert) in changes.iter().filter(|(m, _)| moves::action(*m) == e.first) {
         let target = moves::target(packed) as usize;
-        let old = values[target] ^ (marks[target] & 1);
+        let old = values[target] ^ (marks[target] & done);
         if insert == gains && (gains || old != own) {
             seeds[moves::source(packed) as usize] = 1;
         }

@@ -8,12 +8,10 @@ const VARIABLES: usize = MOST_VARIABLES as usize;
 
 /// What is said of an operand, as a sum; 0 where there is none.
 pub const SOME: u8 = 1;
-/// The variable whose equation it stands in is watched: an easy diamond or box of the same component names it.
-pub const WATCHED: u8 = 2;
 /// The equation is a diamond or a box.
-pub const STEP: u8 = 4;
+pub const STEP: u8 = 2;
 /// One operand with the component's own value is enough for that value.
-pub const EASY: u8 = 8;
+pub const EASY: u8 = 4;
 
 /// An operand of an equation that names a variable of the equation's own component.
 #[derive(Clone, Copy, Default)]
@@ -39,22 +37,11 @@ pub struct Names {
     operands: [Operand; PLACES],
     /// The first place that is free.
     free: usize,
-    /// The set of the variables that are watched.
-    watched: u32,
 }
 
 /// Whether one operand with the component's own value is enough for that value.
 pub fn is_easy(e: &Equation) -> bool {
     (e.operator % 2 == 1) != e.greatest
-}
-
-/// The set of the variables that an easy diamond or box of their own component names.
-fn watched(equations: &[Equation]) -> u32 {
-    let inside = |e: &&Equation| equations[e.second as usize].block == e.block;
-    let steps = equations
-        .iter()
-        .filter(|e| e.operator >= DIAMOND && is_easy(e));
-    steps.filter(inside).fold(0, |set, e| set | 1 << e.second)
 }
 
 impl Names {
@@ -63,7 +50,6 @@ impl Names {
         let mut names = Names {
             operands: [Operand::default(); PLACES],
             free: VARIABLES,
-            watched: watched(equations),
         };
         for (y, e) in equations
             .iter()
@@ -71,13 +57,7 @@ impl Names {
             .filter(|(_, e)| e.operator >= OR)
         {
             let step = e.operator >= DIAMOND;
-            let said = [
-                (WATCHED, names.is_watched(y)),
-                (STEP, step),
-                (EASY, is_easy(e)),
-            ];
-            let said = said.iter().filter(|(_, so)| *so);
-            let is = said.fold(SOME, |sum, (part, _)| sum | part);
+            let is = SOME + STEP * u8::from(step) + EASY * u8::from(is_easy(e));
             let operand = |other: u32| Operand {
                 is,
                 next: 0,
@@ -104,11 +84,6 @@ impl Names {
             self.operands[self.free] = first;
             self.free += 1;
         }
-    }
-
-    /// Whether a variable is watched.
-    pub fn is_watched(&self, variable: usize) -> bool {
-        self.watched >> variable & 1 == 1
     }
 
     /// What stands at a place.

@@ -1,17 +1,17 @@
 //! A row is a variable at all states. Each loop here goes over whole rows without a jump, so that it becomes vector code; in
-//! a row of answers an odd number stands for yes. A pair that waits may have 2 more than its value.
+//! a row of answers 1 stands for yes.
 
 use super::index::Into;
 use crate::ordinary::sizes::MOST_STATES;
 
 const MOST: usize = MOST_STATES as usize;
 
-/// A row of answers. The places past the states are 0, and after `keep` the others 0 or 1.
+/// A row of answers. The places past the states are 0.
 pub type Row = [u8; MOST];
 
 /// Whether some pair of a row has a value.
 pub fn has(values: &[u8], value: u8) -> bool {
-    values.iter().fold(0, |any, v| any | (v ^ value ^ 1)) & 1 == 1
+    values.iter().fold(0, |any, v| any | (v ^ value ^ 1)) == 1
 }
 
 /// Whether some pair of a row has an odd mark: it turned and did not come back.
@@ -94,11 +94,10 @@ pub fn add_gone_sources(moves: Into, values: &[u8], marks: &[u8], own: u8, seeds
     }
 }
 
-/// Turns bits of the values and bits of the marks round where the answer is yes.
-pub fn turn(turns: &[u8], by: [u8; 2], values: &mut [u8], marks: &mut [u8]) {
-    for ((turn, value), mark) in turns.iter().zip(values).zip(marks) {
-        *value ^= turn * by[0];
-        *mark ^= turn * by[1];
+/// Turns the bits `by` of the marks round where the answer is yes.
+pub fn mark(turns: &[u8], by: u8, marks: &mut [u8]) {
+    for (mark, turn) in marks.iter_mut().zip(turns) {
+        *mark ^= turn * by;
     }
 }
 

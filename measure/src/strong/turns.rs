@@ -1,15 +1,12 @@
-//! The turns of a phase. A pair turns as soon as it is found that it must, and then waits in the queue until the pairs of its
-//! component that lean on it are visited: first come, first served, and those that must turn as well wait behind the others.
-//! Which pairs turn and how many leanings are visited is the same in any order. A pair that waits is one number,
-//! 1,024 × variable + state.
-//!
-//! An easy diamond or box takes a pair that waits for one that has not turned, since it is visited again along the move to it: so
-//! its looks need not go past all that have turned together. Where one names a variable, a pair of that variable which has lost
-//! the component's own value has 2 more than its value as long as it waits.
+//! The turns of a phase. A pair that must turn gets its mark and waits in the queue with its old value. First come, first
+//! served: it gets its other value when it is taken from the front, then the pairs of its component that lean on it are
+//! visited, and those that must turn as well wait behind the others. So values are only 0 and 1, and value and mark tell at any
+//! time who waits. A pair that waits is one number, 1,024 × variable + state.
 
-use super::names::{Operand, EASY, SOME, STEP, WATCHED};
+use super::names::{Operand, EASY, STEP};
 use super::system::System;
 use crate::ordinary::moves::target;
+use std::cell::Cell;
 
 /// The phases: pairs come to their component's own value, or lose it.
 pub const SHIFTING: bool = false;
@@ -39,13 +36,13 @@ struct Run<'a> {
     own: u8,
     values: &'a mut [u8],
     marks: &'a mut [u8],
-    queue: &'a mut [u16],
+    queue: &'a [Cell<u16>],
     /// Where the queue ends.
     tail: usize,
     visits: usize,
 }
 
-/// Turns whatever must turn because the first so many pairs of the queue have.
+/// Turns the first so many pairs of the queue, and whoever comes to wait behind them.
 #[inline(always)]
 pub fn turn<const PHASE: bool>(
     system: &System,
@@ -61,7 +58,8 @@ pub fn turn<const PHASE: bool>(
     turn_all::<PHASE>(system, own, values, marks, queue, waits)
 }
 
-/// The same for a queue that is not empty.
+/// The same for a queue that is not empty. The pairs are taken in rounds, each up to where the queue ended when the round began:
+/// the order is that of the queue, and a round is a slice, so that no place in it is tested against the end of the queue.
 #[inline(never)]
 fn turn_all<const PHASE: bool>(
     system: &System,
@@ -76,22 +74,16 @@ fn turn_all<const PHASE: bool>(
         own,
         marks: &mut marks[..values.len()],
         values,
-        queue,
+        queue: Cell::from_mut(queue).as_slice_of_cells(),
         tail: waits,
         visits: 0,
     };
-    let mut at = 0;
-    while at < run.tail {
-        let (x, t) = taken(run.queue[at]);
-        at += 1;
-        let mut place = x;
-        loop {
-            let operand = system.names.operand(place);
-            run.visit_all::<PHASE>(operand, x, t);
-            place = operand.next.into();
-            if place == 0 {
-                break;
-            }
+    let mut front = 0;
+    while front < run.tail {
+        let round = &run.queue[front..run.tail];
+        front = run.tail;
+        for waits in round {
+            run.take::<PHASE>(waits.get());
         }
     }
     Turned {
@@ -101,32 +93,59 @@ fn turn_all<const PHASE: bool>(
 }
 
 impl Run<'_> {
-    /// Visits the pairs that lean by an operand on the pair of a variable and a state, which waits no longer.
+    /// Turns a pair that waited, and visits the pairs that lean on it.
     #[inline(always)]
-    fn visit_all<const PHASE: bool>(&mut self, operand: &Operand, x: usize, state: usize) {
-        let (system, own) = (self.system, self.own);
-        let looks = PHASE == SETTLING && operand.is & EASY != 0;
-        if operand.is & STEP != 0 {
-            if looks {
-                self.values[x * system.states + state] = own ^ 1;
+    fn take<const PHASE: bool>(&mut self, waited: u16) {
+        let system = self.system;
+        let (x, state) = taken(waited);
+        let row = x * system.states;
+        self.values[row + state] = self.own ^ u8::from(PHASE == SETTLING);
+        let mut place = x;
+        loop {
+            let operand = system.names.operand(place);
+            if operand.is & STEP != 0 {
+                self.visit_steps::<PHASE>(operand, row, state);
+            } else if operand.is != 0 {
+                self.visit_join::<PHASE>(operand, state);
             }
-            let arrivals = system.arrivals;
-            let head = arrivals.heads[usize::from(operand.other) + state];
-            arrivals.sources(head, |source, place| {
-                self.visits += 1;
-                self.visit::<PHASE>(operand, source, |values| {
-                    looks && leads(system, operand, place, own, values)
-                });
-            });
-        } else if operand.is != 0 {
-            self.visits += 1;
-            self.visit::<PHASE>(operand, state, |values| {
-                looks && values[usize::from(operand.other) + state] == own
+            place = operand.next.into();
+            if place == 0 {
+                break;
+            }
+        }
+    }
+
+    /// Visits the pair of a join that leans by an operand on a pair of the same state.
+    #[inline(always)]
+    fn visit_join<const PHASE: bool>(&mut self, operand: &Operand, state: usize) {
+        let own = self.own;
+        self.visit::<PHASE>(operand, state, |values| {
+            operand.is & EASY != 0 && values[usize::from(operand.other) + state] == own
+        });
+    }
+
+    /// Visits the pairs of a diamond or box that lean by an operand on the pair of a state in a row.
+    #[inline(always)]
+    fn visit_steps<const PHASE: bool>(&mut self, operand: &Operand, row: usize, state: usize) {
+        let arrivals = self.system.arrivals;
+        let head = arrivals.heads[usize::from(operand.other) + state];
+        let looks = PHASE == SETTLING && operand.is & EASY != 0;
+        if looks && usize::from(head) < arrivals.moves.len() {
+            let run = Run {
+                values: self.values,
+                marks: self.marks,
+                ..*self
+            };
+            (self.tail, self.visits) = settle_easy(run, operand, row, head);
+        } else {
+            arrivals.sources(head, |source, _| {
+                self.visit::<PHASE>(operand, source, |_| false);
             });
         }
     }
 
-    /// Turns a pair that has the value to turn from, unless it keeps that still.
+    /// Has a pair wait that has the value to turn from and does not wait yet; `still` tells in a settling whether it keeps
+    /// that value.
     #[inline(always)]
     fn visit<const PHASE: bool>(
         &mut self,
@@ -134,40 +153,48 @@ impl Run<'_> {
         state: usize,
         still: impl FnOnce(&[u8]) -> bool,
     ) {
+        self.visits += 1;
         let pair = usize::from(operand.row) + state;
-        if (self.values[pair] == self.own) != (PHASE == SETTLING) || still(self.values) {
-            return;
+        let (value, mark) = (self.values[pair], self.marks[pair]);
+        let turns = match PHASE {
+            SHIFTING => value != self.own && mark == 0,
+            SETTLING => value == self.own && mark < 2 && !still(self.values),
+        };
+        if turns {
+            self.marks[pair] = if PHASE == SETTLING { 3 - mark } else { 1 };
+            self.queue[self.tail].set(operand.first | state as u16);
+            self.tail += 1;
         }
-        match PHASE {
-            SHIFTING => {
-                self.values[pair] = self.own;
-                self.marks[pair] = 1;
-            }
-            SETTLING => {
-                self.values[pair] = self.own ^ (operand.is & (SOME | WATCHED));
-                self.marks[pair] ^= 3;
-            }
-        }
-        self.queue[self.tail] = operand.first | state as u16;
-        self.tail += 1;
     }
 }
 
-/// Whether a move with the source and the action of the one at a place, which leads to a pair that has lost the component's own
-/// value, leads to a pair that has it or waits. The look goes outwards from the place, on both sides by turns. What it passes on
-/// the shorter side becomes part of a stretch twice as long: so all looks at n moves pass at most about n times the logarithm
-/// of n. It is marked as rare so that the loop that calls it keeps its registers.
+/// Visits in a settling the pairs of an easy diamond or box by the chain of moves that begins at a head; those lead to a pair of
+/// the row that begins at a place. It answers where the queue ends then and how many visits there were. It is marked as rare
+/// so that the loop that calls it keeps its registers.
 #[cold]
 #[inline(never)]
-fn leads(system: &System, operand: &Operand, place: usize, own: u8, values: &[u8]) -> bool {
-    let e = &system.equations[usize::from(operand.first >> 10)];
-    let row = &values[system.row(e.second)];
-    let (before, after) = system.arrivals.moves.split_at(place);
+fn settle_easy(mut run: Run, operand: &Operand, row: usize, head: u16) -> (usize, usize) {
+    let (arrivals, own) = (run.system.arrivals, run.own);
+    arrivals.sources(head, |source, place| {
+        run.visit::<SETTLING>(operand, source, |values| {
+            leads(arrivals.moves, place, own, &values[row..])
+        });
+    });
+    (run.tail, run.visits)
+}
+
+/// Whether a move with the source and the action of the one at a place, which leads to a pair that has lost the component's own
+/// value, leads to a pair of the row that has it. The look goes outwards from the place, on both sides by turns. What it passes
+/// on the shorter side becomes part of a stretch twice as long: so all looks at n moves pass at most about n times the
+/// logarithm of n.
+#[inline(always)]
+fn leads(moves: &[u32], place: usize, own: u8, row: &[u8]) -> bool {
+    let (before, after) = moves.split_at(place);
     let Some((along, after)) = after.split_first() else {
         return false;
     };
     let same = |packed: &&u32| part(**packed) == part(*along);
-    let has = |packed: &u32| row[target(*packed) as usize] != own ^ 1;
+    let has = |packed: &u32| row[target(*packed) as usize] == own;
     let mut up = after.iter().take_while(same);
     let mut down = before.iter().rev().take_while(same);
     loop {

@@ -1,5 +1,4 @@
-//! How the values follow a batch: component by component, shift and settle, each all looks first and then the turns that follow
-//! from them.
+//! How the values follow a batch: component by component, shift and settle, each all looks first and then all turns.
 
 use super::changes::Changes;
 use super::components::components;
