@@ -3,6 +3,7 @@
 mod crowded;
 mod eight;
 mod grid;
+mod halves;
 mod live;
 mod maximal;
 mod signs;
@@ -13,6 +14,7 @@ use reference::{stamp, Action, Block, Equation, Move, Record, Sizes, State};
 pub use crowded::crowded;
 pub use eight::{eight, led_elsewhere, Touched};
 pub use grid::{grid, MIXED_RULE, STRICT_RULE};
+pub use halves::halves;
 pub use live::{live, made_live};
 pub use maximal::maximal;
 pub use signs::{rewritten, signs};

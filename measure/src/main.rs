@@ -3,7 +3,7 @@
 use std::hint::black_box;
 
 use measure::cases::{
-    crowded, eight, grid, led_elsewhere, live, maximal, signs, Case, ThereAndBack, Touched,
+    crowded, eight, grid, halves, led_elsewhere, live, maximal, signs, Case, ThereAndBack, Touched,
     MIXED_RULE, STRICT_RULE,
 };
 use measure::clock::{in_turns, microseconds, middle, worst, Timed};
@@ -205,6 +205,7 @@ fn main() {
     row_of_64(&maximal(), rounds);
     rows_of_eight(rounds);
     rows_of(&crowded(), rounds);
+    rows_of(&halves(), rounds);
     rows_of_growth(rounds);
     rows_of_reading(&grid(16, &STRICT_RULE), rounds);
     rows_of_reading(&maximal(), rounds);

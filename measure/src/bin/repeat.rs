@@ -1,13 +1,13 @@
 //! Makes one call of one version so many times: for a profiler, which takes the difference of two runs, so that whatever is
 //! done once falls out.
 //!
-//! `repeat ours|ordinary|strong strict|mixed|maximal|crowded|signs|live load|delete|insert|many|write TIMES`
+//! `repeat ours|ordinary|strong strict|mixed|maximal|crowded|halves|signs|live load|delete|insert|many|write TIMES`
 //!
 //! With `spell` in place of the version it makes no call, and writes each one out, with the rooms that it starts from, as
 //! embed/small/calls.c reads them: so the same calls can be made on another machine.
 
 use measure::cases::{
-    crowded, grid, live, maximal, signs, Case, ThereAndBack, MIXED_RULE, STRICT_RULE,
+    crowded, grid, halves, live, maximal, signs, Case, ThereAndBack, MIXED_RULE, STRICT_RULE,
 };
 use measure::rooms::Rooms;
 use measure::sides::Side;
@@ -20,9 +20,10 @@ fn case_named(name: &str) -> Case {
         "mixed" => grid(16, &MIXED_RULE),
         "maximal" => maximal(),
         "crowded" => crowded(),
+        "halves" => halves(),
         "signs" => signs(&maximal()),
         "live" => live(&grid(16, &STRICT_RULE)),
-        _ => panic!("strict, mixed, maximal, crowded, signs or live"),
+        _ => panic!("strict, mixed, maximal, crowded, halves, signs or live"),
     }
 }
 

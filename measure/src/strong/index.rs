@@ -1,8 +1,10 @@
-//! The moves by action and target, as chains in a lent room: first for each action and target one more than the number of the
-//! last such move, or 0, then for each move the same of the one before it in its chain. A source is read from the move
-//! itself.
+//! The moves by action and target, as chains in a lent room: first for each action and target the place of the last such move,
+//! or the end, then for each move the place of the one before it in its chain. A source is read from the move itself.
 
 use crate::ordinary::moves::{action, source, target};
+
+/// The end of a chain: a place past any move.
+const END: u16 = u16::MAX;
 
 /// The chains of a table.
 #[derive(Clone, Copy)]
@@ -18,10 +20,10 @@ impl<'a> Arrivals<'a> {
     pub fn new(moves: &'a [u32], actions: usize, states: usize, room: &'a mut [u16]) -> Self {
         let (heads, links) = room.split_at_mut(actions * states);
         let links = &mut links[..moves.len()];
-        heads.fill(0);
-        for ((packed, link), number) in moves.iter().zip(&mut *links).zip(1..) {
-            let place = action(*packed) as usize * states + target(*packed) as usize;
-            *link = std::mem::replace(&mut heads[place], number);
+        heads.fill(END);
+        for ((packed, link), place) in moves.iter().zip(&mut *links).zip(0..) {
+            let head = action(*packed) as usize * states + target(*packed) as usize;
+            *link = std::mem::replace(&mut heads[head], place);
         }
         Arrivals {
             moves,
@@ -30,14 +32,14 @@ impl<'a> Arrivals<'a> {
         }
     }
 
-    /// Calls `see` with the source of each move of the chain that begins at a head.
+    /// Calls `see` with the source and the place of each move of the chain that begins at a head.
     #[inline(always)]
-    pub fn sources(&self, head: u16, mut see: impl FnMut(usize)) {
+    pub fn sources(&self, head: u16, mut see: impl FnMut(usize, usize)) {
         let links = &self.links[..self.moves.len()];
-        let mut number = usize::from(head);
-        while number != 0 {
-            see(source(self.moves[number - 1]) as usize);
-            number = links[number - 1].into();
+        let mut place = usize::from(head);
+        while let Some(packed) = self.moves.get(place) {
+            see(source(*packed) as usize, place);
+            place = links[place].into();
         }
     }
 }

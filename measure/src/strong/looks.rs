@@ -1,5 +1,5 @@
-//! The looks of a phase: which pairs of a variable must turn, told before any pair of the phase has turned. They come to wait
-//! in the queue, and each look answers where the queue ends then.
+//! The looks of a phase: which pairs of a variable must turn, told for all of them together before any pair of the phase has
+//! turned. They get their mark and come to wait in the queue, and each look answers where the queue ends then.
 
 use super::changes::Changes;
 use super::names::is_easy;

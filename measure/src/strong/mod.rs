@@ -1,7 +1,8 @@
-//! The same calls as good as we can write them in safe Rust: whole rows of pairs at a time, one index of the moves in a lent
-//! room, the pairs that wait in another, and a quick test before the full judge. What is not hot is the ordinary version's
-//! own. It answers as that version does. A call that is accepted leaves what its sizes need of the work rooms at 0; one that
-//! is refused leaves them as they were.
+//! The same calls by the library's own design, as good as we can write it in safe Rust: a look at a whole row of pairs at a
+//! time, one index of the moves in a lent room, the pairs that wait to turn in another, and a quick test before the full judge.
+//! A pair waits with a mark and its old value, and turns when it is taken from the front. What is not hot is the ordinary
+//! version's own. It answers as that version does. A call that is accepted leaves what its sizes need of the work rooms at 0; one
+//! that is refused leaves them as they were.
 #![forbid(unsafe_code)]
 
 mod apply;

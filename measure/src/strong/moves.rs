@@ -3,43 +3,46 @@
 use crate::ordinary::moves::{action, source, target};
 use crate::ordinary::sizes::Sizes;
 
-/// Whether all the moves are in range and strictly ascend. A difference has its highest bit where what is taken away is
-/// larger, for numbers below that bit; a move in range is.
+/// Whether all the moves are in range and strictly ascend. Where they ascend the last one has the highest source.
 pub fn good(sizes: Sizes, table: &[u32]) -> bool {
-    let (state, last) = (sizes.states - 1, sizes.actions - 1);
-    let over = table.iter().fold(0, |over, m| {
-        let state = state.wrapping_sub(source(*m)) | state.wrapping_sub(target(*m));
-        over | state | last.wrapping_sub(action(*m))
-    });
-    let (before, after) = (table, table.get(1..).unwrap_or_default());
-    let ascends = before.iter().zip(after);
-    let ascend = ascends.fold(u32::MAX, |all, (m, next)| all & m.wrapping_sub(*next));
-    over >> 31 == 0 && ascend >> 31 == 1
+    let Some((last, after)) = table.last().zip(table.get(1..)) else {
+        return true;
+    };
+    let ascends = table.iter().zip(after);
+    let ascend = ascends.fold(true, |all, (m, next)| all & (m < next));
+    let highest = |part: fn(u32) -> u32| table.iter().fold(0, |most, m| part(*m).max(most));
+    ascend
+        && source(*last) < sizes.states
+        && highest(target) < sizes.states
+        && highest(action) < sizes.actions
 }
 
-/// The sums of sources, actions and targets.
+/// The sums of moves, of their sources with their actions, and of their sources.
 #[derive(Clone, Copy, Default)]
 pub struct Sums {
+    moves: u32,
+    parts: u32,
     sources: u32,
-    actions: u32,
-    targets: u32,
 }
 
 impl Sums {
     /// The sums with one move more.
+    #[inline(always)]
     pub fn with(self, packed: u32) -> Sums {
         Sums {
-            sources: self.sources.wrapping_add(source(packed)),
-            actions: self.actions.wrapping_add(action(packed)),
-            targets: self.targets.wrapping_add(target(packed)),
+            moves: self.moves.wrapping_add(packed),
+            parts: self.parts.wrapping_add(packed >> 10),
+            sources: self.sources.wrapping_add(packed >> 16),
         }
     }
 
     /// The stamp of a table with these sums and so many moves.
     pub fn stamp(self, count: usize) -> u32 {
+        let targets = self.moves.wrapping_sub(self.parts << 10);
+        let actions = self.parts.wrapping_sub(self.sources << 6);
         let weighed = self.sources.wrapping_mul(65_537);
-        let weighed = weighed.wrapping_add(self.actions.wrapping_mul(4_099));
-        let weighed = weighed.wrapping_add(self.targets.wrapping_mul(257));
+        let weighed = weighed.wrapping_add(actions.wrapping_mul(4_099));
+        let weighed = weighed.wrapping_add(targets.wrapping_mul(257));
         weighed.wrapping_add(count as u32)
     }
 }

@@ -6,15 +6,20 @@ use crate::ordinary::sizes::MOST_VARIABLES;
 
 const VARIABLES: usize = MOST_VARIABLES as usize;
 
+/// What is said of an operand, as a sum; 0 where there is none.
+pub const SOME: u8 = 1;
+/// The equation is a diamond or a box.
+pub const STEP: u8 = 2;
+/// One operand with the component's own value is enough for that value.
+pub const EASY: u8 = 4;
+
 /// An operand of an equation that names a variable of the equation's own component.
 #[derive(Clone, Copy, Default)]
 pub struct Operand {
-    /// One more than the number of the operand before it that names the same variable, or 0.
-    pub before: u8,
-    /// Whether the equation is a diamond or a box.
-    pub step: bool,
-    /// Whether one operand with the component's own value is enough for that value.
-    pub easy: bool,
+    /// What is said of it.
+    pub is: u8,
+    /// Where the next operand that names the same variable stands, or 0.
+    pub next: u8,
     /// The first pair of the variable whose equation it stands in, as it waits.
     pub first: u16,
     /// Where the pairs of that variable begin.
@@ -23,10 +28,15 @@ pub struct Operand {
     pub other: u16,
 }
 
-/// For each variable the chain of operands that name it.
+/// How many places there are: one for each variable, then one for each operand, made a power of two.
+const PLACES: usize = 4 * VARIABLES;
+
+/// For each variable the chain of operands that name it. It begins at the place with the variable's number, so that no look is
+/// needed to find it, and goes on past the variables.
 pub struct Names {
-    last: [u8; VARIABLES],
-    operands: [Operand; 2 * VARIABLES],
+    operands: [Operand; PLACES],
+    /// The first place that is free.
+    free: usize,
 }
 
 /// Whether one operand with the component's own value is enough for that value.
@@ -38,8 +48,8 @@ impl Names {
     /// Chains the operands of the equations.
     pub fn new(states: usize, equations: &[Equation]) -> Names {
         let mut names = Names {
-            last: [0; VARIABLES],
-            operands: [Operand::default(); 2 * VARIABLES],
+            operands: [Operand::default(); PLACES],
+            free: VARIABLES,
         };
         for (y, e) in equations
             .iter()
@@ -47,40 +57,38 @@ impl Names {
             .filter(|(_, e)| e.operator >= OR)
         {
             let step = e.operator >= DIAMOND;
+            let is = SOME + STEP * u8::from(step) + EASY * u8::from(is_easy(e));
             let operand = |other: u32| Operand {
-                before: 0,
-                step,
-                easy: is_easy(e),
+                is,
+                next: 0,
                 first: waiting(y, 0),
                 row: (y * states) as u16,
                 other: (other as usize * states) as u16,
             };
             let inside = |x: u32| equations[x as usize].block == e.block;
             if inside(e.second) {
-                names.put(e.second, 2 * y + 1, operand(e.first));
+                names.put(e.second, operand(e.first));
             }
             if !step && inside(e.first) {
-                names.put(e.first, 2 * y, operand(e.second));
+                names.put(e.first, operand(e.second));
             }
         }
         names
     }
 
     /// Puts an operand in front of the chain of the variable that it names.
-    fn put(&mut self, named: u32, number: usize, operand: Operand) {
-        let before = std::mem::replace(&mut self.last[named as usize], number as u8 + 1);
-        self.operands[number] = Operand { before, ..operand };
+    fn put(&mut self, named: u32, operand: Operand) {
+        let first = std::mem::replace(&mut self.operands[named as usize], operand);
+        if first.is != 0 {
+            self.operands[named as usize].next = self.free as u8;
+            self.operands[self.free] = first;
+            self.free += 1;
+        }
     }
 
-    /// One more than the number of the last operand that names a variable, or 0.
+    /// What stands at a place.
     #[inline(always)]
-    pub fn last(&self, variable: usize) -> u8 {
-        self.last[variable % VARIABLES]
-    }
-
-    /// The operand whose number is one less.
-    #[inline(always)]
-    pub fn operand(&self, number: u8) -> &Operand {
-        &self.operands[(usize::from(number) - 1) % (2 * VARIABLES)]
+    pub fn operand(&self, place: usize) -> &Operand {
+        &self.operands[place % PLACES]
     }
 }

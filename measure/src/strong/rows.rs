@@ -40,14 +40,21 @@ pub fn fails_both(one: &[u8], two: &[u8], own: u8, bad: &mut [u8]) {
     }
 }
 
-/// Where some move of an action leads to a pair of the row that is not `own`; the row of answers has no yes yet.
+/// Where some move of an action leads to a pair of the row that is not `own`; the row of answers has no yes yet. Eight targets
+/// that are `own` are passed over together.
 pub fn fails_some(moves: Into, row: &[u8], own: u8, bad: &mut Row) {
     if !has(row, own ^ 1) {
         return;
     }
-    for (head, value) in moves.heads.iter().zip(row) {
-        let fails = value ^ own;
-        moves.arrivals.sources(*head, |s| bad[s % MOST] |= fails);
+    let all = [own; 8];
+    for (heads, values) in moves.heads.chunks(8).zip(row.chunks(8)) {
+        if values == all {
+            continue;
+        }
+        for (head, value) in heads.iter().zip(values) {
+            let fails = value ^ own;
+            moves.arrivals.sources(*head, |s, _| bad[s % MOST] |= fails);
+        }
     }
 }
 
@@ -56,7 +63,7 @@ pub fn fails_all(moves: Into, row: &[u8], own: u8, bad: &mut Row) {
     bad[..row.len()].fill(1);
     for (head, value) in moves.heads.iter().zip(row) {
         if *value == own {
-            moves.arrivals.sources(*head, |s| bad[s % MOST] = 0);
+            moves.arrivals.sources(*head, |s, _| bad[s % MOST] = 0);
         }
     }
 }
@@ -82,7 +89,7 @@ pub fn add_gone(values: &[u8], marks: &[u8], own: u8, seeds: &mut [u8]) {
 pub fn add_gone_sources(moves: Into, values: &[u8], marks: &[u8], own: u8, seeds: &mut Row) {
     for ((head, value), mark) in moves.heads.iter().zip(values).zip(marks) {
         if mark & 1 == 1 && *value == own {
-            moves.arrivals.sources(*head, |s| seeds[s % MOST] = 1);
+            moves.arrivals.sources(*head, |s, _| seeds[s % MOST] = 1);
         }
     }
 }
