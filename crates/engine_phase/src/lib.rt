@@ -157,7 +157,7 @@ fn look_row(
     put_row(sizes, values, marks, queue, bad, y, tail, settling, from)
 }
 
-// The next variable of the block, from y on; the number of variables where there is none.
+// The next variable of the block, `from` or after it; the number of variables where there is none.
 fn next_of(equations: &[u32], block: usize, from: usize) -> usize
     requires { ⌜ from ≤ length (now equations) ⌝ }
     ensures { λ r. ⌜ NextOf (now (equations .entry)) block from r ⌝ }

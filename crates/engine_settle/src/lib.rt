@@ -67,13 +67,6 @@ fn row_join(f: &[u8], h: &[u8], c: u8, v: u8, bad: &mut [u8])
     }
 }
 
-// How many heads the index has: its links come after them.
-fn heads_of(sizes: Sizes) -> usize
-    ensures { λ r. ⌜ (r ≡ headsOf sizes) × (r < 16777216) ⌝ }
-{
-    (sizes.actions as usize) * (sizes.states as usize)
-}
-
 // The places of the sources of a chain's moves become v. The chain begins at the head `at`.
 fn tell_sources(moves: &[u32], heads: &[u16], links: &[u16], at: usize, v: u8, bad: &mut [u8])
     requires { ⌜ Linked (length (now bad)) (now moves) (now heads) (now links) ⌝ }
@@ -185,7 +178,7 @@ fn row_told(
         return;
     }
     let row = engine_rows::row_in(values, e.second as usize, n);
-    let links = heads_of(sizes);
+    let links = engine_index::heads_of(sizes);
     row_step(
         moves,
         &index[..links],
