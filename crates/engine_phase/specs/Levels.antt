@@ -3,7 +3,7 @@ use mathlib.Core.Path.{_≡_, refl, sym, ap, _∙_}
 use mathlib.Core.Logic.{inl, inr}
 use mathlib.Core.Bool.{Bool, true, false, cond}
 use mathlib.Core.List.{List}
-use Prim.Native.Nat.{ℕ, zero, suc, _+_, _≤_, _<_}
+use Prim.Native.Nat.{ℕ, zero, suc, _+_, _-_, _≤_, _<_}
 use native.Mathlib.Nat.{eq-or-lt-of-le, le-of-suc-le-suc}
 use native.Mathlib.Omega.{arith}
 use lib.ListN.{length, getD, set}
@@ -63,21 +63,29 @@ counted-none from a = go (eqb from 1)
     go : (b : Bool) → a + cond b 0 0 ≡ a + cond b 0 0
     go b = refl
 
--- One pair more turns.
-pub counted-turn : (z : Sizes) (values : List ℕ) (from n a p : ℕ) → from ≡ getD values p 0 → p < pairsOf z → p < length values → Counted from n a (truesIn z values)
-    → Counted from (n + 1) a (truesIn z (set values p (turned (getD values p 0))))
-counted-turn z values from n a p is h k c =
+-- One pair turns.
+pub counted-turn : (z : Sizes) (values : List ℕ) (from p : ℕ) → from ≡ getD values p 0 → p < pairsOf z → p < length values
+    → Counted from 1 (truesIn z values) (truesIn z (set values p (turned (getD values p 0))))
+counted-turn z values from p is h k =
     let s = trues-set (pairsOf z) values p (turned (getD values p 0)) h k in
     let e = ap (λ (x : ℕ). eqb x 1) is in
-    go (eqb from 1) (eqb (getD values p 0) 1) e s c
+    go (eqb from 1) (eqb (getD values p 0) 1) e s
   where
     go : (b d : Bool) → b ≡ d → truesIn z (set values p (turned (getD values p 0))) + bit d ≡ truesIn z values + bit (eqb (cond d 0 1) 1)
-        → truesIn z values + cond b n 0 ≡ a + cond b 0 n
-        → truesIn z (set values p (turned (getD values p 0))) + cond b (n + 1) 0 ≡ a + cond b 0 (n + 1)
-    go true true e s c = omega arith
-    go false false e s c = omega arith
-    go true false e s c = let k = ap bit e in absurd (omega arith)
-    go false true e s c = let k = ap bit e in absurd (omega arith)
+        → truesIn z (set values p (turned (getD values p 0))) + cond b 1 0 ≡ truesIn z values + cond b 0 1
+    go true true e s = omega arith
+    go false false e s = omega arith
+    go true false e s = let k = ap bit e in absurd (omega arith)
+    go false true e s = let k = ap bit e in absurd (omega arith)
+
+-- The pairs that turn from front to m, and those from m to end, are those from front to end.
+pub counted-on : (from front m end a b c : ℕ) → front ≤ m → m ≤ end → Counted from (m - front) a b → Counted from (end - m) b c → Counted from (end - front) a c
+counted-on from front m end a b c h k e f = go (eqb from 1) e f
+  where
+    go : (t : Bool) → b + cond t (m - front) 0 ≡ a + cond t 0 (m - front) → c + cond t (end - m) 0 ≡ b + cond t 0 (end - m)
+        → c + cond t (end - front) 0 ≡ a + cond t 0 (end - front)
+    go true e f = omega arith
+    go false e f = omega arith
 
 -- A level to which the same is done stands to the values after as it stood to those before.
 pub levelled-by : (z : Sizes) (from n level r : ℕ) (before values : List ℕ) → Counted from n (truesIn z before) (truesIn z values) → Counted from n level r → Levelled z level before r values

@@ -6,3 +6,4 @@ pub mod PutRow
 pub mod LookRow
 pub mod NextRow
 pub mod Levels
+pub mod Rounds

@@ -26,10 +26,13 @@ ghost use Rattle.words.specs.Table.{tableIn, modelOf, Drawn, ownIn, pairIn, cha
 ghost use Rattle.engine_index.specs.Indexed.{Indexed};
 ghost use Rattle.engine_index.specs.Operands.{Named};
 ghost use Rattle.engine_rows.specs.Rooms.{Bits, Packed, pileIn, Tells, Told};
+ghost use Rattle.engine_turn.specs.Scene.{sketch};
+ghost use Rattle.engine_turn.specs.Turns.{roundOf};
 ghost use Rattle.engine_phase.specs.Phase.{RowLeft, Somewhere, Leads, jobIn, blockAfter};
 ghost use Rattle.engine_phase.specs.PutRow.{turnsIn, turnsFrom};
 ghost use Rattle.engine_phase.specs.NextRow.{NextOf};
 ghost use Rattle.engine_phase.specs.Levels.{Counted, Level, Levelled};
+ghost use Rattle.engine_phase.specs.Rounds.{Waiting, Rounded};
 
 // The pairs of the row of y that have the value `from` and whose places are bad get their marks and wait.
 fn put_row(
@@ -233,6 +236,52 @@ fn first_value(sizes: Sizes, values: &[u8], queue: &[u16]) -> u8
     rooms::byte_at(values, p)
 }
 
+// The pairs that wait from `front` to the end of the queue turn; whoever comes to wait by them waits behind them.
+fn turn_round(
+    sizes: Sizes,
+    equations: &[u32],
+    moves: &[u32],
+    index: &[u16],
+    named: &[u8],
+    operand: &[u32],
+    values: &mut [u8],
+    marks: &mut [u8],
+    queue: &mut [u16],
+    front: usize,
+    at: Spread,
+    settling: bool,
+    from: u8,
+) -> Spread
+    requires { ⌜ Indexed (sketch sizes (now equations) (now moves)) (now index) × Named (sketch sizes (now equations) (now moves)) (now named) (now operand) ⌝ }
+    requires { ⌜ Waiting sizes (now equations) (now moves) settling from front (roundOf (now values) (now marks) (now queue) (at .tail) (at .visits)) ⌝ }
+    ensures { λ r. ⌜ Rounded sizes (now (equations .entry)) (now (moves .entry)) settling from front (at .tail)
+        (roundOf (now (values .entry)) (now (marks .entry)) (now (queue .entry)) (at .tail) (at .visits))
+        (roundOf (now (values .exit)) (now (marks .exit)) (now (queue .exit)) (r .tail) (r .visits)) ⌝ }
+{
+    let end = at.tail;
+    let mut r = at;
+    let mut f = front;
+    while f < end {
+        r = engine_turn::turn(
+            sizes,
+            equations,
+            moves,
+            index,
+            named,
+            operand,
+            values,
+            marks,
+            queue,
+            f,
+            r,
+            settling,
+            from,
+        );
+        f = f + 1;
+    }
+    r
+}
+
 // What a phase counts: the visits of its kind, and a level that follows the number of true pairs.
 pub struct Counts {
     pub visits: usize,
@@ -300,7 +349,8 @@ pub fn phase(
     };
     let mut front: usize = 0;
     while front < at.tail {
-        at = engine_turn::turn(
+        let end = at.tail;
+        at = turn_round(
             sizes,
             equations,
             moves,
@@ -315,7 +365,7 @@ pub fn phase(
             settling,
             from,
         );
-        front = front + 1;
+        front = end;
     }
     let counted = at.visits;
     let reached = levelled(level, from, front);

@@ -1,36 +1,65 @@
--- The rows are looked at, then pairs turn from the front of the queue: the lists stay on the course, the pair in front has the value
--- that all turn from, and no more turn than there are pairs. Assumes nothing.
-use mathlib.Core.Path.{_≡_, refl, sym, _∙_, subst}
-use mathlib.Core.List.{List}
-use Prim.Native.Nat.{ℕ, _+_, _-_, _/_, _%_, _<_}
+-- The rows are looked at, then the pairs that wait turn round after round: what has turned so far is one round, and no more turn than there
+-- are pairs. Assumes nothing.
+use mathlib.Core.Path.{_≡_, refl, _∙_}
+use Prim.Native.Nat.{ℕ, _-_}
 use native.Mathlib.Omega.{arith}
-use lib.ListN.{length, getD, length-map}
+use lib.ListN.{length}
 use Rattle.rules.specs.Rooms.{pairsOf}
-use Rattle.words.specs.Table.{tableIn, changesOf, waiter}
+use Rattle.words.specs.Table.{changesOf}
 use Rattle.words.specs.Limits.{pairs-few}
-use Rattle.engine_rows.specs.Rooms.{Packed}
-use Rattle.engine_phase.specs.Course.{on-vals, on-marks, on-bits, on-queue, on-room}
-use Rattle.engine_phase.specs.Phase.{Leads, leads-on, leads-over, leads-turned, front-value, front-bounded, front-from, front-room, jobIn}
-use Rattle.engine_own.specs.Pairs.{pair-low}
-use Rattle.engine_phase.specs.Levels.{truesIn, Counted, counted-none, counted-turn, level-room, levelled-by}
+use Rattle.engine_turn.specs.Turns.{roundOf}
+use Rattle.engine_phase.specs.Phase.{leads-over}
+use Rattle.engine_phase.specs.Levels.{level-room, levelled-by}
+use Rattle.engine_phase.specs.Rounds.{Waiting, Rounded, round-none, waiting-on, waiting-few, rounds-on, round-counted}
 use borrow.Author.Needs.{needs}
 use Rattle.engine_phase.proofs.phase.Statement.{statement}
 use Rattle.engine_phase.proofs.phase.Tie as tie
 use Rattle.engine_phase.proofs.phase.Reads as reads
 use Rattle.engine_phase.proofs.phase.Lts as lts
 use Rattle.engine_phase.proofs.look_rows.Reads as look-rows-reads
-use Rattle.engine_turn.proofs.turn.Reads as turn-reads
+use Rattle.engine_phase.proofs.turn_round.Reads as turn-round-reads
 
 abbrev Inv-loop : tie.InvT-loop
 Inv-loop sizes labels equations moves index named operand changes values₀ marks₀ queue₀ bad block visits level settling tail from at₀ front₀ values marks queue at front =
-    ((length values ≡ length values₀) × ((length marks ≡ length marks₀) × (length queue ≡ length queue₀))) × ((Packed sizes queue (at .tail)
-    × ((front < at .tail → from ≡ getD values (waiter sizes (getD queue front 0)) 0) × Counted from front (truesIn sizes values₀) (truesIn sizes values)))
-    × Leads {I = ℕ} (tableIn sizes labels equations moves) (changesOf changes) (λ other. jobIn sizes block settling (pairsOf sizes) values₀ marks₀ queue₀ 0 tail visits other)
-    (λ other. jobIn sizes block settling (pairsOf sizes) values marks queue front (at .tail) (at .visits) other))
+    ((length values ≡ length values₀) × ((length marks ≡ length marks₀) × (length queue ≡ length queue₀)))
+    × Rounded sizes equations moves settling from 0 front (roundOf values₀ marks₀ queue₀ tail visits) (roundOf values marks queue (at .tail) (at .visits))
 
 abbrev μ-loop : tie.MeasureT-loop
 μ-loop sizes labels equations moves index named operand changes values₀ marks₀ queue₀ bad block visits level settling tail from at₀ front₀ values marks queue at front =
     pairsOf sizes - front
+
+-- From a point of the program to those before it.
+abbrev start-before-rows : tie.After-look-rows Inv-loop μ-loop → tie.Start Inv-loop μ-loop
+start-before-rows c = c .before .before .before .before .before .before .before .before .before .before .before .before .before .before .before .before
+
+abbrev rows-before-first : tie.After-first-value Inv-loop μ-loop → tie.After-look-rows Inv-loop μ-loop
+rows-before-first c = c .before .before .before .before .before .before .before .before .before
+
+-- What waits where the first round begins.
+first-waits : (c : tie.After-first-value Inv-loop μ-loop) →
+    let at-rows = rows-before-first c in
+    let a = start-before-rows at-rows .args in
+    let last = at-rows .look-rows .last in
+    Waiting (a .sizes) (a .equations .now) (a .moves .now) (a .settling) (c .first-value .result) 0
+    (roundOf (a .values .now) (last .1 .1 .1 .1 .1 .1 .1 .0) (last .1 .1 .1 .1 .1 .1 .1 .1 .0) (at-rows .look-rows .result) (a .visits))
+first-waits c =
+    let at-rows = rows-before-first c in
+    let at-start = start-before-rows at-rows in
+    let a = at-start .args in
+    let pre = at-start .pre in
+    let some = pre .1 .1 .1 .0 in
+    let made = at-rows .look-rows .ensures in
+    record {
+      labels = a .labels .now;
+      changes = changesOf (a .changes .now);
+      block = a .block;
+      drawn = pre .0;
+      low = pre .1 .1 .0 .0;
+      on = record { start = some .start; index = some .index; on = made .1 (some .start) (a .visits, some .index) (some .on) };
+      before = omega arith;
+      packed = made .0;
+      value = λ waits. c .first-value .ensures;
+    }
 
 look-rows-requires : tie.Need-look-rows-requires Inv-loop μ-loop
 look-rows-requires c κs =
@@ -43,132 +72,45 @@ first-value-requires : tie.Need-first-value-requires Inv-loop μ-loop
 first-value-requires c κs = search needs
 
 loop-holds : tie.Need-loop-holds Inv-loop μ-loop
-loop-holds c =
-    let at-rows = c .before .before .before .before .before .before .before .before .before in
-    ((refl, (refl, refl)), ((at-rows .look-rows .ensures .0, (λ waits. c .first-value .ensures, counted-none (c .first-value .result) (truesIn (at-rows .before .before .before .before .before .before .before .before .before .before .before .before .before .before .before .before .args .sizes) (at-rows .before .before .before .before .before .before .before .before .before .before .before .before .before .before .before .before .args .values .now)))), λ vs other o. o))
+loop-holds c = ((refl, (refl, refl)), round-none (first-waits c))
 
-turn-requires : tie.Need-turn-requires Inv-loop μ-loop
-turn-requires c κs =
+-- What waits where a round begins.
+waits-here : (c : tie.At-loop Inv-loop μ-loop) →
+    let a = start-before-rows (rows-before-first (c .before)) .args in
+    let l = c .loop in
+    Waiting (a .sizes) (a .equations .now) (a .moves .now) (a .settling) (c .before .first-value .result) (l .front) (roundOf (l .values) (l .marks) (l .queue) (l .at .tail) (l .at .visits))
+waits-here c =
+    let l = c .loop in
+    waiting-on (first-waits (c .before)) (l .front) (roundOf (l .values) (l .marks) (l .queue) (l .at .tail) (l .at .visits)) (l .inv .1)
+
+turn-round-requires : tie.Need-turn-round-requires Inv-loop μ-loop
+turn-round-requires c κs =
     let at-loop = c .before .before .before .before .before in
-    let at-rows = at-loop .before .before .before .before .before .before .before .before .before .before in
-    let at-start = at-rows .before .before .before .before .before .before .before .before .before .before .before .before .before .before .before .before in
-    let a = at-start .args in
-    let t = tableIn (a .sizes) (a .labels .now) (a .equations .now) (a .moves .now) in
-    let cs = changesOf (a .changes .now) in
-    let pre = at-start .pre in
-    let low = pre .1 .1 .0 .0 in
-    let l = at-loop .loop in
-    let inv = l .inv in
-    let waits = c .before .before .before .if1 .taken in
-    let sw = leads-on (inv .1 .1) (record { start = pre .1 .1 .1 .0 .start; index = pre .1 .1 .1 .0 .index; on = at-rows .look-rows .ensures .1 (pre .1 .1 .1 .0 .start) (a .visits, pre .1 .1 .1 .0 .index) (pre .1 .1 .1 .0 .on) }) in
-    let d = jobIn (a .sizes) (a .block) (a .settling) (pairsOf (a .sizes)) (l .values) (l .marks) (l .queue) (l .front) (l .at .tail) (l .at .visits) (sw .index) in
-    let index = pre .1 .0 .0 .0 in (
-      record { labels = a .labels .now; drawn = pre .0 },
-      (
-        record { long = index .long; chained = index .chained },
-        (
-          pre .1 .0 .0 .1,
-          (
-            (on-vals (pre .0) d (sw .on), on-marks (pre .0) d (sw .on)),
-            (
-              (on-bits (pre .0) d (sw .on), (inv .1 .0 .0, waits)),
-              (
-                front-value (pre .0) cs (a .block) (a .settling) low (pairsOf (a .sizes)) (omega arith) (l .values) (l .marks) (l .queue) (l .front) (l .at .tail) (l .at .visits) waits (inv .1 .0 .0) sw,
-                (
-                  front-bounded (pre .0) cs (a .block) (a .settling) low (pairsOf (a .sizes)) (omega arith) (l .values) (l .marks) (l .queue) (l .front) (l .at .tail) (l .at .visits) waits sw,
-                  (
-                    inv .1 .0 .1 .0 waits,
-                    front-room (pre .0) cs (a .block) (a .settling) low (pairsOf (a .sizes)) (omega arith) (l .values) (l .marks) (l .queue) (l .front) (l .at .tail) (l .at .visits) waits
-                        (let e = on-queue (pre .0) d (sw .on) in let k = length-map (l .queue) (waiter (a .sizes)) in omega arith) sw,
-                  ),
-                ),
-              ),
-            ),
-          ),
-        ),
-      ),
-    )
-
-add-front : tie.Need-add-front Inv-loop μ-loop
-add-front c =
-    let at-turn = c .before .before .before .before .before .before in
-    let at-loop = at-turn .before .before .before .before .before .before in
-    let at-rows = at-loop .before .before .before .before .before .before .before .before .before .before in
-    let at-start = at-rows .before .before .before .before .before .before .before .before .before .before .before .before .before .before .before .before in
-    let a = at-start .args in
-    let pre = at-start .pre in
-    let l = at-loop .loop in
-    let sw = leads-on (l .inv .1 .1) (record { start = pre .1 .1 .1 .0 .start; index = pre .1 .1 .1 .0 .index; on = at-rows .look-rows .ensures .1 (pre .1 .1 .1 .0 .start) (a .visits, pre .1 .1 .1 .0 .index) (pre .1 .1 .1 .0 .on) }) in
-    let d = jobIn (a .sizes) (a .block) (a .settling) (pairsOf (a .sizes)) (l .values) (l .marks) (l .queue) (l .front) (l .at .tail) (l .at .visits) (sw .index) in
-    let waits = at-turn .before .before .before .before .if1 .taken in
-    let room = on-room (pre .0) d (sw .on) waits in
-    record { fits = omega (arith, waits, pairs-few (pre .0)) }
+    let pre = start-before-rows (rows-before-first (at-loop .before)) .pre in
+    let index = pre .1 .0 .0 .0 in
+    ((record { long = index .long; chained = index .chained }, pre .1 .0 .0 .1), waits-here at-loop)
 
 loop-less : tie.Need-loop-less Inv-loop μ-loop
 loop-less c =
-    let at-turn = c .before .before .before .before .before .before in
-    let at-loop = at-turn .before .before .before .before .before .before in
-    let at-rows = at-loop .before .before .before .before .before .before .before .before .before .before in
-    let at-start = at-rows .before .before .before .before .before .before .before .before .before .before .before .before .before .before .before .before in
-    let a = at-start .args in
-    let pre = at-start .pre in
-    let l = at-loop .loop in
-    let waits = at-turn .before .before .before .before .if1 .taken in
-    let sw = leads-on (l .inv .1 .1) (record { start = pre .1 .1 .1 .0 .start; index = pre .1 .1 .1 .0 .index; on = at-rows .look-rows .ensures .1 (pre .1 .1 .1 .0 .start) (a .visits, pre .1 .1 .1 .0 .index) (pre .1 .1 .1 .0 .on) }) in
-    let d = jobIn (a .sizes) (a .block) (a .settling) (pairsOf (a .sizes)) (l .values) (l .marks) (l .queue) (l .front) (l .at .tail) (l .at .visits) (sw .index) in
-    let room = on-room (pre .0) d (sw .on) waits in
-    omega arith
+    let at-round = c .before .before .before .before .before .before in
+    let in-loop = at-round .before .before .before .before in
+    omega (arith, in-loop .if1 .taken, waiting-few (waits-here (in-loop .before .before)) (in-loop .if1 .taken))
 
 loop-again : tie.Need-loop-again Inv-loop μ-loop
 loop-again c =
-    let at-turn = c .before .before .before .before .before .before in
-    let at-loop = at-turn .before .before .before .before .before .before in
-    let at-first = at-loop .before in
-    let at-rows = at-loop .before .before .before .before .before .before .before .before .before .before in
-    let at-start = at-rows .before .before .before .before .before .before .before .before .before .before .before .before .before .before .before .before in
-    let a = at-start .args in
-    let cs = changesOf (a .changes .now) in
-    let pre = at-start .pre in
-    let low = pre .1 .1 .0 .0 in
-    let l = at-loop .loop in
-    let inv = l .inv in
-    let waits = at-turn .before .before .before .before .if1 .taken in
-    let sw = leads-on (inv .1 .1) (record { start = pre .1 .1 .1 .0 .start; index = pre .1 .1 .1 .0 .index; on = at-rows .look-rows .ensures .1 (pre .1 .1 .1 .0 .start) (a .visits, pre .1 .1 .1 .0 .index) (pre .1 .1 .1 .0 .on) }) in
-    let d = jobIn (a .sizes) (a .block) (a .settling) (pairsOf (a .sizes)) (l .values) (l .marks) (l .queue) (l .front) (l .at .tail) (l .at .visits) (sw .index) in
-    let made = at-turn .turn .ensures in
-    let kept = at-turn .turn .kept in
-    let values = at-turn .turn .last .1 .1 .1 .1 .1 .1 .0 in
-    let marks = at-turn .turn .last .1 .1 .1 .1 .1 .1 .1 .0 in
-    let queue = at-turn .turn .last .1 .1 .1 .1 .1 .1 .1 .1 .0 in
-    let at = at-turn .turn .result in
-    let on = leads-turned (pre .0) cs (a .block) (a .settling) low (pairsOf (a .sizes)) (omega arith) (l .values) (l .marks) (l .queue) (l .front) (l .at .tail) (l .at .visits) waits values marks queue (at .tail) (at .visits) made in
-    let sw′ = leads-on on sw in
-    let d′ = jobIn (a .sizes) (a .block) (a .settling) (pairsOf (a .sizes)) values marks queue (l .front + 1) (at .tail) (at .visits) (sw′ .index) in
-    let w = getD (l .queue) (l .front) 0 in
-    let pair = inv .1 .0 .0 (l .front) waits in
-    let inside = pair-low (a .sizes) (w / 1024) (w % 1024) (pair .0) (pair .1) in
-    let long = on-vals (pre .0) d (sw .on) in
-    let counted = subst (λ (vs : List ℕ). Counted (at-first .first-value .result) (l .front + 1) (truesIn (a .sizes) (a .values .now)) (truesIn (a .sizes) vs)) (sym (made .values))
-    (counted-turn (a .sizes) (l .values) (at-first .first-value .result) (l .front) (truesIn (a .sizes) (a .values .now)) (waiter (a .sizes) w) (inv .1 .0 .1 .0 waits) inside (omega arith) (inv .1 .0 .1 .1)) in
-    let same = inv .1 .0 .1 .0 waits ∙ front-from (pre .0) cs (a .block) (a .settling) low (pairsOf (a .sizes)) (omega arith) (l .values) (l .marks) (l .queue) (l .front) (l .at .tail) (l .at .visits) waits (on-bits (pre .0) d (sw .on)) sw in (
-      (kept .1 .1 .1 .1 .1 .1 .0 ∙ inv .0 .0, (kept .1 .1 .1 .1 .1 .1 .1 .0 ∙ inv .0 .1 .0, kept .1 .1 .1 .1 .1 .1 .1 .1 .0 ∙ inv .0 .1 .1)),
-      (
-        (
-          made .packed,
-          (λ waits′. same ∙ sym (front-from (pre .0) cs (a .block) (a .settling) low (pairsOf (a .sizes)) (omega arith) values marks queue (l .front + 1) (at .tail) (at .visits) waits′ (on-bits (pre .0) d′ (sw′ .on)) sw′), counted),
-        ),
-        λ vs other o. on vs other (inv .1 .1 vs other o),
-      ),
-    )
+    let at-round = c .before .before .before .before .before .before in
+    let l = at-round .before .before .before .before .before .before .loop in
+    let kept = at-round .turn-round .kept in
+    ((kept .1 .1 .1 .1 .1 .1 .0 ∙ l .inv .0 .0, (kept .1 .1 .1 .1 .1 .1 .1 .0 ∙ l .inv .0 .1 .0, kept .1 .1 .1 .1 .1 .1 .1 .1 .0 ∙ l .inv .0 .1 .1)), rounds-on (l .inv .1) (at-round .turn-round .ensures))
 
 levelled-requires : tie.Need-levelled-requires Inv-loop μ-loop
 levelled-requires c κs =
     let at-loop = c .before .before in
     let at-first = at-loop .before in
-    let at-start = at-loop .before .before .before .before .before .before .before .before .before .before .before .before .before .before .before .before .before .before .before .before .before .before .before .before .before .before in
+    let at-start = start-before-rows (rows-before-first at-first) in
     let a = at-start .args in
     let l = at-loop .loop in
-    let room = level-room (a .sizes) (at-first .first-value .result) (l .front) (a .level) (a .values .now) (l .values) (at-start .pre .1 .1 .1 .1) (l .inv .1 .0 .1 .1) in
+    let room = level-room (a .sizes) (at-first .first-value .result) (l .front) (a .level) (a .values .now) (l .values) (at-start .pre .1 .1 .1 .1) (round-counted (l .inv .1)) in
     (room .0, λ t. let h = room .1 t in omega (arith, pairs-few (at-start .pre .0)))
 
 same-length : tie.Need-same-length Inv-loop μ-loop
@@ -177,12 +119,12 @@ same-length c = c .before .before .before .loop .inv .0 .0
 same-length-2 : tie.Need-same-length-2 Inv-loop μ-loop
 same-length-2 c =
     let at-loop = c .before .before .before in
-    at-loop .loop .inv .0 .1 .0 ∙ at-loop .before .before .before .before .before .before .before .before .before .before .look-rows .kept .1 .1 .1 .1 .1 .1 .1 .0
+    at-loop .loop .inv .0 .1 .0 ∙ rows-before-first (at-loop .before) .look-rows .kept .1 .1 .1 .1 .1 .1 .1 .0
 
 same-length-3 : tie.Need-same-length-3 Inv-loop μ-loop
 same-length-3 c =
     let at-loop = c .before .before .before in
-    at-loop .loop .inv .0 .1 .1 ∙ at-loop .before .before .before .before .before .before .before .before .before .before .look-rows .kept .1 .1 .1 .1 .1 .1 .1 .1 .0
+    at-loop .loop .inv .0 .1 .1 ∙ rows-before-first (at-loop .before) .look-rows .kept .1 .1 .1 .1 .1 .1 .1 .1 .0
 
 same-length-4 : tie.Need-same-length-4 Inv-loop μ-loop
 same-length-4 c = search needs
@@ -191,15 +133,16 @@ returns : tie.Need-returns Inv-loop μ-loop
 returns c =
     let at-loop = c .before .before .before in
     let at-first = at-loop .before in
-    let at-rows = at-loop .before .before .before .before .before .before .before .before .before .before in
-    let at-start = at-rows .before .before .before .before .before .before .before .before .before .before .before .before .before .before .before .before in
+    let at-rows = rows-before-first at-first in
+    let at-start = start-before-rows at-rows in
     let a = at-start .args in
     let cs = changesOf (a .changes .now) in
-    let pre = at-start .pre in
-    let low = pre .1 .1 .0 .0 in
+    let dr = at-start .pre .0 in
+    let low = at-start .pre .1 .1 .0 .0 in
     let l = at-loop .loop in (
-      λ vs other o. leads-over (pre .0) cs (a .block) (a .settling) low (pairsOf (a .sizes)) (omega arith) (l .values) (l .marks) (l .queue) (l .front) (l .at .tail) (l .at .visits) (c .before .if1 .left) vs other (l .inv .1 .1 vs other (at-rows .look-rows .ensures .1 vs (a .visits, other) o)),
-      levelled-by (a .sizes) (at-first .first-value .result) (l .front) (a .level) (c .levelled .result) (a .values .now) (l .values) (l .inv .1 .0 .1 .1) (c .levelled .ensures),
+      λ vs other o. leads-over dr cs (a .block) (a .settling) low (pairsOf (a .sizes)) (omega arith) (l .values) (l .marks) (l .queue) (l .front) (l .at .tail) (l .at .visits) (c .before .if1 .left) vs other
+          (l .inv .1 .leads (a .labels .now) cs (a .block) dr low vs other (at-rows .look-rows .ensures .1 vs (a .visits, other) o)),
+      levelled-by (a .sizes) (at-first .first-value .result) (l .front) (a .level) (c .levelled .result) (a .values .now) (l .values) (round-counted (l .inv .1)) (c .levelled .ensures),
     )
 
 pub phase-spec : {M : Type 1} → statement M
@@ -211,8 +154,7 @@ phase-spec =
     look-rows-requires
     first-value-requires
     loop-holds
-    turn-requires
-    add-front
+    turn-round-requires
     loop-less
     loop-again
     levelled-requires
