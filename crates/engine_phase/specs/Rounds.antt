@@ -30,6 +30,13 @@ jobOf z block settling front a other = jobIn z block settling (pairsOf z) (a .va
 abbrev pub FrontFrom : Sizes → ℕ → ℕ → Round → Type 0
 FrontFrom z from front a = front < a .tail → from ≡ getD (a .values) (waiter z (getD (a .queue) front 0)) 0
 
+-- Whatever the labels, the changes and the block: each update that has the lists of a, read from `front` on, on its course has those
+-- of b, read from `end` on, on it.
+abbrev pub LeadsOn : Sizes → List ℕ → List ℕ → Bool → ℕ → ℕ → Round → Round → Type 0
+LeadsOn z equations moves settling front end a b =
+    (labels : List ℕ) (changes : List Change) (block : ℕ) → Drawn (tableIn z labels equations moves) → block < blocksOf (modelOf (tableIn z labels equations moves))
+    → Leads (tableIn z labels equations moves) changes (jobOf z block settling front a) (jobOf z block settling end b)
+
 -- Pairs wait from `front` on: with some labels the table is drawn, the lists are on the course of an update by some changes in
 -- some block, and the pair in front has the value from which all turn.
 pub record Waiting (z : Sizes) (equations moves : List ℕ) (settling : Bool) (from front : ℕ) (a : Round) : Type 0 where
@@ -43,8 +50,8 @@ pub record Waiting (z : Sizes) (equations moves : List ℕ) (settling : Bool) (f
   pub packed : Packed z (a .queue) (a .tail)
   pub value : FrontFrom z from front a
 
--- From a to b the pairs turned that waited from `front` to `end`, each from the value `from`: whatever the labels, the changes and the
--- block, lists on a course stay on it; and what waits behind them stands for pairs, and turns from the same value.
+-- From a to b the pairs turned that waited from `front` to `end`, each from the value `from`: lists on a course stay on it, and what
+-- waits behind them stands for pairs and turns from the same value.
 pub record Rounded (z : Sizes) (equations moves : List ℕ) (settling : Bool) (from front end : ℕ) (a b : Round) : Type 0 where
   pub onward : front ≤ end
   pub before : end ≤ b .tail
@@ -52,8 +59,7 @@ pub record Rounded (z : Sizes) (equations moves : List ℕ) (settling : Bool) (f
   pub packed : Packed z (b .queue) (b .tail)
   pub value : FrontFrom z from end b
   pub counted : Counted from (end - front) (truesIn z (a .values)) (truesIn z (b .values))
-  pub leads : (labels : List ℕ) (changes : List Change) (block : ℕ) → Drawn (tableIn z labels equations moves) → block < blocksOf (modelOf (tableIn z labels equations moves))
-      → Leads (tableIn z labels equations moves) changes (jobOf z block settling front a) (jobOf z block settling end b)
+  pub leads : LeadsOn z equations moves settling front end a b
 
 module _ {z : Sizes} {equations moves : List ℕ} {settling : Bool} {from front : ℕ} {a : Round} (w : Waiting z equations moves settling from front a) where
   -- At first nothing has turned.
@@ -82,10 +88,12 @@ module _ {z : Sizes} {equations moves : List ℕ} {settling : Bool} {from front 
     value = r .value;
   }
 
+  -- The lists that are on the course.
   abbrev here : Job
   here = jobOf z (w .block) settling front a (w .on .index)
 
-  -- What a turn asks for: of the table, of values and marks, and of the pair in front, where one waits.
+  -- What a turn asks for: the equations and the moves are those of a model, values and marks are as long as there are pairs, and the
+  -- values are bits.
   pub waiting-sketched : Sketched z equations moves
   waiting-sketched = record { labels = w .labels; drawn = w .drawn }
 
@@ -98,6 +106,8 @@ module _ {z : Sizes} {equations moves : List ℕ} {settling : Bool} {from front 
   pub waiting-bits : Bits (a .values)
   waiting-bits = on-bits (w .drawn) here (w .on .on)
 
+  -- And where a pair waits in front: it has the value that pairs turn from, the counts stay small, and the queue has places for all
+  -- that come to wait.
   module _ (waits : front < a .tail) where
     pub waiting-from : FromValue (sketch z equations moves) settling (a .values) (getD (a .queue) front 0)
     waiting-from =
@@ -117,7 +127,7 @@ module _ {z : Sizes} {equations moves : List ℕ} {settling : Bool} {from front 
     pub waiting-few : a .tail ≤ pairsOf z
     waiting-few = on-room (w .drawn) here (w .on .on) waits
 
-    -- The pair in front turns: a round of one pair.
+    -- The pair in front turns.
     module _ (b : Round) (made : Turned z equations moves settling front (getD (a .queue) front 0) a b) where
       -- The queue ends no earlier.
       turn-tail : a .tail ≤ b .tail
@@ -128,8 +138,8 @@ module _ {z : Sizes} {equations moves : List ℕ} {settling : Bool} {from front 
           let k = spread-kept (free settling) (nextMark settling) (askOf m settling (b .values)) (leanersOf m (waiter z (getD (a .queue) front 0))) (pileIn z (a .marks) (a .queue) (suc front) (a .tail)) .tail in
           omega arith
 
-      turn-leads : (labels : List ℕ) (changes : List Change) (block : ℕ) → Drawn (tableIn z labels equations moves) → block < blocksOf (modelOf (tableIn z labels equations moves))
-          → Leads (tableIn z labels equations moves) changes (jobOf z block settling front a) (jobOf z block settling (front + 1) b)
+      -- What it leaves is on the course.
+      turn-leads : LeadsOn z equations moves settling front (front + 1) a b
       turn-leads labels changes block dr low =
           leads-turned dr changes block settling low (pairsOf z) (omega arith) (a .values) (a .marks) (a .queue) front (a .tail) (a .visits) waits (b .values) (b .marks) (b .queue) (b .tail) (b .visits) made
 
@@ -142,6 +152,7 @@ module _ {z : Sizes} {equations moves : List ℕ} {settling : Bool} {from front 
           ∙ front-from (w .drawn) (w .changes) (w .block) settling (w .low) (pairsOf z) (omega arith) (a .values) (a .marks) (a .queue) front (a .tail) (a .visits) waits waiting-bits (w .on)
           ∙ sym (front-from (w .drawn) (w .changes) (w .block) settling (w .low) (pairsOf z) (omega arith) (b .values) (b .marks) (b .queue) (front + 1) (b .tail) (b .visits) waits′ bits on)
 
+      -- One pair has turned.
       turn-counted : Counted from (front + 1 - front) (truesIn z (a .values)) (truesIn z (b .values))
       turn-counted =
           let v = getD (a .queue) front 0 in
@@ -152,6 +163,7 @@ module _ {z : Sizes} {equations moves : List ℕ} {settling : Bool} {from front 
           (subst (λ (vs : List ℕ). Counted from 1 (truesIn z (a .values)) (truesIn z vs)) (sym (made .values))
           (counted-turn z (a .values) from (waiter z v) (w .value waits) inside (omega arith)))
 
+      -- That is a round of one pair.
       pub round-one : Rounded z equations moves settling from front (front + 1) a b
       round-one = record {
         onward = omega arith;

@@ -21,6 +21,10 @@ use Rattle.engine_phase.proofs.turns_from.Reads as turns-from-reads
 use Rattle.rooms.proofs.word_at.Reads as word-at-reads
 use Rattle.words.proofs.equation_in.Reads as equation-in-reads
 
+-- The points of the program: from what is known at a later one to what was known at an earlier one.
+abbrev start-before-word-at : tie.After-word-at → tie.Start
+start-before-word-at c = c .before .before .before .before .before .before .before .before .before .before .before
+
 cast-word-at : tie.Need-cast-word-at
 cast-word-at c = search needs
 
@@ -34,7 +38,7 @@ tell-row-requires : tie.Need-tell-row-requires
 tell-row-requires c κs =
     let at-equation = c .before .before in
     let at-word = at-equation .before in
-    let at-start = at-word .before .before .before .before .before .before .before .before .before .before .before in
+    let at-start = start-before-word-at at-word in
     let a = at-start .args in
     let t = tableIn (a .sizes) (a .labels .now) (a .equations .now) (a .moves .now) in
     let cs = changesOf (a .changes .now) in
@@ -80,7 +84,7 @@ returns : tie.Need-returns
 returns c =
     let at-equation = c .before .before .before .before .before .before in
     let at-word = at-equation .before in
-    let at-start = at-word .before .before .before .before .before .before .before .before .before .before .before in
+    let at-start = start-before-word-at at-word in
     let a = at-start .args in
     let t = tableIn (a .sizes) (a .labels .now) (a .equations .now) (a .moves .now) in
     let cs = changesOf (a .changes .now) in
@@ -100,7 +104,7 @@ put-row-requires : tie.Need-put-row-requires
 put-row-requires c κs =
     let at-equation = c .before .before .before .before .before .before .before .before .before .before in
     let at-word = at-equation .before in
-    let at-start = at-word .before .before .before .before .before .before .before .before .before .before .before in
+    let at-start = start-before-word-at at-word in
     let a = at-start .args in
     let t = tableIn (a .sizes) (a .labels .now) (a .equations .now) (a .moves .now) in
     let cs = changesOf (a .changes .now) in
@@ -139,7 +143,7 @@ returns-2 : tie.Need-returns-2
 returns-2 c =
     let at-equation = c .before .before .before .before .before .before .before .before .before .before .before .before .before .before .before .before .before in
     let at-word = at-equation .before in
-    let at-start = at-word .before .before .before .before .before .before .before .before .before .before .before in
+    let at-start = start-before-word-at at-word in
     let a = at-start .args in
     let t = tableIn (a .sizes) (a .labels .now) (a .equations .now) (a .moves .now) in
     let cs = changesOf (a .changes .now) in

@@ -27,6 +27,10 @@ abbrev μ-loop : tie.MeasureT-loop
 μ-loop sizes labels equations moves index changes values marks₀ queue₀ bad₀ block settling variables tail₀ y₀ marks queue bad tail y =
     sizes .variables - y
 
+-- The points of the program: from what is known at a later one to what was known at an earlier one.
+abbrev start-before-loop : tie.At-loop Inv-loop μ-loop → tie.Start Inv-loop μ-loop
+start-before-loop c = c .before .before .before .before .before .before .before .before .before .before .before .before
+
 cast-variables : tie.Need-cast-variables Inv-loop μ-loop
 cast-variables c = search needs
 
@@ -53,7 +57,7 @@ cast-x c = search needs
 look-row-requires : tie.Need-look-row-requires Inv-loop μ-loop
 look-row-requires c κs =
     let at-loop = c .before .before .before .before in
-    let at-start = at-loop .before .before .before .before .before .before .before .before .before .before .before .before in
+    let at-start = start-before-loop at-loop in
     let pre = at-start .pre in
     let inv = at-loop .loop .inv in
     let lt = c .before .before .before .loop-test .taken in
@@ -65,13 +69,13 @@ add-next-of c = search needs
 next-of-requires-2 : tie.Need-next-of-requires-2 Inv-loop μ-loop
 next-of-requires-2 c κs =
     let at-loop = c .before .before .before .before .before .before .before .before .before .before .before in
-    let at-start = at-loop .before .before .before .before .before .before .before .before .before .before .before .before in
+    let at-start = start-before-loop at-loop in
     omega (arith, c .before .before .before .before .before .before .before .before .before .before .loop-test .taken, at-start .pre .0 .long-equations)
 
 loop-less : tie.Need-loop-less Inv-loop μ-loop
 loop-less c =
     let at-loop = c .before .before .before .before .before .before .before .before .before .before .before .before in
-    let at-start = at-loop .before .before .before .before .before .before .before .before .before .before .before .before in
+    let at-start = start-before-loop at-loop in
     let next = c .next-of2 .ensures in
     omega (arith, next .on, c .before .before .before .before .before .before .before .before .before .before .before .loop-test .taken)
 
@@ -79,7 +83,7 @@ loop-again : tie.Need-loop-again Inv-loop μ-loop
 loop-again c =
     let at-row = c .before .before .before .before .before .before .before in
     let at-loop = at-row .before .before .before .before .before in
-    let at-start = at-loop .before .before .before .before .before .before .before .before .before .before .before .before in
+    let at-start = start-before-loop at-loop in
     let a = at-start .args in
     let pre = at-start .pre in
     let inv = at-loop .loop .inv in
@@ -105,7 +109,7 @@ same-length-3 c = c .before .loop .inv .0 .1 .1 .1
 returns : tie.Need-returns Inv-loop μ-loop
 returns c =
     let at-loop = c .before in
-    let a = at-loop .before .before .before .before .before .before .before .before .before .before .before .before .args in
+    let a = start-before-loop at-loop .args in
     let inv = at-loop .loop .inv in
     let e : at-loop .loop .y ≡ a .sizes .variables = omega (arith, c .loop-test .left, inv .0 .0) in (
       inv .1 .0 .0,

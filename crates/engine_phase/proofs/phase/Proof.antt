@@ -14,10 +14,6 @@ use Rattle.engine_phase.specs.Rounds.{Waiting, Rounded, round-none, wait
 use borrow.Author.Needs.{needs}
 use Rattle.engine_phase.proofs.phase.Statement.{statement}
 use Rattle.engine_phase.proofs.phase.Tie as tie
-use Rattle.engine_phase.proofs.phase.Reads as reads
-use Rattle.engine_phase.proofs.phase.Lts as lts
-use Rattle.engine_phase.proofs.look_rows.Reads as look-rows-reads
-use Rattle.engine_phase.proofs.turn_round.Reads as turn-round-reads
 
 abbrev Inv-loop : tie.InvT-loop
 Inv-loop sizes labels equations moves index named operand changes values₀ marks₀ queue₀ bad block visits level settling tail from at₀ front₀ values marks queue at front =
@@ -28,23 +24,26 @@ abbrev μ-loop : tie.MeasureT-loop
 μ-loop sizes labels equations moves index named operand changes values₀ marks₀ queue₀ bad block visits level settling tail from at₀ front₀ values marks queue at front =
     pairsOf sizes - front
 
--- From a point of the program to those before it.
-abbrev start-before-rows : tie.After-look-rows Inv-loop μ-loop → tie.Start Inv-loop μ-loop
-start-before-rows c = c .before .before .before .before .before .before .before .before .before .before .before .before .before .before .before .before
+-- The points of the program: from what is known at a later one to what was known at an earlier one.
+abbrev start-before-look-rows : tie.After-look-rows Inv-loop μ-loop → tie.Start Inv-loop μ-loop
+start-before-look-rows c = c .before .before .before .before .before .before .before .before .before .before .before .before .before .before .before .before
 
-abbrev rows-before-first : tie.After-first-value Inv-loop μ-loop → tie.After-look-rows Inv-loop μ-loop
-rows-before-first c = c .before .before .before .before .before .before .before .before .before
+abbrev look-rows-before-first-value : tie.After-first-value Inv-loop μ-loop → tie.After-look-rows Inv-loop μ-loop
+look-rows-before-first-value c = c .before .before .before .before .before .before .before .before .before
+
+abbrev round-before-end : tie.After-slice-known10 Inv-loop μ-loop → tie.After-turn-round Inv-loop μ-loop
+round-before-end c = c .before .before .before .before .before .before
 
 -- What waits where the first round begins.
 first-waits : (c : tie.After-first-value Inv-loop μ-loop) →
-    let at-rows = rows-before-first c in
-    let a = start-before-rows at-rows .args in
+    let at-rows = look-rows-before-first-value c in
+    let a = start-before-look-rows at-rows .args in
     let last = at-rows .look-rows .last in
     Waiting (a .sizes) (a .equations .now) (a .moves .now) (a .settling) (c .first-value .result) 0
     (roundOf (a .values .now) (last .1 .1 .1 .1 .1 .1 .1 .0) (last .1 .1 .1 .1 .1 .1 .1 .1 .0) (at-rows .look-rows .result) (a .visits))
 first-waits c =
-    let at-rows = rows-before-first c in
-    let at-start = start-before-rows at-rows in
+    let at-rows = look-rows-before-first-value c in
+    let at-start = start-before-look-rows at-rows in
     let a = at-start .args in
     let pre = at-start .pre in
     let some = pre .1 .1 .1 .0 in
@@ -76,7 +75,7 @@ loop-holds c = ((refl, (refl, refl)), round-none (first-waits c))
 
 -- What waits where a round begins.
 waits-here : (c : tie.At-loop Inv-loop μ-loop) →
-    let a = start-before-rows (rows-before-first (c .before)) .args in
+    let a = start-before-look-rows (look-rows-before-first-value (c .before)) .args in
     let l = c .loop in
     Waiting (a .sizes) (a .equations .now) (a .moves .now) (a .settling) (c .before .first-value .result) (l .front) (roundOf (l .values) (l .marks) (l .queue) (l .at .tail) (l .at .visits))
 waits-here c =
@@ -86,19 +85,19 @@ waits-here c =
 turn-round-requires : tie.Need-turn-round-requires Inv-loop μ-loop
 turn-round-requires c κs =
     let at-loop = c .before .before .before .before .before in
-    let pre = start-before-rows (rows-before-first (at-loop .before)) .pre in
+    let pre = start-before-look-rows (look-rows-before-first-value (at-loop .before)) .pre in
     let index = pre .1 .0 .0 .0 in
     ((record { long = index .long; chained = index .chained }, pre .1 .0 .0 .1), waits-here at-loop)
 
 loop-less : tie.Need-loop-less Inv-loop μ-loop
 loop-less c =
-    let at-round = c .before .before .before .before .before .before in
+    let at-round = round-before-end c in
     let in-loop = at-round .before .before .before .before in
     omega (arith, in-loop .if1 .taken, waiting-few (waits-here (in-loop .before .before)) (in-loop .if1 .taken))
 
 loop-again : tie.Need-loop-again Inv-loop μ-loop
 loop-again c =
-    let at-round = c .before .before .before .before .before .before in
+    let at-round = round-before-end c in
     let l = at-round .before .before .before .before .before .before .loop in
     let kept = at-round .turn-round .kept in
     ((kept .1 .1 .1 .1 .1 .1 .0 ∙ l .inv .0 .0, (kept .1 .1 .1 .1 .1 .1 .1 .0 ∙ l .inv .0 .1 .0, kept .1 .1 .1 .1 .1 .1 .1 .1 .0 ∙ l .inv .0 .1 .1)), rounds-on (l .inv .1) (at-round .turn-round .ensures))
@@ -107,7 +106,7 @@ levelled-requires : tie.Need-levelled-requires Inv-loop μ-loop
 levelled-requires c κs =
     let at-loop = c .before .before in
     let at-first = at-loop .before in
-    let at-start = start-before-rows (rows-before-first at-first) in
+    let at-start = start-before-look-rows (look-rows-before-first-value at-first) in
     let a = at-start .args in
     let l = at-loop .loop in
     let room = level-room (a .sizes) (at-first .first-value .result) (l .front) (a .level) (a .values .now) (l .values) (at-start .pre .1 .1 .1 .1) (round-counted (l .inv .1)) in
@@ -119,12 +118,12 @@ same-length c = c .before .before .before .loop .inv .0 .0
 same-length-2 : tie.Need-same-length-2 Inv-loop μ-loop
 same-length-2 c =
     let at-loop = c .before .before .before in
-    at-loop .loop .inv .0 .1 .0 ∙ rows-before-first (at-loop .before) .look-rows .kept .1 .1 .1 .1 .1 .1 .1 .0
+    at-loop .loop .inv .0 .1 .0 ∙ look-rows-before-first-value (at-loop .before) .look-rows .kept .1 .1 .1 .1 .1 .1 .1 .0
 
 same-length-3 : tie.Need-same-length-3 Inv-loop μ-loop
 same-length-3 c =
     let at-loop = c .before .before .before in
-    at-loop .loop .inv .0 .1 .1 ∙ rows-before-first (at-loop .before) .look-rows .kept .1 .1 .1 .1 .1 .1 .1 .1 .0
+    at-loop .loop .inv .0 .1 .1 ∙ look-rows-before-first-value (at-loop .before) .look-rows .kept .1 .1 .1 .1 .1 .1 .1 .1 .0
 
 same-length-4 : tie.Need-same-length-4 Inv-loop μ-loop
 same-length-4 c = search needs
@@ -133,8 +132,8 @@ returns : tie.Need-returns Inv-loop μ-loop
 returns c =
     let at-loop = c .before .before .before in
     let at-first = at-loop .before in
-    let at-rows = rows-before-first at-first in
-    let at-start = start-before-rows at-rows in
+    let at-rows = look-rows-before-first-value at-first in
+    let at-start = start-before-look-rows at-rows in
     let a = at-start .args in
     let cs = changesOf (a .changes .now) in
     let dr = at-start .pre .0 in

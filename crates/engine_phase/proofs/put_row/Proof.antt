@@ -18,6 +18,10 @@ use Rattle.engine_rows.proofs.row_marks.Reads as row-marks-reads
 use Rattle.engine_rows.proofs.row_queue.Reads as row-queue-reads
 use Rattle.engine_rows.proofs.row_turns.Reads as row-turns-reads
 
+-- The points of the program: from what is known at a later one to what was known at an earlier one.
+abbrev start-before-row-turns : tie.After-row-turns → tie.Start
+start-before-row-turns c = c .before .before .before .before .before .before .before .before .before
+
 cast-n : tie.Need-cast-n
 cast-n c = search needs
 
@@ -60,7 +64,7 @@ same-length c = search needs
 returns : tie.Need-returns
 returns c =
     let at-turns = c .before .before .before in
-    let at-start = at-turns .before .before .before .before .before .before .before .before .before in
+    let at-start = start-before-row-turns at-turns in
     let a = at-start .args in
     let same : a .y .0 * a .sizes .states + a .sizes .states - a .y .0 * a .sizes .states ≡ a .sizes .states = omega arith in
     put-none (a .sizes) (a .y .0) (a .values .now) (a .bad .now) _ (a .from) _ (a .sizes .states) refl (at-start .pre .1 .0 .1 .1) (omega (arith, at-start .pre .0)) _ same (at-turns .row-turns .ensures .0) (a .marks .now) (a .queue .now) (a .tail) (at-start .pre .1 .1 .0) (a .settling)
@@ -85,7 +89,7 @@ row-marks-requires c κs = search needs
 row-queue-requires : tie.Need-row-queue-requires
 row-queue-requires c κs =
     let at-turns = c .before .before .before .before .before .before .before .before .before .before in
-    let at-start = at-turns .before .before .before .before .before .before .before .before .before in
+    let at-start = start-before-row-turns at-turns in
     let a = at-start .args in
     let same : a .y .0 * a .sizes .states + a .sizes .states - a .y .0 * a .sizes .states ≡ a .sizes .states = omega arith in
     let made : at-turns .row-turns .last .1 .1 .0 ≡ listed 0 (length (a .bad .now)) (λ (s : ℕ). bit (turnAt (take (a .y .0 * a .sizes .states + a .sizes .states - a .y .0 * a .sizes .states) (drop (a .y .0 * a .sizes .states) (a .values .now))) (a .from) (a .bad .now) s)) = at-turns .row-turns .ensures .0 in
@@ -107,7 +111,7 @@ returns-2 c =
     let at-queue = c .before .before in
     let at-marks = at-queue .before .before .before .before .before in
     let at-turns = at-marks .before .before .before .before .before .before in
-    let at-start = at-turns .before .before .before .before .before .before .before .before .before in
+    let at-start = start-before-row-turns at-turns in
     let a = at-start .args in
     let same : a .y .0 * a .sizes .states + a .sizes .states - a .y .0 * a .sizes .states ≡ a .sizes .states = omega arith in
     let made : at-turns .row-turns .last .1 .1 .0 ≡ listed 0 (length (a .bad .now)) (λ (s : ℕ). bit (turnAt (take (a .y .0 * a .sizes .states + a .sizes .states - a .y .0 * a .sizes .states) (drop (a .y .0 * a .sizes .states) (a .values .now))) (a .from) (a .bad .now) s)) = at-turns .row-turns .ensures .0 in

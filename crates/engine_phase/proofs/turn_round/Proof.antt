@@ -8,9 +8,6 @@ use Rattle.engine_turn.specs.Turns.{roundOf}
 use Rattle.engine_phase.specs.Rounds.{Waiting, Rounded, round-none, waiting-on, waiting-sketched, waiting-values, waiting-marks, waiting-bits, waiting-from, waiting-bounded, waiting-room, waiting-few, round-one, rounds-on}
 use Rattle.engine_phase.proofs.turn_round.Statement.{statement}
 use Rattle.engine_phase.proofs.turn_round.Tie as tie
-use Rattle.engine_phase.proofs.turn_round.Reads as reads
-use Rattle.engine_phase.proofs.turn_round.Lts as lts
-use Rattle.engine_turn.proofs.turn.Reads as turn-reads
 
 abbrev Inv-loop : tie.InvT-loop
 Inv-loop sizes equations moves index named operand values₀ marks₀ queue₀ front settling from end r₀ f₀ values marks queue r f =
@@ -20,15 +17,18 @@ Inv-loop sizes equations moves index named operand values₀ marks₀ queue₀ f
 abbrev μ-loop : tie.MeasureT-loop
 μ-loop sizes equations moves index named operand values₀ marks₀ queue₀ front settling from end r₀ f₀ values marks queue r f = end - f
 
+-- The points of the program: from what is known at a later one to what was known at an earlier one.
+abbrev start-before-loop : tie.At-loop Inv-loop μ-loop → tie.Start Inv-loop μ-loop
+start-before-loop c = c .before .before .before .before .before .before .before .before .before
+
+abbrev in-loop-before-end : tie.After-slice-known6 Inv-loop μ-loop → tie.In-loop Inv-loop μ-loop
+in-loop-before-end c = c .before .before .before .before .before .before .before .before .before .before
+
 loop-holds : tie.Need-loop-holds Inv-loop μ-loop
 loop-holds c =
     let at-start = c .before .before .before .before .before .before .before .before in
     let w = at-start .pre .1 in
     ((refl, (refl, refl)), (w .before, round-none w))
-
--- From the loop to the start.
-abbrev start-before-loop : tie.At-loop Inv-loop μ-loop → tie.Start Inv-loop μ-loop
-start-before-loop c = c .before .before .before .before .before .before .before .before .before
 
 -- What waits at each turn, and that a pair waits.
 waits-here : (c : tie.At-loop Inv-loop μ-loop) →
@@ -53,19 +53,19 @@ turn-requires c κs =
 
 add-f : tie.Need-add-f Inv-loop μ-loop
 add-f c =
-    let in-loop = c .before .before .before .before .before .before .before .before .before .before in
+    let in-loop = in-loop-before-end c in
     let w = waits-here (in-loop .before) in
     record { fits = omega (arith, one-waits in-loop, waiting-few w (one-waits in-loop), pairs-few (w .drawn)) }
 
 loop-less : tie.Need-loop-less Inv-loop μ-loop
 loop-less c =
-    let in-loop = c .before .before .before .before .before .before .before .before .before .before in
+    let in-loop = in-loop-before-end c in
     omega (arith, in-loop .loop-test .taken)
 
 loop-again : tie.Need-loop-again Inv-loop μ-loop
 loop-again c =
     let at-turn = c .before .before .before .before .before .before in
-    let in-loop = at-turn .before .before .before .before in
+    let in-loop = in-loop-before-end c in
     let l = in-loop .before .loop in
     let kept = at-turn .turn .kept in
     let last = at-turn .turn .last in
