@@ -6,7 +6,7 @@ use lib.Dec.{eqb}
 use Rattle.lists.specs.Lists.{bit}
 use Rattle.lists.specs.Tests.{not-out, not-not}
 use Rattle.rules.specs.Session.{unword}
-use Rattle.words.specs.Table.{tableIn, changesOf}
+use Rattle.words.specs.Table.{tableIn, ownIn, changesOf}
 use Rattle.words.specs.Limits.{limits}
 use Rattle.engine_phase.specs.PutRow.{turnsFrom}
 use Rattle.engine_phase.specs.LookRow.{look-vals, look-marks, look-bits, look-small, look-told, look-none, look-room, look-left}
@@ -25,6 +25,30 @@ use Rattle.words.proofs.equation_in.Reads as equation-in-reads
 abbrev start-before-word-at : tie.After-word-at → tie.Start
 start-before-word-at c = c .before .before .before .before .before .before .before .before .before .before .before
 
+abbrev equation-in-before-tell-row : tie.After-tell-row → tie.After-equation-in
+equation-in-before-tell-row c = c .before .before .before
+
+abbrev start-before-tell-row : tie.After-tell-row → tie.Start
+start-before-tell-row c = start-before-word-at (equation-in-before-tell-row c .before)
+
+abbrev tell-row-before-turns-from : tie.After-turns-from → tie.After-tell-row
+tell-row-before-turns-from c = c .before .before .before .before
+
+-- Pairs of the row may have to turn, and the byte is that of the value that they turn from.
+tells : (c : tie.After-turns-from) → tell-row-before-turns-from c .tell-row .result ≡ true
+tells c =
+    let r = tell-row-before-turns-from c .tell-row .result in
+    sym (not-not r) ∙ ap not (c .before .if1 .left)
+
+is-from : (c : tie.After-turns-from) →
+    let a = start-before-tell-row (tell-row-before-turns-from c) .args in
+    c .turns-from .result ≡ bit (turnsFrom (a .settling) (ownIn (tableIn (a .sizes) (a .labels .now) (a .equations .now) (a .moves .now)) (a .y .0)))
+is-from c =
+    let at-equation = equation-in-before-tell-row (tell-row-before-turns-from c) in
+    let settling = start-before-tell-row (tell-row-before-turns-from c) .args .settling in
+    c .turns-from .ensures
+    ∙ ap (λ (k : ℕ). bit (turnsFrom settling (eqb k 1))) (at-equation .equation-in .ensures .is-kind ∙ ap (λ (w : ℕ). unword w .kind) (at-equation .before .word-at .ensures))
+
 cast-word-at : tie.Need-cast-word-at
 cast-word-at c = search needs
 
@@ -36,11 +60,8 @@ equation-in-requires c κs = search needs
 
 tell-row-requires : tie.Need-tell-row-requires
 tell-row-requires c κs =
-    let at-equation = c .before .before in
-    let at-word = at-equation .before in
-    let at-start = start-before-word-at at-word in
+    let at-start = start-before-word-at (c .before .before .before) in
     let a = at-start .args in
-    let t = tableIn (a .sizes) (a .labels .now) (a .equations .now) (a .moves .now) in
     let cs = changesOf (a .changes .now) in
     let pre = at-start .pre in
     let lt = pre .1 .1 .0 .0 in
@@ -82,18 +103,15 @@ same-length-2 c = search needs
 
 returns : tie.Need-returns
 returns c =
-    let at-equation = c .before .before .before .before .before .before in
-    let at-word = at-equation .before in
-    let at-start = start-before-word-at at-word in
+    let at-tell = c .before .before .before in
+    let at-start = start-before-tell-row at-tell in
     let a = at-start .args in
-    let t = tableIn (a .sizes) (a .labels .now) (a .equations .now) (a .moves .now) in
     let cs = changesOf (a .changes .now) in
     let pre = at-start .pre in
     let lt = pre .1 .1 .0 .0 in
     let low = pre .1 .1 .0 .1 .0 in
     let room = pre .1 .1 .0 .1 .1 .1 in
     let own = pre .1 .1 .1 .0 .1 in
-    let at-tell = c .before .before .before in
     look-none (pre .0) cs (a .block) (a .settling) low (a .y .0) lt own (a .values .now) (a .marks .now) (a .queue .now) (a .tail) room (pre .1 .1 .1 .1) _ _ (at-tell .tell-row .ensures)
     (not-out (at-tell .tell-row .result) (c .if1 .taken)) (pre .1 .1 .1 .0 .0)
 
@@ -102,22 +120,17 @@ turns-from-requires c κs = search needs
 
 put-row-requires : tie.Need-put-row-requires
 put-row-requires c κs =
-    let at-equation = c .before .before .before .before .before .before .before .before .before .before in
-    let at-word = at-equation .before in
-    let at-start = start-before-word-at at-word in
+    let at-from = c .before .before .before in
+    let at-tell = tell-row-before-turns-from at-from in
+    let at-start = start-before-tell-row at-tell in
     let a = at-start .args in
-    let t = tableIn (a .sizes) (a .labels .now) (a .equations .now) (a .moves .now) in
     let cs = changesOf (a .changes .now) in
     let pre = at-start .pre in
     let lt = pre .1 .1 .0 .0 in
     let low = pre .1 .1 .0 .1 .0 in
     let room = pre .1 .1 .0 .1 .1 .1 in
     let own = pre .1 .1 .1 .0 .1 in
-    let at-from = c .before .before .before in
-    let at-tell = at-from .before .before .before .before in
     let told = at-tell .tell-row .ensures in
-    let is-from = at-from .turns-from .ensures ∙ ap (λ (k : ℕ). bit (turnsFrom (a .settling) (eqb k 1))) (at-equation .equation-in .ensures .is-kind ∙ ap (λ (w : ℕ). unword w .kind) (at-word .word-at .ensures)) in
-    let yes : at-tell .tell-row .result ≡ true = sym (not-not (at-tell .tell-row .result)) ∙ ap not (at-from .before .if1 .left) in
     let sw = pre .1 .1 .1 .1 in
     let l = limits (pre .0) in (
       (lt, (l .1 .1 .0, l .0 .1)),
@@ -126,7 +139,7 @@ put-row-requires c κs =
           look-vals (pre .0) cs (a .block) (a .settling) low (a .y .0) lt own (a .values .now) (a .marks .now) (a .queue .now) (a .tail) room sw,
           (look-marks (pre .0) cs (a .block) (a .settling) low (a .y .0) lt own (a .values .now) (a .marks .now) (a .queue .now) (a .tail) room sw, told .long),
         ),
-        (pre .1 .1 .1 .0 .0, look-room (pre .0) cs (a .block) (a .settling) low (a .y .0) lt own (a .values .now) (a .marks .now) (a .queue .now) (a .tail) room sw _ _ told _ is-from yes),
+        (pre .1 .1 .1 .0 .0, look-room (pre .0) cs (a .block) (a .settling) low (a .y .0) lt own (a .values .now) (a .marks .now) (a .queue .now) (a .tail) room sw _ _ told _ (is-from at-from) (tells at-from)),
       ),
     )
 
@@ -141,26 +154,20 @@ same-length-5 c = search needs
 
 returns-2 : tie.Need-returns-2
 returns-2 c =
-    let at-equation = c .before .before .before .before .before .before .before .before .before .before .before .before .before .before .before .before .before in
-    let at-word = at-equation .before in
-    let at-start = start-before-word-at at-word in
+    let at-from = c .before .before .before .before .before .before .before .before .before .before in
+    let at-tell = tell-row-before-turns-from at-from in
+    let at-start = start-before-tell-row at-tell in
     let a = at-start .args in
-    let t = tableIn (a .sizes) (a .labels .now) (a .equations .now) (a .moves .now) in
     let cs = changesOf (a .changes .now) in
     let pre = at-start .pre in
     let lt = pre .1 .1 .0 .0 in
     let low = pre .1 .1 .0 .1 .0 in
     let room = pre .1 .1 .0 .1 .1 .1 in
     let own = pre .1 .1 .1 .0 .1 in
-    let at-from = c .before .before .before .before .before .before .before .before .before .before in
-    let at-tell = at-from .before .before .before .before in
     let told = at-tell .tell-row .ensures in
-    let is-from = at-from .turns-from .ensures ∙ ap (λ (k : ℕ). bit (turnsFrom (a .settling) (eqb k 1))) (at-equation .equation-in .ensures .is-kind ∙ ap (λ (w : ℕ). unword w .kind) (at-word .word-at .ensures)) in
-    let yes : at-tell .tell-row .result ≡ true = sym (not-not (at-tell .tell-row .result)) ∙ ap not (at-from .before .if1 .left) in
     let sw = pre .1 .1 .1 .1 in
-    let l = limits (pre .0) in
     let at-put = c .before .before .before .before .before .before in
-    look-left (pre .0) cs (a .block) (a .settling) low (a .y .0) lt own (a .values .now) (a .marks .now) (a .queue .now) (a .tail) room sw _ _ told _ is-from yes _ _ _
+    look-left (pre .0) cs (a .block) (a .settling) low (a .y .0) lt own (a .values .now) (a .marks .now) (a .queue .now) (a .tail) room sw _ _ told _ (is-from at-from) (tells at-from) _ _ _
     (at-put .put-row .kept .1 .1 .1 .0) (at-put .put-row .ensures)
 
 pub look-row-spec : {M : Type 1} → statement M
