@@ -5,6 +5,8 @@ use mathlib.Core.List.{List, [], _∷_, _++_}
 use Prim.Native.Nat.{ℕ, zero, suc, _+_, _-_, _≤_}
 use lib.ListN.{length, getD, take, drop, set}
 use lib.Dec.{ltb}
+use Rattle.lists.specs.Lists.{all}
+use Rattle.rules.specs.Limits.{most-moves}
 use Rattle.rules.specs.Batch.{Change, edited}
 use Rattle.laws.specs.Edits.{Judged}
 use Rattle.table.specs.Ascending.{ascends, leading}
@@ -65,6 +67,10 @@ changedAll b (c ∷ cs) k = changedBy b c (changedAll b cs k)
 abbrev pub appliedTo : List Change → Kept → Kept
 appliedTo cs k = changedAll true cs (changedAll false cs k)
 
+-- A word that no move is: it stands where a move was struck.
+abbrev pub mark : ℕ
+mark = 4294967295
+
 -- The room holds the moves, and they ascend.
 pub record Orderly (k : Kept) : Type 0 where
   pub fits : k .count ≤ length (k .moves)
@@ -75,8 +81,10 @@ abbrev pub AllOrderly : Bool → List Change → Kept → Type 0
 AllOrderly b [] k = Orderly k
 AllOrderly b (c ∷ cs) k = Orderly (changedAll b (c ∷ cs) k) × AllOrderly b cs k
 
--- The changes were judged, and the room holds what they come to.
+-- The changes were judged, the room holds what they come to, and the moves are no more and no greater than a model's.
 pub record Ready (cs : List Change) (k : Kept) : Type 0 where
   pub start : Orderly k
   pub judged : Judged (take (k .count) (k .moves)) cs
   pub few : length (edited cs (take (k .count) (k .moves))) ≤ length (k .moves)
+  pub most : k .count ≤ most-moves
+  pub small : all (λ q. ltb q mark) (take (k .count) (k .moves)) ≡ true

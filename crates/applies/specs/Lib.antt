@@ -1,5 +1,9 @@
 pub mod Kept
+pub mod Striking
 pub mod Shifts
 pub mod OneMove
 pub mod Applied
 pub mod Orders
+pub mod Notes
+pub mod Struck
+pub mod OnePass

@@ -40,7 +40,7 @@ absent p n (q ∷ l) h k =
     rw e (ap (λ (x : List ℕ). q ∷ x) (absent p (suc q) l (f .1) (omega arith)))
 
 -- A move that is there is not below the first.
-above : (p n : ℕ) (l : List ℕ) → ascends n l ≡ true → elem p l ≡ true → n ≤ p
+pub above : (p n : ℕ) (l : List ℕ) → ascends n l ≡ true → elem p l ≡ true → n ≤ p
 above p n [] h e = absurd (false≢true e)
 above p n (q ∷ l) h e =
     let f = simp and-is at h in

@@ -73,7 +73,7 @@ module _ (n : ℕ) (room ms : List ℕ) (h : ascends 0 ms ≡ true) where
 
 -- What is ready stays in order through the deletes, and then through the inserts.
 module _ (cs : List Change) (n : ℕ) (room : List ℕ) (r : Ready cs (record { moves = room; count = n })) where
-  as-apart : record { moves = room; count = n } ≡ apart n room (take n room)
+  pub as-apart : record { moves = room; count = n } ≡ apart n room (take n room)
   as-apart = start-apart n room (take n room) (length-take-le n room (r .start .fits)) (sym (take-append-drop n room))
 
   pub ready-out : AllOrderly false cs (record { moves = room; count = n })

@@ -1,10 +1,14 @@
 // The changes of a batch made in the room of the moves, which stay sorted: first all deletes, then all inserts. Each finds its
-// place by halving, and shifts the moves behind it.
+// place by halving, and shifts the moves behind it; the deletes of several changes are made in one pass over the room.
 ghost use mathlib.Core.Path.{_≡_};
-ghost use Prim.Native.Nat.{_≤_, _<_};
-ghost use lib.ListN.{length, take};
+ghost use mathlib.Core.Bool.{true, false};
+ghost use Prim.Native.Nat.{_≤_, _<_, min};
+ghost use lib.ListN.{length, take, drop};
+ghost use Rattle.rules.specs.Limits.{most-moves, most-changes};
+ghost use Rattle.table.specs.Ascending.{ascends};
 ghost use Rattle.edits.specs.Changes.{changeOf, changesOf};
 ghost use Rattle.applies.specs.Kept.{Kept, pulledIn, pushedIn, removedFrom, insertedInto, deletedBy, insertedBy, changedBy, changedAll, appliedTo, Orderly, AllOrderly, Ready};
+ghost use Rattle.applies.specs.Striking.{Noted, notedBy, notedAll, struckAt, closing, clearedIn};
 
 // The places from `from` to `end` each take the value of the next one.
 fn pull(moves: &mut [u32], from: usize, end: usize)
@@ -106,11 +110,113 @@ fn change_all(changes: &[u32], count: usize, inserting: bool, moves: &mut [u32],
     held
 }
 
+// From so many changes on the deleted moves are taken out in one pass.
+const SEVERAL: usize = 5;
+
+// What is written over a move that is struck: no move is this word.
+const MARK: u32 = 4294967295;
+
+// The place of the move that a change deletes, noted in front of those from `top` on. Answers where the first note is then.
+fn note_one(w: u32, moves: &[u32], n: usize, places: &mut [u16], top: usize) -> usize
+    requires { ⌜ (ascends 0 (take n (now moves)) ≡ true) × (n ≤ most-moves) ⌝ }
+    requires { ⌜ (0 < top) × (top ≤ length (now places)) ⌝ }
+    ensures { λ r. ⌜ _≡_ {A = Noted} (record { places = now (places .exit); top = r }) (notedBy (take n (now (moves .entry))) (changeOf w) (record { places = now (places .entry); top = top })) ⌝ }
+{
+    if w % 2 == 1 {
+        return top;
+    }
+    let at = table::place_of(moves, n, w / 2);
+    places[top - 1] = at as u16;
+    top - 1
+}
+
+// The places of all moves that the changes delete, noted at the end of the room. Answers where the first note is.
+fn note_all(changes: &[u32], count: usize, moves: &[u32], n: usize, places: &mut [u16]) -> usize
+    requires { ⌜ (ascends 0 (take n (now moves)) ≡ true) × (n ≤ most-moves) ⌝ }
+    requires { ⌜ min count (length (now changes)) ≤ length (now places) ⌝ }
+    ensures { λ r. ⌜ _≡_ {A = Noted} (record { places = now (places .exit); top = r }) (notedAll (take n (now (moves .entry))) (changesOf (take count (now (changes .entry)))) (record { places = now (places .entry); top = length (now (places .entry)) })) ⌝ }
+{
+    let mut i = table::least(count, changes.len());
+    let mut top = places.len();
+    while 0 < i {
+        i = i - 1;
+        top = note_one(rooms::word_at(changes, i), moves, n, places, top);
+    }
+    top
+}
+
+// The moves at the places from `from` on are struck.
+fn strike(moves: &mut [u32], places: &[u16], from: usize)
+    requires { ⌜ from ≤ length (now places) ⌝ }
+    ensures { λ _. ⌜ now (moves .exit) ≡ struckAt (drop from (now (places .entry))) (now (moves .entry)) ⌝ }
+{
+    let mut i = places.len();
+    while from < i {
+        i = i - 1;
+        rooms::set_word(moves, places[i] as usize, MARK);
+    }
+}
+
+// The first n words without those that are struck, closed up to the front. Answers how many stay.
+fn close_up(moves: &mut [u32], n: usize) -> usize
+    requires { ⌜ n ≤ length (now moves) ⌝ }
+    ensures { λ r. ⌜ _≡_ {A = Kept} (record { moves = now (moves .exit); count = r }) (closing n 0 0 (now (moves .entry))) ⌝ }
+{
+    let mut to: usize = 0;
+    let mut i: usize = 0;
+    while i < n {
+        let w = moves[i];
+        moves[to] = w;
+        to = to + (w != MARK) as usize;
+        i = i + 1;
+    }
+    to
+}
+
+// The places from `from` to `end` become 0.
+fn clear(moves: &mut [u32], from: usize, end: usize)
+    requires { ⌜ (from ≤ end) × (end ≤ length (now moves)) ⌝ }
+    ensures { λ _. ⌜ now (moves .exit) ≡ clearedIn from end (now (moves .entry)) ⌝ }
+{
+    let mut i = from;
+    while i < end {
+        moves[i] = 0;
+        i = i + 1;
+    }
+}
+
+// All deletes in one pass: the places of their moves are noted while the table is whole, these moves are struck, the others
+// close up, and the places that are free then become 0.
+fn delete_at_once(changes: &[u32], count: usize, moves: &mut [u32], n: usize) -> usize
+    requires { ⌜ Ready (changesOf (take count (now changes))) (record { moves = now moves; count = n }) ⌝ }
+    requires { ⌜ min count (length (now changes)) ≤ most-changes ⌝ }
+    ensures { λ r. ⌜ _≡_ {A = Kept} (record { moves = now (moves .exit); count = r }) (changedAll false (changesOf (take count (now (changes .entry)))) (record { moves = now (moves .entry); count = n })) ⌝ }
+{
+    let mut places = [0u16; 64];
+    let from = note_all(changes, count, moves, n, &mut places);
+    strike(moves, &places, from);
+    let left = close_up(moves, n);
+    clear(moves, left, n);
+    left
+}
+
+// All deletes: in one pass where there are several changes, else one by one.
+fn delete_all(changes: &[u32], count: usize, moves: &mut [u32], n: usize) -> usize
+    requires { ⌜ Ready (changesOf (take count (now changes))) (record { moves = now moves; count = n }) ⌝ }
+    ensures { λ r. ⌜ _≡_ {A = Kept} (record { moves = now (moves .exit); count = r }) (changedAll false (changesOf (take count (now (changes .entry)))) (record { moves = now (moves .entry); count = n })) ⌝ }
+{
+    let several = table::least(count, changes.len());
+    if (SEVERAL <= several) & (several <= limits::MOST_CHANGES) {
+        return delete_at_once(changes, count, moves, n);
+    }
+    change_all(changes, count, false, moves, n)
+}
+
 // The changes made in the room: the moves become old less deletes plus inserts. What comes back is their number.
 pub fn apply(changes: &[u32], count: usize, moves: &mut [u32], n: usize) -> usize
     requires { ⌜ Ready (changesOf (take count (now changes))) (record { moves = now moves; count = n }) ⌝ }
     ensures { λ r. ⌜ _≡_ {A = Kept} (record { moves = now (moves .exit); count = r }) (appliedTo (changesOf (take count (now (changes .entry)))) (record { moves = now (moves .entry); count = n })) ⌝ }
 {
-    let left = change_all(changes, count, false, moves, n);
+    let left = delete_all(changes, count, moves, n);
     change_all(changes, count, true, moves, left)
 }

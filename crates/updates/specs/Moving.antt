@@ -23,6 +23,7 @@ use Rattle.laws.specs.LiveApart.{still, still-good}
 use Rattle.laws.specs.ModelSystem.{Sound, sound}
 use Rattle.sessions.specs.CheckedMoves as Moves
 use Rattle.applies.specs.Kept.{Kept, appliedTo, Ready}
+use Rattle.applies.specs.Struck.{below-mark}
 use Rattle.applies.specs.Applied.{laid, applied-edits}
 use Rattle.calls.specs.Checks.{checkOf, checkedSays}
 use Rattle.calls.specs.Passed.{Fits, passed-work, passed-fits, passed-holds, passed-moves}
@@ -83,7 +84,13 @@ able s l b b′ p r j = let k = judge-out s (length (l .moves)) (held s l .moves
 pub able-ready : (s : Session) (l : Rooms) (cs : List Change) → Able s l cs → Ready cs (record { moves = l .moves; count = s .moves })
 able-ready s l cs a =
     let f = a .few in
-    record { start = record { fits = a .is-sane .fits .moves-room; ascend = a .is-sane .moves .ascend }; judged = a .judged; few = omega arith }
+    record {
+      start = record { fits = a .is-sane .fits .moves-room; ascend = a .is-sane .moves .ascend };
+      judged = a .judged;
+      few = omega arith;
+      most = a .is-sane .fits .moves;
+      small = below-mark (s .sizes) 0 (held s l .moves) (sane-sizes s l (a .is-sane)) (a .is-sane .moves .in-range);
+    }
 
 -- Where no number of a list is over 1, none is.
 each-small : (l : List ℕ) → all (λ v. leb v 1) l ≡ true → (p : ℕ) → getD l p 0 ≤ 1

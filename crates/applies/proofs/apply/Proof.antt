@@ -4,32 +4,31 @@ use mathlib.Core.Bool.{true}
 use lib.ListN.{take}
 use Rattle.edits.specs.Changes.{changesOf}
 use Rattle.applies.specs.Kept.{Kept, changedAll, AllOrderly}
-use Rattle.applies.specs.Orders.{ready-out, ready-in}
+use Rattle.applies.specs.Orders.{ready-in}
 use borrow.Author.Needs.{needs}
 use Rattle.applies.proofs.apply.Statement.{statement}
 use Rattle.applies.proofs.apply.Tie as tie
 
+delete-all-requires : tie.Need-delete-all-requires
+delete-all-requires c κs = search needs
+
 change-all-requires : tie.Need-change-all-requires
 change-all-requires c κs =
-    let at-start = c .before .before .before in
-    let a = at-start .args in
-    ready-out (changesOf (take (a .count) (a .changes .now))) (a .n) (a .moves .now) (at-start .pre)
-
-change-all-requires-2 : tie.Need-change-all-requires-2
-change-all-requires-2 c κs =
     let after-deletes = c .before .before .before in
     let at-start = after-deletes .before .before .before .before in
     let a = at-start .args in
     let cs = changesOf (take (a .count) (a .changes .now)) in
-    subst (AllOrderly true cs) (sym (after-deletes .change-all .ensures)) (ready-in cs (a .n) (a .moves .now) (at-start .pre))
+    subst (AllOrderly true cs) (sym (after-deletes .delete-all .ensures)) (ready-in cs (a .n) (a .moves .now) (at-start .pre))
 
 same-length : tie.Need-same-length
 same-length c = search needs
 
 returns : tie.Need-returns
 returns c =
-    let a = c .before .before .before .before .before .before .before .before .before .before .args in
-    c .before .before .change-all2 .ensures ∙ ap (λ (k : Kept). changedAll true (changesOf (take (a .count) (a .changes .now))) k) (c .before .before .before .before .before .before .change-all .ensures)
+    let after-inserts = c .before .before in
+    let after-deletes = after-inserts .before .before .before .before in
+    let a = after-deletes .before .before .before .before .args in
+    after-inserts .change-all .ensures ∙ ap (λ (k : Kept). changedAll true (changesOf (take (a .count) (a .changes .now))) k) (after-deletes .delete-all .ensures)
 
 pub apply-spec : {M : Type 1} → statement M
-apply-spec = tie.close (tie.spec change-all-requires change-all-requires-2 same-length returns)
+apply-spec = tie.close (tie.spec delete-all-requires change-all-requires same-length returns)
