@@ -23,7 +23,7 @@ going-first z s t (T.Go p n c k) b =
 
 module _ (z : Sizes) (s t : List ℕ) (p n c k : ℕ) (room : List ℕ) where
   -- A turn that follows one that goes on.
-  follows-on : (u : ChangeTurn) → Onward z s t p n k room → Turned z s p n k u → Going z s t u (putChange (T.Go p n c k) u room)
+  pub follows-on : (u : ChangeTurn) → Onward z s t p n k room → Turned z s p n k u → Going z s t u (putChange (T.Go p n c k) u room)
   follows-on (T.Stop a) g w = record { says = w .0 ∙ g .same; holds = ap (sets room n) (sym (w .1)) ∙ g .holds }
   follows-on (T.Go q m code j) g w =
       let e = w .stamped in

@@ -2,4 +2,6 @@ pub mod Reading
 pub mod Going
 pub mod TurnLaws
 pub mod GoingLaws
+pub mod Passing
+pub mod PassingLaws
 pub mod CodedBatch

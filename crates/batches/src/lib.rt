@@ -1,9 +1,14 @@
 // A batch on the wire, read and judged up to refusal 4.
 ghost use mathlib.Core.Path.{_≡_};
-ghost use Prim.Native.Nat.{_+_, _*_};
+ghost use mathlib.Core.Bool.{true};
+ghost use Prim.Native.Nat.{_+_, _*_, _≤_, _<_};
+ghost use lib.ListN.{length};
+ghost use Rattle.rules.specs.Limits.{most-changes};
 ghost use Rattle.rules.specs.Moves.{pack, wrap};
 ghost use Rattle.batches.specs.Reading.{changeTurn, endTurn, ReadInto};
-ghost use Rattle.batches.specs.Going.{placeOf, answerOf, putChange, Begins, Follows};
+ghost use Rattle.batches.specs.Going.{placeOf, answerOf, putChange, Begins, Follows, Going};
+ghost use Rattle.batches.specs.Passing.{GoodChange, withChange, changePut, ChangesPut, Within, Forwarded};
+ghost use Rattle.wire.specs.Places.{recordAt};
 use rules::Move;
 use rules::Record;
 use rules::Refusal;
@@ -21,6 +26,12 @@ pub enum ReadBatch {
 pub enum ChangeTurn {
     Stop(ReadBatch),
     Go(u32, usize, u32, usize),
+}
+
+// Where changes are read: how many so far, and where the next record stands.
+pub struct ChangeRun {
+    pub count: usize,
+    pub at: usize,
 }
 
 // A change as one number: twice the move, and 1 for an insert.
@@ -125,12 +136,77 @@ fn put_change(changes: &mut [u32], t: ChangeTurn, u: ChangeTurn)
     rooms::set_word(changes, n, code);
 }
 
-// The whole batch, read through one reader from record to record: the stamp, then the changes, put down in order.
+// Whether a good change stands next.
+fn good_change(bytes: &[u8], z: Sizes, x: ChangeRun) -> bool
+    requires { ⌜ x .at ≤ length (now bytes) ⌝ }
+    ensures { λ r. ⌜ (r ≡ true → GoodChange (now (bytes .entry)) z x) ⌝ }
+{
+    let at = x.at;
+    if bytes.len() - at < 6 {
+        return false;
+    }
+    let kind = bytes[at];
+    let m = wire::move_at(bytes, at + 1);
+    (x.count < limits::MOST_CHANGES) & ((kind == 8) | (kind == 9)) & limits::move_ok(z, m)
+}
+
+// The change that stands next, put down: past it.
+fn put_next(bytes: &[u8], changes: &mut [u32], x: ChangeRun) -> ChangeRun
+    requires { ⌜ (x .at + 6 ≤ length (now bytes)) × (x .count < most-changes) ⌝ }
+    ensures { λ r. ⌜ (r ≡ withChange x) × (now (changes .exit) ≡ changePut (now (bytes .entry)) x (now (changes .entry))) ⌝ }
+{
+    let at = x.at;
+    let n = x.count;
+    let insert = (bytes[at] == 8) as u8;
+    let m = wire::move_at(bytes, at + 1);
+    rooms::set_word(changes, n, coded(m, insert));
+    ChangeRun {
+        count: n + 1,
+        at: at + 6,
+    }
+}
+
+// All good changes that stand next, put down: past them.
+fn changes_run(bytes: &[u8], z: Sizes, changes: &mut [u32], x: ChangeRun) -> ChangeRun
+    requires { ⌜ x .at ≤ length (now bytes) ⌝ }
+    ensures { λ r. ⌜ ChangesPut (now (bytes .entry)) z x (now (changes .entry)) r (now (changes .exit)) ⌝ }
+{
+    let mut y = x;
+    while good_change(bytes, z, y) {
+        y = put_next(bytes, changes, y);
+    }
+    y
+}
+
+// A turn, moved on past the good changes that stand next, which are put down: as many turns at once.
+fn forward(bytes: &[u8], z: Sizes, changes: &mut [u32], t: ChangeTurn) -> ChangeTurn
+    requires { ⌜ Within (now bytes) t ⌝ }
+    ensures { λ r. ⌜ Forwarded z (now (bytes .entry)) t (now (changes .entry)) r (now (changes .exit)) ⌝ }
+{
+    let ChangeTurn::Go(stamp, n, code, at) = t else {
+        return t;
+    };
+    let start = ChangeRun { count: n, at: at };
+    let run = changes_run(bytes, z, changes, start);
+    ChangeTurn::Go(stamp, run.count, code, run.at)
+}
+
+// The first turn, from what was read at the front of the bytes, moved on past the good changes after the stamp.
+fn begin(bytes: &[u8], z: Sizes, changes: &mut [u32], read: Read) -> ChangeTurn
+    requires { ⌜ read ≡ recordAt (now bytes) 0 ⌝ }
+    ensures { λ r. ⌜ Going z (now (bytes .entry)) (now (changes .entry)) r (now (changes .exit)) ⌝ }
+{
+    let first = first_turn(read);
+    forward(bytes, z, changes, first)
+}
+
+// The whole batch, read through one reader: the stamp and the good changes after it, put down in order, then what follows them
+// from record to record.
 pub fn read_batch(bytes: &[u8], z: Sizes, changes: &mut [u32]) -> ReadBatch
     ensures { λ r. ⌜ ReadInto z (now (bytes .entry)) (now (changes .entry)) r (now (changes .exit)) ⌝ }
 {
     let mut r = wire::reader_at(bytes, 0);
-    let mut t = first_turn(wire::next(r));
+    let mut t = begin(bytes, z, changes, wire::next(r));
     loop {
         let at = place_of(t);
         if at == 0 {
