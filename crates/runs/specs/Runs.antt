@@ -1,16 +1,17 @@
--- Labels and moves that stand one after another in some bytes. Definitions only.
+-- Labels, equations and moves that stand one after another in some bytes. Definitions only.
 use mathlib.Core.Path.{_≡_}
 use mathlib.Core.Bool.{true}
 use mathlib.Core.List.{List}
-use Prim.Native.Nat.{ℕ, suc, _+_, _≤_, _<_}
+use Prim.Native.Nat.{ℕ, suc, _+_, _-_, _≤_, _<_}
 use lib.ListN.{length, getD}
 use Rattle.rules.specs.Load.{movingWith}
-use Rattle.rules.specs.Model.{labelOk, moveOk}
+use Rattle.rules.specs.Model.{labelOk, operandsOk, namesOk, moveOk}
 use Rattle.rules.specs.Moves.{pack}
 use Rattle.rules.specs.declared.Move.{Move}
 use Rattle.rules.specs.declared.Sizes.{Sizes}
 use Rattle.wire.specs.Places.{le16, le32, moveAt}
 use Rattle.runs.specs.declared.LabelRun.{LabelRun}
+use Rattle.runs.specs.declared.EquationRun.{EquationRun}
 use Rattle.runs.specs.declared.MoveRun.{MoveRun}
 
 -- The number of a move.
@@ -34,6 +35,23 @@ withLabel s x = record { labels = suc (le16 s (x .at + 1)); at = x .at + 7 }
 pub data Labelled (s : List ℕ) (z : Sizes) (x : LabelRun) : LabelRun → Type 0 where
   none : Labelled s z x x
   more : (y : LabelRun) → Labelled s z x y → GoodLabel s z y → Labelled s z x (withLabel s y)
+
+-- An equation is due and a good one stands next: whole, in range, and it names no variable from `end` on.
+pub record GoodEquation (s : List ℕ) (z : Sizes) (end : ℕ) (x : EquationRun) : Type 0 where
+  pub due : 0 < x .due
+  pub inside-bytes : x .at + 4 ≤ length s
+  pub kind : getD s (x .at) 0 ≡ 4
+  pub fits : operandsOk z (getD s (x .at + 1) 0) (getD s (x .at + 2) 0) (getD s (x .at + 3) 0) ≡ true
+  pub names : namesOk end (getD s (x .at + 1) 0) (getD s (x .at + 2) 0) (getD s (x .at + 3) 0) ≡ true
+
+-- Past it.
+abbrev pub withEquation : EquationRun → EquationRun
+withEquation x = record { due = x .due - 1; at = x .at + 4 }
+
+-- From one place to another there are good equations of a block that ends before the variable `end`, and nothing else.
+pub data Equated (s : List ℕ) (z : Sizes) (end : ℕ) (x : EquationRun) : EquationRun → Type 0 where
+  none : Equated s z end x x
+  more : (y : EquationRun) → Equated s z end x y → GoodEquation s z end y → Equated s z end x (withEquation y)
 
 -- A good move stands next: whole, in range, and in order.
 pub record GoodMove (s : List ℕ) (z : Sizes) (x : MoveRun) : Type 0 where

@@ -1,16 +1,22 @@
-// Labels and moves that stand one after another in the bytes of a model, each whole, in range and in order: read in one go, as
-// far as they go. What stands after them is nobody's here.
+// Labels, equations of a block and moves that stand one after another in the bytes of a model, each whole, in range and in
+// order: read in one go, as far as they go. What stands after them is nobody's here.
 ghost use mathlib.Core.Path.{_≡_};
 ghost use mathlib.Core.Bool.{true};
-ghost use Prim.Native.Nat.{ℕ, _+_, _*_, _≤_, _<_};
+ghost use Prim.Native.Nat.{ℕ, _+_, _*_, _^_, _≤_, _<_};
 ghost use lib.ListN.{length};
-ghost use Rattle.runs.specs.Runs.{GoodLabel, GoodMove, withLabel, withMove, Labelled, Moved};
+ghost use Rattle.runs.specs.Runs.{GoodLabel, GoodEquation, GoodMove, withLabel, withEquation, withMove, Labelled, Equated, Moved};
 use rules::Sizes;
 use rules::State;
 
 // Where labels are read: they have passed the states below `labels`, and the next record stands at a place.
 pub struct LabelRun {
     pub labels: u32,
+    pub at: usize,
+}
+
+// Where equations of a block are read: how many are due, and where the next record stands.
+pub struct EquationRun {
+    pub due: u32,
     pub at: usize,
 }
 
@@ -64,6 +70,45 @@ pub fn labels_run(bytes: &[u8], z: Sizes, x: LabelRun) -> LabelRun
     let mut y = x;
     while good_label(bytes, z, y) {
         y = with_label(bytes, y);
+    }
+    y
+}
+
+// Whether an equation is due and a good one stands next, in a block before the variable `end`.
+pub fn good_equation(bytes: &[u8], z: Sizes, end: usize, x: EquationRun) -> bool
+    requires { ⌜ x .at ≤ length (now bytes) ⌝ }
+    ensures { λ r. ⌜ (r ≡ true → GoodEquation (now (bytes .entry)) z end x) ⌝ }
+{
+    let at = x.at;
+    if (x.due == 0) | (bytes.len() - at < 4) {
+        return false;
+    }
+    let o = bytes[at + 1];
+    let a = bytes[at + 2];
+    let b = bytes[at + 3];
+    (bytes[at] == 4) & limits::operands_ok(z, o, a, b) & limits::names_ok(end, o, a, b)
+}
+
+// Past the equation that stands next.
+pub fn with_equation(x: EquationRun) -> EquationRun
+    requires { ⌜ (0 < x .due) × (x .at + 4 < 2 ^ 64) ⌝ }
+    ensures { λ r. ⌜ r ≡ withEquation x ⌝ }
+{
+    let due = x.due - 1;
+    EquationRun {
+        due: due,
+        at: x.at + 4,
+    }
+}
+
+// Past all good equations of the block that stand next.
+pub fn equations_run(bytes: &[u8], z: Sizes, end: usize, x: EquationRun) -> EquationRun
+    requires { ⌜ x .at ≤ length (now bytes) ⌝ }
+    ensures { λ r. ⌜ Equated (now (bytes .entry)) z end x r ⌝ }
+{
+    let mut y = x;
+    while good_equation(bytes, z, end, y) {
+        y = with_equation(y);
     }
     y
 }
