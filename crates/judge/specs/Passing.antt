@@ -1,12 +1,13 @@
 -- Several records passed in one go, each as by a turn of its own. Definitions only.
 use mathlib.Core.Path.{_≡_}
 use mathlib.Core.List.{List}
-use Prim.Native.Nat.{ℕ}
+use Prim.Native.Nat.{ℕ, _+_, _-_}
 use Rattle.rules.specs.Load.{inside}
 use Rattle.rules.specs.Records.{numbersOf}
 use Rattle.rules.specs.Rooms.{Lengths}
 use Rattle.rules.specs.declared.Record.{Record}
 use Rattle.runs.specs.declared.LabelRun.{LabelRun}
+use Rattle.runs.specs.declared.EquationRun.{EquationRun}
 use Rattle.runs.specs.declared.MoveRun.{MoveRun}
 use Rattle.judge.specs.Progress.{sofarOf}
 use Rattle.judge.specs.Turning.{Goes}
@@ -24,12 +25,29 @@ abbrev pub Forwarded : Lengths → List ℕ → OneTurn → OneTurn → Type 0
 Forwarded l s (T.Stop a) u = u ≡ T.Stop a
 Forwarded l s (T.Go r x n) u = (y : Progress) × (k : ℕ) × (u ≡ T.Go r y k) × Passed l s x n y k
 
--- Where labels and moves are read, of what has been read so far; and what has been read with them.
+-- The first variable after the block.
+abbrev pub blockEnd : Progress → ℕ
+blockEnd x = x .blocks .equations + x .blocks .due
+
+-- Where labels, equations and moves are read, of what has been read so far; and what has been read with them.
 abbrev pub labelRun : Progress → ℕ → LabelRun
 labelRun x n = record { labels = x .labels; at = n }
 
 abbrev pub withLabels : Progress → LabelRun → Progress
 withLabels x y = record { sizes = x .sizes; live = x .live; labels = y .labels; blocks = x .blocks; moves = x .moves }
+
+abbrev pub equationRun : Progress → ℕ → EquationRun
+equationRun x n = record { due = x .blocks .due; at = n }
+
+abbrev pub withEquations : Progress → EquationRun → Progress
+withEquations x y =
+    record {
+      sizes = x .sizes;
+      live = x .live;
+      labels = x .labels;
+      blocks = record { count = x .blocks .count; kind = x .blocks .kind; due = y .due; equations = blockEnd x - y .due };
+      moves = x .moves;
+    }
 
 abbrev pub moveRun : Progress → ℕ → MoveRun
 moveRun x n = record { count = x .moves .count; least = x .moves .least; moving = x .moves .moving; at = n }

@@ -16,7 +16,7 @@ ghost use Rattle.judge.specs.Plain.{plain, without};
 ghost use Rattle.judge.specs.Turning.{readSays, summary, endTurn};
 ghost use Rattle.judge.specs.Asking.{signAt, Spelled, answeredTurn, askedTurn, Askable, Ready, Asked};
 ghost use Rattle.judge.specs.SignsRead.{Words};
-ghost use Rattle.judge.specs.Passing.{Forwarded};
+ghost use Rattle.judge.specs.Passing.{Forwarded, withEquations};
 ghost use Rattle.judge.specs.Going.{placeOf, answerOf, KeptTurn, Begins, Follows, Inside, InsideTurn};
 ghost use Rattle.judge.specs.declared.OneTurn.the-variants.{Go};
 use limits::Lent;
@@ -25,6 +25,7 @@ use rules::Record;
 use rules::Refusal;
 use rules::Sizes;
 use rules::State;
+use runs::EquationRun;
 use runs::LabelRun;
 use runs::MoveRun;
 use wire::Read;
@@ -526,7 +527,51 @@ pub fn moves_due(x: Progress) -> bool
         & (x.blocks.equations == x.sizes.variables as u32)
 }
 
-// A turn, moved on past the good labels or the good moves that stand next: as many turns at once.
+// What has been read with a run of equations of the block.
+pub fn with_equations(x: Progress, run: EquationRun) -> Progress
+    requires { ⌜ Kept (sofarOf x) × (run .due ≤ x .blocks .due) ⌝ }
+    ensures { λ r. ⌜ r ≡ withEquations x run ⌝ }
+{
+    let z = x.sizes;
+    let blocks = x.blocks;
+    let moves = x.moves;
+    let due = run.due;
+    let equations = blocks.equations + blocks.due - due;
+    Progress {
+        sizes: z,
+        live: x.live,
+        labels: x.labels,
+        blocks: BlocksRead {
+            count: blocks.count,
+            kind: blocks.kind,
+            due: due,
+            equations: equations,
+        },
+        moves: moves,
+    }
+}
+
+// Inside a block: past all good equations of it that stand next, and after the last equation of all past the good moves.
+fn past_equations(bytes: &[u8], l: Lent, rec: Record, x: Progress, at: usize) -> OneTurn
+    requires { ⌜ Inside (now bytes) x at ⌝ }
+    ensures { λ r. ⌜ Forwarded (lengthsBy l) (now (bytes .entry)) (Go rec x at) r ⌝ }
+{
+    let z = x.sizes;
+    let blocks = x.blocks;
+    let start = EquationRun {
+        due: blocks.due,
+        at: at,
+    };
+    let end = blocks.equations + blocks.due;
+    let run = runs::equations_run(bytes, z, end as usize, start);
+    let y = with_equations(x, run);
+    if moves_due(y) {
+        return past_moves(bytes, l, rec, y, run.at);
+    }
+    OneTurn::Go(rec, y, run.at)
+}
+
+// A turn, moved on past the good labels, equations of a block or moves that stand next: as many turns at once.
 fn forward(bytes: &[u8], l: Lent, t: OneTurn) -> OneTurn
     requires { ⌜ InsideTurn (now bytes) t ⌝ }
     ensures { λ r. ⌜ Forwarded (lengthsBy l) (now (bytes .entry)) t r ⌝ }
@@ -537,14 +582,17 @@ fn forward(bytes: &[u8], l: Lent, t: OneTurn) -> OneTurn
     if (x.blocks.count == 0) & (x.blocks.equations == 0) {
         return past_labels(bytes, rec, x, at);
     }
+    if 0 < x.blocks.due {
+        return past_equations(bytes, l, rec, x, at);
+    }
     if moves_due(x) {
         return past_moves(bytes, l, rec, x, at);
     }
     t
 }
 
-// What was read at the place of the turn before, judged, and its question: the turn after it, moved on past the labels or moves
-// that follow and are good.
+// What was read at the place of the turn before, judged, and its question: the turn after it, moved on past the labels,
+// equations or moves that follow and are good.
 fn judge_turn(read: Read, l: Lent, t: OneTurn, bytes: &[u8]) -> OneTurn
     requires { ⌜ Ready (now bytes) read t ⌝ }
     ensures { λ r. ⌜ Asked (lengthsBy l) (now (bytes .entry)) t r ⌝ }

@@ -24,20 +24,28 @@ returns-2 : tie.Need-returns-2
 returns-2 c = let at-t = c .before .before .before .before .before in
     rw (at-t .t .given .1) (c .past-labels .ensures _)
 
+past-equations-requires : tie.Need-past-equations-requires
+past-equations-requires c κs = let at-t = c .before .before .before .before .before .before in
+    rw (at-t .t .given .1) at (at-t .before .before .before .pre)
+
+returns-3 : tie.Need-returns-3
+returns-3 c = let at-t = c .before .before .before .before .before .before .before in
+    rw (at-t .t .given .1) (c .past-equations .ensures)
+
 moves-due-requires : tie.Need-moves-due-requires
 moves-due-requires c κs = search needs
 
 past-moves-requires : tie.Need-past-moves-requires
 past-moves-requires c κs = let at-due = c .before in
-    let at-t = at-due .before .before .before .before .before in
-    (rw (at-t .t .given .1) at (at-t .before .before .before .pre), sym (at-due .moves-due .ensures) ∙ c .if2 .taken)
-
-returns-3 : tie.Need-returns-3
-returns-3 c = let at-t = c .before .before .before .before .before .before .before in
-    rw (at-t .t .given .1) (c .past-moves .ensures)
+    let at-t = at-due .before .before .before .before .before .before .before in
+    (rw (at-t .t .given .1) at (at-t .before .before .before .pre), sym (at-due .moves-due .ensures) ∙ c .if3 .taken)
 
 returns-4 : tie.Need-returns-4
-returns-4 c = let at-t = c .before .before .before .before .before .before in
+returns-4 c = let at-t = c .before .before .before .before .before .before .before .before .before in
+    rw (at-t .t .given .1) (c .past-moves .ensures)
+
+returns-5 : tie.Need-returns-5
+returns-5 c = let at-t = c .before .before .before .before .before .before .before .before in
     rw (at-t .t .given .1) (_, _, refl, here)
 
 pub forward-spec : {M : Type 1} → statement M
@@ -49,7 +57,9 @@ forward-spec =
     returns
     past-labels-requires
     returns-2
+    past-equations-requires
+    returns-3
     moves-due-requires
     past-moves-requires
-    returns-3
-    returns-4)
+    returns-4
+    returns-5)
