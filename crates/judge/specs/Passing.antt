@@ -2,10 +2,12 @@
 use mathlib.Core.Path.{_≡_}
 use mathlib.Core.List.{List}
 use Prim.Native.Nat.{ℕ, _+_, _-_}
+use lib.ListN.{getD}
 use Rattle.rules.specs.Load.{inside}
 use Rattle.rules.specs.Records.{numbersOf}
 use Rattle.rules.specs.Rooms.{Lengths}
 use Rattle.rules.specs.declared.Record.{Record}
+use Rattle.rules.specs.declared.Record.the-variants as R
 use Rattle.runs.specs.declared.LabelRun.{LabelRun}
 use Rattle.runs.specs.declared.EquationRun.{EquationRun}
 use Rattle.runs.specs.declared.MoveRun.{MoveRun}
@@ -24,6 +26,10 @@ pub data Passed (l : Lengths) (s : List ℕ) (x : Progress) (n : ℕ) : Progress
 abbrev pub Forwarded : Lengths → List ℕ → OneTurn → OneTurn → Type 0
 Forwarded l s (T.Stop a) u = u ≡ T.Stop a
 Forwarded l s (T.Go r x n) u = (y : Progress) × (k : ℕ) × (u ≡ T.Go r y k) × Passed l s x n y k
+
+-- The record of an equation that stands at a place.
+abbrev pub equationAt : List ℕ → ℕ → Record
+equationAt s n = R.Equation (getD s (n + 1) 0) (getD s (n + 2) 0) (getD s (n + 3) 0)
 
 -- The first variable after the block.
 abbrev pub blockEnd : Progress → ℕ

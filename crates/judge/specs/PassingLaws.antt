@@ -24,7 +24,7 @@ use Rattle.runs.specs.declared.MoveRun.{MoveRun}
 use Rattle.judge.specs.Demands.{meets, source-back}
 use Rattle.judge.specs.Due.{label-due, equation-due}
 use Rattle.judge.specs.Going.{Inside}
-use Rattle.judge.specs.Passing.{Passed, here, on, Forwarded, labelRun, withLabels, blockEnd, equationRun, withEquations, moveRun, withMoves}
+use Rattle.judge.specs.Passing.{Passed, here, on, Forwarded, labelRun, withLabels, blockEnd, equationAt, equationRun, withEquations, moveRun, withMoves}
 use Rattle.judge.specs.Plain.{plain}
 use Rattle.judge.specs.Progress.{sofarOf, Kept}
 use Rattle.judge.specs.TurnLaws.{step-kept, turned-next}
@@ -32,10 +32,6 @@ use Rattle.judge.specs.Turning.{Goes}
 use Rattle.judge.specs.declared.Progress.{Progress}
 use Rattle.judge.specs.declared.OneTurn.{OneTurn}
 use Rattle.judge.specs.declared.OneTurn.the-variants as T
-
--- The record of an equation that stands at a place.
-abbrev pub equationAt : List ℕ → ℕ → Record
-equationAt s n = R.Equation (getD s (n + 1) 0) (getD s (n + 2) 0) (getD s (n + 3) 0)
 
 -- The record of a good label, of a good equation, and of a good move.
 label-stands : (s : List ℕ) (n : ℕ) → n + 7 ≤ length s → getD s n 0 ≡ 2 → recordAt s n ≡ Got (R.Label (record { 0 = le16 s (n + 1) }) (le32 s (n + 3))) (n + 7)
@@ -98,6 +94,7 @@ equated-on : (s : List ℕ) (x : Progress) (n : ℕ) (y : EquationRun) → Equat
 equated-on s x n y Run.none h = (omega arith, omega arith, h)
 equated-on s x n y (Run.more z p g) h = let a = equated-on s x n z p h in let b = g .inside-bytes in (omega arith, omega arith, b)
 
+-- After good equations the reading stands between two turns, as it did before them.
 pub equations-inside : (s : List ℕ) (x : Progress) (n : ℕ) (y : EquationRun) → Inside s x n → Equated s (x .sizes) (blockEnd x) (equationRun x n) y → (y .due ≤ x .blocks .due) × (n ≤ y .at) × Inside s (withEquations x y) (y .at)
 equations-inside s x n y i p =
     let a = equated-on s x n y p (i .inside-bytes) in
@@ -165,10 +162,11 @@ moves-passed l s x n y k due (Run.more z h room g) =
     let w = move-goes l s (withMoves x z) (z .at) (p .0) due room g in
     (w .kept, on (withMoves x z) (withMoves x (withMove s z)) (z .at) (z .at + 6) (R.Move (moveAt s (z .at + 1))) (p .1) (λ e. omega arith) w)
 
--- What is passed from where others were passed is passed with them, and a turn moved on from there is moved on past both.
+-- Records passed after others are passed with them.
 passed-more : (l : Lengths) (s : List ℕ) (x y z : Progress) (n k j : ℕ) → Passed l s x n y k → Passed l s y k z j → Passed l s x n z j
 passed-more l s x y z n k j p here = p
 passed-more l s x y z n k j p (on v w i m r q f g) = on v w i m r (passed-more l s x y v n k i p q) f g
 
+-- A turn moved on from where records were passed is moved on past both.
 pub forwarded-more : (l : Lengths) (s : List ℕ) (r : Record) (x y : Progress) (n k : ℕ) (u : OneTurn) → Passed l s x n y k → Forwarded l s (T.Go r y k) u → Forwarded l s (T.Go r x n) u
 forwarded-more l s r x y n k u p f = (f .0, f .1, f .2, passed-more l s x y (f .0) n k (f .1) p (f .3))

@@ -1,4 +1,5 @@
--- Labels and moves stored in one go: each label as by a turn of its own, and all moves up to the end. Assumes nothing.
+-- Labels, equations and moves stored in one go: each label and each equation of a block as by a turn of its own, and all moves
+-- up to the end. Assumes nothing.
 use mathlib.Core.Path.{_≡_, refl, sym, ap, _∙_}
 use mathlib.Core.Logic.{inl, inr}
 use mathlib.Core.Bool.{true}
@@ -23,13 +24,15 @@ use Rattle.wire.specs.PartsAt.{partsAt, PartsBy, parts-at, read-there}
 use Rattle.wire.specs.Places.{le16, le32, moveAt, bodyLen, recordOf, recordAt}
 use Rattle.wire.specs.declared.Read.{Read}
 use Rattle.wire.specs.declared.Read.the-variants.{Got, Broken}
-use Rattle.runs.specs.Runs.{packed, GoodLabel, withLabel}
+use Rattle.runs.specs.Runs.{packed, GoodLabel, withLabel, withEquation, Equated}
+use Rattle.runs.specs.Runs as Run
 use Rattle.runs.specs.declared.LabelRun.{LabelRun}
+use Rattle.runs.specs.declared.EquationRun.{EquationRun}
 use Rattle.judge.specs.Due.{all-read}
 use Rattle.judge.specs.Going.{Inside, placeOf, InsideTurn, Follows, left}
 use Rattle.judge.specs.GoingLaws.{turned-inside}
-use Rattle.judge.specs.Passing.{labelRun, withLabels}
-use Rattle.judge.specs.PassingLaws.{label-goes}
+use Rattle.judge.specs.Passing.{labelRun, withLabels, blockEnd, equationAt, equationRun, withEquations}
+use Rattle.judge.specs.PassingLaws.{label-goes, equations-inside, equation-goes}
 use Rattle.judge.specs.Plain.{plain, readPlain}
 use Rattle.judge.specs.Progress.{sofarOf, Kept}
 use Rattle.judge.specs.TurnLaws.{Stepped, label, block, equation, move, end, lives, sign, refusal, stepped, step-kept}
@@ -39,7 +42,7 @@ use Rattle.judge.specs.declared.OneTurn.{OneTurn}
 use Rattle.judge.specs.declared.OneTurn.the-variants as T
 use Rattle.judge.specs.declared.ReadModel.{ReadModel}
 use Rattle.store.specs.StoreLaws.{here-goes, storing-next}
-use Rattle.store.specs.Stored.{Stored, three, putRooms, putTurn, laid, Here, Holds, Storing, StoresAt, Stores, RunStored, labelPut, LabelsPut, movesFrom}
+use Rattle.store.specs.Stored.{Stored, three, putRooms, putTurn, laid, Here, Holds, Storing, StoresAt, Stores, RunStored, labelPut, LabelsPut, EquationsPut, movesFrom}
 use Rattle.store.specs.Stored as Put
 
 -- One more move of a list of them, and none.
@@ -74,12 +77,39 @@ labels-here l s t₀ x n ls es ms y ks i due (Put.more z js p g) h =
     let o = a .1 in
     (record { kept = b .0; begun = omega arith; inside-bytes = g .inside-bytes }, omega arith, b .1)
 
-pub labels-stored : (s : List ℕ) (r : Record) (x : Progress) (n : ℕ) (ls ms : List ℕ) (y : LabelRun) (ks : List ℕ) → Inside s x n → (x .blocks .count ≡ 0) × (x .blocks .equations ≡ 0)
-    → LabelsPut s (x .sizes) (labelRun x n) ls y ks → RunStored s (T.Go r x n) ls ms (T.Go r (withLabels x y) (y .at)) ks ms
-labels-stored s r x n ls ms y ks i due p l t₀ es g =
+pub labels-stored : (s : List ℕ) (r : Record) (x : Progress) (n : ℕ) (ls es ms : List ℕ) (y : LabelRun) (ks : List ℕ) → Inside s x n → (x .blocks .count ≡ 0) × (x .blocks .equations ≡ 0)
+    → LabelsPut s (x .sizes) (labelRun x n) ls y ks → RunStored s (T.Go r x n) (three ls es ms) (T.Go r (withLabels x y) (y .at)) (three ks es ms)
+labels-stored s r x n ls es ms y ks i due p l t₀ g =
     let a = labels-here l s t₀ x n ls es ms y ks i due p (g .holds) in
     let o = a .1 in
     (record { going = a .0; holds = a .2 }, omega arith)
+
+-- Equations that are put are good.
+put-equated : (s : List ℕ) (x : Progress) (n : ℕ) (es : List ℕ) (y : EquationRun) (fs : List ℕ) → EquationsPut s x n es y fs → Equated s (x .sizes) (blockEnd x) (equationRun x n) y
+put-equated s x n es y fs Put.none = Run.none
+put-equated s x n es y fs (Put.more z gs p g) = Run.more z (put-equated s x n es z gs p) g
+
+-- After them the reading stands between two turns.
+pub put-inside : (s : List ℕ) (x : Progress) (n : ℕ) (es : List ℕ) (y : EquationRun) (fs : List ℕ) → Inside s x n → EquationsPut s x n es y fs → (y .due ≤ x .blocks .due) × (n ≤ y .at) × Inside s (withEquations x y) (y .at)
+put-inside s x n es y fs i p = equations-inside s x n y i (put-equated s x n es y fs p)
+
+-- All good equations of a block.
+equations-here : (l : Lengths) (s : List ℕ) (t₀ : Stored) (x : Progress) (n : ℕ) (ls es ms : List ℕ) (y : EquationRun) (fs : List ℕ) → Inside s x n → EquationsPut s x n es y fs
+    → Here l s t₀ (sofarOf x) n (three ls es ms) → Here l s t₀ (sofarOf (withEquations x y)) (y .at) (three ls fs ms)
+unfolding putRooms
+equations-here l s t₀ x n ls es ms y fs i Put.none h = let e : blockEnd x - x .blocks .due ≡ x .blocks .equations = omega arith in rw e h
+equations-here l s t₀ x n ls es ms y fs i (Put.more z gs p g) h =
+    let a = put-inside s x n es z gs i p in
+    here-goes l s t₀ (withEquations x z) (withEquations x (withEquation z)) (z .at) (z .at + 4) (equationAt s (z .at)) (three ls gs ms)
+    (equations-here l s t₀ x n ls es ms z gs i p h) (a .2 .kept) (equation-goes l s x z (i .kept) (a .0) g)
+
+-- Stored in one go, they move the turn on.
+pub equations-stored : (s : List ℕ) (r : Record) (x : Progress) (n : ℕ) (ls es ms : List ℕ) (y : EquationRun) (fs : List ℕ) → Inside s x n → EquationsPut s x n es y fs
+    → RunStored s (T.Go r x n) (three ls es ms) (T.Go r (withEquations x y) (y .at)) (three ls fs ms)
+equations-stored s r x n ls es ms y fs i p l t₀ g =
+    let a = put-inside s x n es y fs i p in
+    let o = a .1 in
+    (record { going = a .2; holds = equations-here l s t₀ x n ls es ms y fs i p (g .holds) }, omega arith)
 
 -- A model of moves and nothing else.
 abbrev movesOnly : Sofar → List ℕ → Model
@@ -154,10 +184,10 @@ module _ (l : Lengths) (s : List ℕ) where
   rest-is (suc f) x p n kept due h e = rest-read f (rest-is f) x p n (recordAt s p) kept due h refl (parts-at s p) e
 
 -- All moves, stored in one go: the reading is over.
-pub moves-stored : (s : List ℕ) (r : Record) (x : Progress) (n : ℕ) (ls ms : List ℕ) (a : ReadModel) → Inside s x n → movesDue (sofarOf x) ≡ true
-    → RunStored s (T.Go r x n) ls ms (T.Stop a) ls (sets ms (x .moves .count) (movesFrom s n ((length s - n) / 6)))
+pub moves-stored : (s : List ℕ) (r : Record) (x : Progress) (n : ℕ) (ls es ms : List ℕ) (a : ReadModel) → Inside s x n → movesDue (sofarOf x) ≡ true
+    → RunStored s (T.Go r x n) (three ls es ms) (T.Stop a) (three ls es (sets ms (x .moves .count) (movesFrom s n ((length s - n) / 6))))
 unfolding laid
-moves-stored s r x n ls ms a i due l t₀ es g = (
+moves-stored s r x n ls es ms a i due l t₀ g = (
   record {
     going = tt;
     holds = λ m w.
@@ -169,19 +199,28 @@ moves-stored s r x n ls ms a i due l t₀ es g = (
 )
 
 -- Nothing, stored.
-pub none-stored : (s : List ℕ) (u : OneTurn) (ls ms : List ℕ) → RunStored s u ls ms u ls ms
-none-stored s u ls ms l t₀ es g = (g, omega arith)
+pub none-stored : (s : List ℕ) (u : OneTurn) (h : Stored) → RunStored s u h u h
+none-stored s u h l t₀ g = (g, omega arith)
+
+-- One run after another.
+pub stored-more : (s : List ℕ) (u v w : OneTurn) (h k m : Stored) → RunStored s u h v k → RunStored s v k w m → RunStored s u h w m
+stored-more s u v w h k m f e l t₀ g =
+    let a = f l t₀ g in
+    let b = e l t₀ (a .0) in
+    let p = a .1 in
+    let q = b .1 in
+    (b .0, omega arith)
 
 -- A turn, and what is stored after it.
 pub follows-inside : (l : Lengths) (s : List ℕ) (read : Read) (t u : OneTurn) → StoresAt s read t → Follows l read t (length s) u → InsideTurn s u
 follows-inside l s read (T.Stop a) u d f = rw f tt
 follows-inside l s read (T.Go r x n) u d f = turned-inside l s (inside (sofarOf x)) n u (f s (d .1) refl)
 
-pub stores-turn : (l : Lengths) (s : List ℕ) (read : Read) (t u v : OneTurn) (h : Stored) (ls es ms ls′ ms′ : List ℕ) → StoresAt s read t → Follows l read t (length s) u → three ls es ms ≡ putTurn t u h
-    → RunStored s u ls ms v ls′ ms′ → Stores l s t h v (three ls′ es ms′)
-stores-turn l s read t u v h ls es ms ls′ ms′ d f e r t₀ g nz =
+pub stores-turn : (l : Lengths) (s : List ℕ) (read : Read) (t u v : OneTurn) (h k m : Stored) → StoresAt s read t → Follows l read t (length s) u → k ≡ putTurn t u h
+    → RunStored s u k v m → Stores l s t h v m
+stores-turn l s read t u v h k m d f e r t₀ g nz =
     let a = storing-next l s t₀ t u h read g nz (d .1) f in
-    let b = r l t₀ es (rw (← e) at (a .0)) in
+    let b = r l t₀ (rw (← e) at (a .0)) in
     let p = a .1 in
     let q = b .1 in
     (b .0, omega arith)

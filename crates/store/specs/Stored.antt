@@ -3,19 +3,22 @@ use mathlib.Core.Path.{_≡_}
 use mathlib.Core.Bool.{cond}
 use mathlib.Core.List.{List, [], _∷_, map}
 use Prim.Native.Nat.{ℕ, zero, suc, _+_, _-_, _≤_, _<_}
-use lib.ListN.{length, set, replicate}
+use lib.ListN.{length, getD, set, replicate}
 use lib.Seq.{sets}
 use Rattle.lists.specs.Lists.{fill}
 use Rattle.rules.specs.Load.{Sofar, inside, started, equationOf, signedOf, readModel}
 use Rattle.rules.specs.Rooms.{Lengths}
 use Rattle.wire.specs.Places.{le16, le32, moveAt, recordAt}
 use Rattle.wire.specs.declared.Read.{Read}
-use Rattle.runs.specs.Runs.{packed, GoodLabel, withLabel}
+use Rattle.runs.specs.Runs.{packed, GoodLabel, withLabel, GoodEquation, withEquation}
 use Rattle.runs.specs.declared.LabelRun.{LabelRun}
+use Rattle.runs.specs.declared.EquationRun.{EquationRun}
 use Rattle.judge.specs.Going.{placeOf, InsideTurn, left}
+use Rattle.judge.specs.Passing.{blockEnd, equationRun}
 use Rattle.judge.specs.Plain.{readPlain}
 use Rattle.judge.specs.Progress.{sofarOf}
 use Rattle.judge.specs.Turning.{readOn, readSays, summary}
+use Rattle.judge.specs.declared.Progress.{Progress}
 use Rattle.judge.specs.declared.OneTurn.{OneTurn}
 use Rattle.judge.specs.declared.OneTurn.the-variants as T
 use Rattle.judge.specs.declared.ReadModel.{ReadModel}
@@ -125,10 +128,9 @@ StoresAt s read t = InsideTurn s t × (read ≡ recordAt s (placeOf t))
 abbrev pub Stores : Lengths → List ℕ → OneTurn → Stored → OneTurn → Stored → Type 0
 Stores l s t h u k = (t₀ : Stored) → Storing l s t₀ t h → (placeOf t ≡ 0 → ⊥) → Storing l s t₀ u k × (left s u < left s t)
 
--- What is stored beside the turns: from a turn, and rooms for labels and moves, to another turn and other rooms.
-abbrev pub RunStored : List ℕ → OneTurn → List ℕ → List ℕ → OneTurn → List ℕ → List ℕ → Type 0
-RunStored s u ls ms v ls′ ms′ =
-    (l : Lengths) (t₀ : Stored) (es : List ℕ) → Storing l s t₀ u (three ls es ms) → Storing l s t₀ v (three ls′ es ms′) × (left s v ≤ left s u)
+-- What is stored beside the turns: from a turn and rooms to another turn and other rooms, no further from the end.
+abbrev pub RunStored : List ℕ → OneTurn → Stored → OneTurn → Stored → Type 0
+RunStored s u h v k = (l : Lengths) (t₀ : Stored) → Storing l s t₀ u h → Storing l s t₀ v k × (left s v ≤ left s u)
 
 -- The label that stands next, after zeros for the states before it that have none.
 abbrev pub labelPut : List ℕ → LabelRun → List ℕ → List ℕ
@@ -138,6 +140,15 @@ labelPut s x ls = set (sets ls (x .labels) (replicate (le16 s (x .at + 1) - x .l
 pub data LabelsPut (s : List ℕ) (z : Sizes) (x : LabelRun) (ls : List ℕ) : LabelRun → List ℕ → Type 0 where
   none : LabelsPut s z x ls x ls
   more : (y : LabelRun) (ms : List ℕ) → LabelsPut s z x ls y ms → GoodLabel s z y → LabelsPut s z x ls (withLabel s y) (labelPut s y ms)
+
+-- The equation of the block that stands next.
+abbrev pub equationPut : List ℕ → Progress → EquationRun → List ℕ → List ℕ
+equationPut s x y es = set es (blockEnd x - y .due) (word (equationOf (sofarOf x) (getD s (y .at + 1) 0) (getD s (y .at + 2) 0) (getD s (y .at + 3) 0)))
+
+-- From one place to another there are good equations of the block and nothing else, and each is put into the room.
+pub data EquationsPut (s : List ℕ) (x : Progress) (n : ℕ) (es : List ℕ) : EquationRun → List ℕ → Type 0 where
+  none : EquationsPut s x n es (equationRun x n) es
+  more : (y : EquationRun) (fs : List ℕ) → EquationsPut s x n es y fs → GoodEquation s (x .sizes) (blockEnd x) y → EquationsPut s x n es (withEquation y) (equationPut s x y fs)
 
 -- The numbers of so many moves that stand from a place on.
 abbrev pub movesFrom : List ℕ → ℕ → ℕ → List ℕ

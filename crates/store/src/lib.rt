@@ -2,7 +2,7 @@
 ghost use mathlib.Core.Path.{_≡_};
 ghost use mathlib.Core.Bool.{true};
 ghost use mathlib.Core.List.{List};
-ghost use Prim.Native.Nat.{ℕ, _+_, _-_, _/_, _≤_};
+ghost use Prim.Native.Nat.{ℕ, _+_, _-_, _/_, _≤_, _<_};
 ghost use lib.ListN.{length, set, replicate};
 ghost use lib.Seq.{sets};
 ghost use Rattle.rules.specs.Load.{started, equationOf, movesDue};
@@ -15,8 +15,8 @@ ghost use Rattle.judge.specs.Plain.{readPlain};
 ghost use Rattle.judge.specs.Progress.{sofarOf, Kept};
 ghost use Rattle.judge.specs.Going.{KeptTurn, Inside, InsideTurn};
 ghost use Rattle.judge.specs.declared.OneTurn.the-variants.{Go};
-ghost use Rattle.runs.specs.Runs.{withLabel};
-ghost use Rattle.store.specs.Stored.{Stored, putRooms, putTurn, laid, withComponents, ReadInto, StoresAt, Stores, RunStored, labelPut, LabelsPut, movesFrom};
+ghost use Rattle.runs.specs.Runs.{withLabel, withEquation};
+ghost use Rattle.store.specs.Stored.{Stored, three, putRooms, putTurn, laid, withComponents, ReadInto, StoresAt, Stores, RunStored, labelPut, LabelsPut, equationPut, EquationsPut, movesFrom};
 use judge::OneTurn;
 use judge::Progress;
 use judge::ReadModel;
@@ -24,6 +24,7 @@ use limits::Lent;
 use rules::Move;
 use rules::Record;
 use rules::Sizes;
+use runs::EquationRun;
 use runs::LabelRun;
 use wire::Read;
 
@@ -140,6 +141,35 @@ fn put_labels(bytes: &[u8], labels: &mut [u32], z: Sizes, x: LabelRun) -> LabelR
     y
 }
 
+// The equation of the block that stands next, stored: past it.
+fn put_equation_at(bytes: &[u8], equations: &mut [u32], x: Progress, y: EquationRun) -> EquationRun
+    requires { ⌜ Kept (sofarOf x) × (0 < y .due) × (y .due ≤ x .blocks .due) × (y .at + 4 ≤ length (now bytes)) ⌝ }
+    ensures { λ r. ⌜ (r ≡ withEquation y) × (now (equations .exit) ≡ equationPut (now (bytes .entry)) x y (now (equations .entry))) ⌝ }
+{
+    let at = y.at;
+    let place = x.blocks.equations + x.blocks.due - y.due;
+    let w = word_of(x, bytes[at + 1], bytes[at + 2], bytes[at + 3]);
+    rooms::set_word(equations, place as usize, w);
+    runs::with_equation(y)
+}
+
+// All good equations of the block that stand next, stored: past them.
+fn put_equations(bytes: &[u8], equations: &mut [u32], x: Progress, at: usize) -> EquationRun
+    requires { ⌜ Inside (now bytes) x at ⌝ }
+    ensures { λ r. ⌜ EquationsPut (now (bytes .entry)) x at (now (equations .entry)) r (now (equations .exit)) ⌝ }
+{
+    let z = x.sizes;
+    let end = (x.blocks.equations + x.blocks.due) as usize;
+    let mut y = EquationRun {
+        due: x.blocks.due,
+        at: at,
+    };
+    while runs::good_equation(bytes, z, end, y) {
+        y = put_equation_at(bytes, equations, x, y);
+    }
+    y
+}
+
 // So many moves as stand whole from a place on, stored.
 fn put_moves(bytes: &[u8], moves: &mut [u32], at: usize, from: usize)
     requires { ⌜ (at ≤ length (now bytes)) × (from ≤ 1024) ⌝ }
@@ -157,7 +187,7 @@ fn put_moves(bytes: &[u8], moves: &mut [u32], at: usize, from: usize)
 // Where labels are due: those that stand next, stored, and the turn moved on past them.
 fn store_labels(bytes: &[u8], labels: &mut [u32], rec: Record, x: Progress, at: usize) -> OneTurn
     requires { ⌜ Inside (now bytes) x at × ((x .blocks .count ≡ 0) × (x .blocks .equations ≡ 0)) ⌝ }
-    ensures { λ r. ⌜ ((ms : List ℕ) → RunStored (now (bytes .entry)) (Go rec x at) (now (labels .entry)) ms r (now (labels .exit)) ms) ⌝ }
+    ensures { λ r. ⌜ ((es ms : List ℕ) → RunStored (now (bytes .entry)) (Go rec x at) (three (now (labels .entry)) es ms) r (three (now (labels .exit)) es ms)) ⌝ }
 {
     let z = x.sizes;
     let blocks = x.blocks;
@@ -180,17 +210,44 @@ fn store_labels(bytes: &[u8], labels: &mut [u32], rec: Record, x: Progress, at: 
 // Where moves are due: all of them, stored. That is the rest of a good model, so the reading is over.
 fn store_moves(bytes: &[u8], moves: &mut [u32], x: Progress, at: usize) -> OneTurn
     requires { ⌜ Inside (now bytes) x at × (movesDue (sofarOf x) ≡ true) ⌝ }
-    ensures { λ r. ⌜ ((rec : Record) (ls : List ℕ) → RunStored (now (bytes .entry)) (Go rec x at) ls (now (moves .entry)) r ls (now (moves .exit))) ⌝ }
+    ensures { λ r. ⌜ ((rec : Record) (ls es : List ℕ) → RunStored (now (bytes .entry)) (Go rec x at) (three ls es (now (moves .entry))) r (three ls es (now (moves .exit)))) ⌝ }
 {
     let z = x.sizes;
     put_moves(bytes, moves, at, x.moves.count as usize);
     OneTurn::Stop(ReadModel::Good(z, x.live, x.moves.count))
 }
 
-// The labels or the moves that stand next, stored, and the turn moved on past them.
-fn store_run(bytes: &[u8], labels: &mut [u32], moves: &mut [u32], u: OneTurn) -> OneTurn
+// Inside a block: its equations that stand next, stored, and the turn moved on past them; after the last equation of all the
+// moves too.
+fn store_equations(
+    bytes: &[u8],
+    equations: &mut [u32],
+    moves: &mut [u32],
+    rec: Record,
+    x: Progress,
+    at: usize,
+) -> OneTurn
+    requires { ⌜ Inside (now bytes) x at ⌝ }
+    ensures { λ r. ⌜ ((ls : List ℕ) → RunStored (now (bytes .entry)) (Go rec x at) (three ls (now (equations .entry)) (now (moves .entry))) r (three ls (now (equations .exit)) (now (moves .exit)))) ⌝ }
+{
+    let run = put_equations(bytes, equations, x, at);
+    let y = judge::with_equations(x, run);
+    if judge::moves_due(y) {
+        return store_moves(bytes, moves, y, run.at);
+    }
+    OneTurn::Go(rec, y, run.at)
+}
+
+// The labels, the equations of a block or the moves that stand next, stored, and the turn moved on past them.
+fn store_run(
+    bytes: &[u8],
+    labels: &mut [u32],
+    equations: &mut [u32],
+    moves: &mut [u32],
+    u: OneTurn,
+) -> OneTurn
     requires { ⌜ InsideTurn (now bytes) u ⌝ }
-    ensures { λ r. ⌜ RunStored (now (bytes .entry)) u (now (labels .entry)) (now (moves .entry)) r (now (labels .exit)) (now (moves .exit)) ⌝ }
+    ensures { λ r. ⌜ RunStored (now (bytes .entry)) u (three (now (labels .entry)) (now (equations .entry)) (now (moves .entry))) r (three (now (labels .exit)) (now (equations .exit)) (now (moves .exit))) ⌝ }
 {
     let OneTurn::Go(rec, x, at) = u else {
         return u;
@@ -198,13 +255,17 @@ fn store_run(bytes: &[u8], labels: &mut [u32], moves: &mut [u32], u: OneTurn) ->
     if (x.blocks.count == 0) & (x.blocks.equations == 0) {
         return store_labels(bytes, labels, rec, x, at);
     }
+    if 0 < x.blocks.due {
+        return store_equations(bytes, equations, moves, rec, x, at);
+    }
     if judge::moves_due(x) {
         return store_moves(bytes, moves, x, at);
     }
     u
 }
 
-// What was read at the place of the turn before, stored: the turn after it, moved on past the labels or moves that follow.
+// What was read at the place of the turn before, stored: the turn after it, moved on past the labels, equations
+// or moves that follow.
 fn store_turn(
     bytes: &[u8],
     l: Lent,
@@ -219,7 +280,7 @@ fn store_turn(
 {
     let u = judge::turn(read, l, t, bytes.len());
     put_turn(labels, equations, moves, t, u);
-    store_run(bytes, labels, moves, u)
+    store_run(bytes, labels, equations, moves, u)
 }
 
 // The whole model, read through one reader from record to record, and stored. Chains are not asked again, and components are

@@ -14,7 +14,7 @@ returns : tie.Need-returns
 returns c = let at-put = c .before .before in
     let at-start = at-put .before .before .before .before .before .before .before in
     let a = at-start .args in
-    λ ms. labels-stored _ _ (a .x) (a .at) _ ms _ _ (at-start .pre .0) (at-start .pre .1) (at-put .put-labels .ensures)
+    λ es ms. labels-stored _ _ (a .x) (a .at) _ es ms _ _ (at-start .pre .0) (at-start .pre .1) (at-put .put-labels .ensures)
 
 pub store-labels-spec : {M : Type 1} → statement M
 store-labels-spec = tie.close (tie.spec put-labels-requires same-length returns)

@@ -21,7 +21,7 @@ put-turn-requires c κs = let at-start = c .before .before .before .before .befo
     inside-kept _ (at-start .args .t) (at-start .pre .0)
 
 store-run-requires : tie.Need-store-run-requires
-store-run-requires c κs = let at-turn = turn-before-put-turn (c .before .before .before .before .before .before .before .before) in
+store-run-requires c κs = let at-turn = turn-before-put-turn (c .before .before .before .before .before .before .before .before .before) in
     let at-start = start-before-turn at-turn in
     follows-inside _ _ _ (at-start .args .t) _ (at-start .pre) (at-turn .turn .ensures)
 
@@ -35,11 +35,11 @@ same-length-3 : tie.Need-same-length-3
 same-length-3 c = search needs
 
 returns : tie.Need-returns
-returns c = let at-run = c .before .before .before .before in
-    let at-put = at-run .before .before .before .before .before .before .before .before .before in
+returns c = let at-run = c .before .before .before .before .before .before in
+    let at-put = at-run .before .before .before .before .before .before .before .before .before .before in
     let at-turn = turn-before-put-turn at-put in
     let at-start = start-before-turn at-turn in
-    stores-turn _ _ _ (at-start .args .t) _ _ _ _ _ _ _ _ (at-start .pre) (at-turn .turn .ensures) (at-put .put-turn .ensures) (at-run .store-run .ensures)
+    stores-turn _ _ _ (at-start .args .t) _ _ _ _ _ (at-start .pre) (at-turn .turn .ensures) (at-put .put-turn .ensures) (at-run .store-run .ensures)
 
 pub store-turn-spec : {M : Type 1} → statement M
 store-turn-spec =
