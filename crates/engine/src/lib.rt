@@ -37,8 +37,7 @@ fn turn_blocks(
     equations: &[u32],
     moves: &[u32],
     index: &[u16],
-    named: &[u8],
-    operand: &[u32],
+    operand: &[u64],
     changes: &[u32],
     values: &mut [u8],
     marks: &mut [u8],
@@ -46,7 +45,7 @@ fn turn_blocks(
     bad: &mut [u8],
 ) -> Turns
     requires { ⌜ cut.Drawn (tableIn sizes (now labels) (now equations) (now moves)) ⌝ }
-    requires { ⌜ (Indexed (tableIn sizes (now labels) (now equations) (now moves)) (now index) × Named (tableIn sizes (now labels) (now equations) (now moves)) (now named) (now operand)) × (changesOk sizes (changesOf (now changes)) ≡ true) ⌝ }
+    requires { ⌜ (Indexed (tableIn sizes (now labels) (now equations) (now moves)) (now index) × Named (tableIn sizes (now labels) (now equations) (now moves)) (now operand)) × (changesOk sizes (changesOf (now changes)) ≡ true) ⌝ }
     requires { ⌜ (length (now bad) ≡ sizes .states) × (pairsOf sizes < length (now queue)) ⌝ }
     requires { ⌜ Started (modelOf (tableIn sizes (now labels) (now equations) (now moves))) (changesOf (now changes)) (now values) × (now marks ≡ replicate (pairsOf sizes) 0) ⌝ }
     ensures { λ r. ⌜ Moved (modelOf (tableIn sizes (now (labels .entry)) (now (equations .entry)) (now (moves .entry)))) (changesOf (now (changes .entry))) (now (values .entry)) (now (values .exit)) (now (marks .exit)) (r .visits .shift) (r .visits .settle) × Levelled sizes (pairsOf sizes) (now (values .entry)) (r .level) (now (values .exit)) ⌝ }
@@ -63,7 +62,6 @@ fn turn_blocks(
             equations,
             moves,
             index,
-            named,
             operand,
             changes,
             values,
@@ -83,7 +81,6 @@ fn turn_blocks(
             equations,
             moves,
             index,
-            named,
             operand,
             changes,
             values,
@@ -129,11 +126,10 @@ fn index_and_turn(
     requires { ⌜ ((headsOf sizes + length (now moves) ≤ length (now index)) × ((k : ℕ) → k < headsOf sizes → getD (now index) k 0 ≡ 0)) × (pairsOf sizes < length (now queue)) ⌝ }
     ensures { λ r. ⌜ Moved (modelOf (tableIn sizes (now (labels .entry)) (now (equations .entry)) (now (moves .entry)))) (changesOf (now (changes .entry))) (now (values .entry)) (now (values .exit)) (now (marks .exit)) (r .visits .shift) (r .visits .settle) × Levelled sizes (pairsOf sizes) (now (values .entry)) (r .level) (now (values .exit)) ⌝ }
 {
-    let mut named = [0u8; 32];
-    let mut operand = [0u32; 64];
+    let mut operand = [0u64; 96];
     let mut bad = [0u8; 256];
     let states = sizes.states as usize;
-    engine_index::name_operands(equations, &mut named, &mut operand);
+    engine_index::name_operands(sizes, equations, &mut operand);
     engine_index::index_moves(sizes, moves, index);
     turn_blocks(
         sizes,
@@ -141,7 +137,6 @@ fn index_and_turn(
         equations,
         moves,
         index,
-        &named,
         &operand,
         changes,
         values,

@@ -1,16 +1,19 @@
 -- The operands of the equations, chained by the variable that they name. Each variable y has two slots for its operands: 2y + 1
 -- for the first operand of an "or" or an "and", and 2y for the second one, or for the variable of a diamond or a box. A slot names
--- a variable only where it lies in y's own block. Definitions only.
+-- a variable only where it lies in y's own block. The word of the last slot that names a variable stands at the variable's own
+-- number; past the most of variables each slot has a place for the word of the slot before it that names the same variable.
+-- Definitions only.
 use mathlib.Core.Path.{_≡_}
 use mathlib.Core.Bool.{Bool, true, not, cond, _&&_}
 use mathlib.Core.List.{List}
-use Prim.Native.Nat.{ℕ, _+_, _*_, _/_, _%_, _≤_, _<_}
-use lib.ListN.{length, getD}
+use Prim.Native.Nat.{ℕ, zero, suc, _+_, _*_, _/_, _%_, _≤_, _<_}
+use lib.ListN.{length, getD, set}
 use lib.Dec.{eqb, ltb, leb}
 use Rattle.lists.specs.Lists.{bit, listed}
-use Rattle.rules.specs.Limits.{most-variables}
+use Rattle.rules.specs.Limits.{most-states, most-actions, most-variables}
 use Rattle.rules.specs.Model.{Equation}
 use Rattle.rules.specs.Session.{unword}
+use Rattle.rules.specs.declared.Sizes.{Sizes}
 use Rattle.words.specs.Table.{Table}
 use Rattle.engine_index.specs.Chains.{lastTo}
 
@@ -50,35 +53,54 @@ isStep e = not (ltb (e .operator) 6)
 abbrev pub easyBit : Equation → ℕ
 easyBit e = (e .operator + e .kind) % 2
 
--- The word of a slot of the variable y, by its equation: the link, the action, 1 for a diamond or a box and 2 more where it is easy,
--- and y, a byte each.
-unfoldable pub slotWord : Equation → ℕ → ℕ → ℕ
-slotWord e y link = link + 256 * cond (isStep e) (e .first) 0 + 65536 * (bit (isStep e) + 2 * easyBit e) + 16777216 * y
+-- The word of a slot of the variable y, by its equation, from its lowest bit on: the link, 8 bits; 1, with 2 for a diamond or a box
+-- and 4 where it is easy, 8 bits; 1,024 times y, the first pair of y, and of a diamond or a box the first head of its action, 16 bits
+-- each.
+unfoldable pub slotWord : Sizes → Equation → ℕ → ℕ → ℕ
+slotWord z e y link =
+    link + 256 * (1 + 2 * bit (isStep e) + 4 * easyBit e) + 67108864 * y + 4294967296 * (y * z .states)
+    + 281474976710656 * cond (isStep e) (e .first * z .states) 0
 
--- The first k slots are chained, in rooms that are long enough for all.
-pub record NamedUpTo (equations : List ℕ) (k : ℕ) (named operand : List ℕ) : Type 0 where
-  pub long-named : length equations ≤ length named
-  pub long-operand : 2 * length equations ≤ length operand
-  pub ends : (x : ℕ) → x < length equations → getD named x 0 ≡ lastNamed equations x k
-  pub slots : (j : ℕ) → j < k → nameAt equations j < length equations
-      → getD operand j 0 ≡ slotWord (ofSlot equations j) (j / 2) (lastNamed equations (nameAt equations j) j)
+-- The link of the slot j: its own place where a slot before it names the same variable, else 0.
+abbrev pub linkOf : List ℕ → ℕ → ℕ
+linkOf equations j = cond (eqb (lastNamed equations (nameAt equations j) j) 0) 0 (most-variables + j)
+
+-- The word of the slot before k, and 0 before all slots.
+unfoldable pub wordBefore : Sizes → List ℕ → ℕ → ℕ
+unfolding slotWord
+wordBefore z equations zero = 0
+wordBefore z equations (suc j) = slotWord z (ofSlot equations j) (j / 2) (linkOf equations j)
+
+-- The word w comes first in the chain of x, whose first one goes to the place of the slot.
+unfoldable pub putFirst : ℕ → ℕ → ℕ → List ℕ → List ℕ
+putFirst x slot w r =
+    cond (eqb (getD r x 0) 0) (set r x w) (set (set r (most-variables + slot) (getD r x 0)) x (w + (most-variables + slot)))
+
+-- The first k slots are chained, in a room that is long enough for all.
+pub record NamedUpTo (z : Sizes) (equations : List ℕ) (k : ℕ) (operand : List ℕ) : Type 0 where
+  pub long : most-variables + 2 * length equations ≤ length operand
+  pub heads : (x : ℕ) → x < length equations → getD operand x 0 ≡ wordBefore z equations (lastNamed equations x k)
+  pub slots : (j : ℕ) → j < k → nameAt equations j < length equations → (lastNamed equations (nameAt equations j) j ≡ 0 → ⊥)
+      → getD operand (most-variables + j) 0 ≡ wordBefore z equations (lastNamed equations (nameAt equations j) j)
 
 -- The operands of all equations are chained.
-abbrev pub Named : Table → List ℕ → List ℕ → Type 0
-Named t named operand = NamedUpTo (t .equations) (2 * length (t .equations)) named operand
+abbrev pub Named : Table → List ℕ → Type 0
+Named t operand = NamedUpTo (t .sizes) (t .equations) (2 * length (t .equations)) operand
 
--- Equations whose operands can be chained: there are not too many, and what they use are variables.
-pub record Naming (equations : List ℕ) : Type 0 where
+-- Equations whose operands can be chained: there are not too many, and what they use are variables, states and actions inside the
+-- limits.
+pub record Naming (z : Sizes) (equations : List ℕ) : Type 0 where
   pub few : length equations ≤ most-variables
+  pub states : z .states ≤ most-states
+  pub actions : (y : ℕ) → y < length equations → isStep (unword (getD equations y 0)) ≡ true → unword (getD equations y 0) .first < most-actions
   pub inside : (j : ℕ) → j < 2 * length equations → hasOperand (ofSlot equations j) (j % 2) ≡ true → operandAt (ofSlot equations j) (j % 2) < length equations
 
--- The slot belongs to y, and `has` says whether y's equation has it; it stands for x, and its word without a link is w.
-pub record Slot (equations : List ℕ) (slot x y : ℕ) (has : Bool) (w : ℕ) : Type 0 where
+-- The slot belongs to y, and `has` says whether y's equation has it; it stands for x.
+pub record Slot (equations : List ℕ) (slot x y : ℕ) (has : Bool) : Type 0 where
   pub inside : slot < 2 * length equations
   pub owner : y ≡ slot / 2
   pub told : has ≡ hasOperand (ofSlot equations slot) (slot % 2)
   pub names : x ≡ operandAt (ofSlot equations slot) (slot % 2)
-  pub word : w ≡ slotWord (ofSlot equations slot) (slot / 2) 0
 
 -- The first n entries of a room are 0.
 abbrev pub Blank : ℕ → List ℕ → Type 0

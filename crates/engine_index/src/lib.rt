@@ -1,13 +1,15 @@
 // The indexes of an update, built once per call: the moves by action and target, and the operands by the variable that they name.
 use rules::Sizes;
 ghost use mathlib.Core.Path.{_≡_};
+ghost use mathlib.Core.Bool.{true};
 ghost use Prim.Native.Nat.{suc, _+_, _*_, _≤_, _<_};
-ghost use lib.ListN.{length};
+ghost use lib.ListN.{length, getD};
 ghost use Rattle.rules.specs.Session.{unword};
 ghost use Rattle.engine_index.specs.Chains.{link, linked};
 ghost use Rattle.engine_index.specs.Indexed.{keyOf, headsOf};
 ghost use Rattle.engine_index.specs.MovesIndexed.{Headed};
-ghost use Rattle.engine_index.specs.Operands.{slotWord, Blank, NamedUpTo, Naming, Slot};
+ghost use Rattle.rules.specs.Limits.{most-states, most-actions, most-variables};
+ghost use Rattle.engine_index.specs.Operands.{isStep, slotWord, putFirst, Blank, NamedUpTo, Naming, Slot};
 
 // How many heads the index of the moves has.
 pub fn heads_of(sizes: Sizes) -> usize
@@ -50,84 +52,99 @@ pub fn index_moves(sizes: Sizes, moves: &[u32], index: &mut [u16])
     }
 }
 
+// Where the pairs of the variable x, or the heads of the action x, begin.
+fn begins(sizes: Sizes, x: u64) -> u64
+    requires { ⌜ (x ≤ most-variables) × (sizes .states ≤ most-states) ⌝ }
+    ensures { λ r. ⌜ (r ≡ x * sizes .states) × (r < 65536) ⌝ }
+{
+    x * sizes.states as u64
+}
+
 // The word of the slots of the variable y without a link, where w is the word of its equation.
-fn slot_word(w: u32, y: usize) -> u32
-    requires { ⌜ y < 256 ⌝ }
-    ensures { λ r. ⌜ r ≡ slotWord (unword w) y 0 ⌝ }
+fn slot_word(sizes: Sizes, w: u32, y: usize) -> u64
+    requires { ⌜ (y < most-variables) × (sizes .states ≤ most-states) ⌝ }
+    requires { ⌜ (isStep (unword w) ≡ true → unword w .first < most-actions) ⌝ }
+    ensures { λ r. ⌜ r ≡ slotWord sizes (unword w) y 0 ⌝ }
 {
     let e = words::equation_in(w);
-    let easy = (e.operator as u32 + e.kind as u32) % 2;
-    let word = 16777216 * (y as u32) + 131072 * easy;
+    let easy = (e.operator as u64 + e.kind as u64) % 2;
+    let row = begins(sizes, y as u64);
+    let word = 256 + 1024 * easy + 67108864 * (y as u64) + 4294967296 * row;
     if e.operator < 6 {
         return word;
     }
-    word + 65536 + 256 * (e.first as u32)
+    word + 512 + 281474976710656 * begins(sizes, e.first as u64)
 }
 
-// A byte as a word.
-fn wide(x: u8) -> u32
-    ensures { λ r. ⌜ (r ≡ x) × (r < 256) ⌝ }
+// The word comes first in the chain of x; the one that was first goes to the place of the slot.
+fn put_first(x: usize, slot: usize, word: u64, operand: &mut [u64])
+    requires { ⌜ (x < length (now operand)) × (most-variables + slot < length (now operand)) ⌝ }
+    requires { ⌜ (slot < 256) × (word + 511 < 18446744073709551616) ⌝ }
+    ensures { λ _. ⌜ now (operand .exit) ≡ putFirst x slot word (now (operand .entry)) ⌝ }
 {
-    x as u32
+    let old = operand[x];
+    if old == 0 {
+        operand[x] = word;
+        return;
+    }
+    let place = limits::MOST_VARIABLES as usize + slot;
+    operand[place] = old;
+    operand[x] = word + place as u64;
 }
 
 // The slot, which stands for the variable x in the equation of y if y has it, is put at the head of x's chain, where x lies in
 // y's own block.
 fn put_operand(
+    sizes: Sizes,
     equations: &[u32],
     x: usize,
     y: usize,
     has: bool,
     slot: usize,
-    word: u32,
-    named: &mut [u8],
-    operand: &mut [u32],
+    operand: &mut [u64],
 )
-    requires { ⌜ Naming (now equations) ⌝ }
-    requires { ⌜ Slot (now equations) slot x y has word ⌝ }
-    requires { ⌜ NamedUpTo (now equations) slot (now named) (now operand) ⌝ }
-    ensures { λ _. ⌜ NamedUpTo (now (equations .entry)) (suc slot) (now (named .exit)) (now (operand .exit)) ⌝ }
+    requires { ⌜ Naming sizes (now equations) ⌝ }
+    requires { ⌜ Slot (now equations) slot x y has ⌝ }
+    requires { ⌜ NamedUpTo sizes (now equations) slot (now operand) ⌝ }
+    ensures { λ _. ⌜ NamedUpTo sizes (now (equations .entry)) (suc slot) (now (operand .exit)) ⌝ }
 {
     if has {
+        let w = equations[y];
         let there = words::equation_in(equations[x]);
-        let here = words::equation_in(equations[y]);
+        let here = words::equation_in(w);
         if there.block == here.block {
-            let link = wide(named[x]);
-            operand[slot] = word + link;
-            named[x] = (slot + 1) as u8;
+            put_first(x, slot, slot_word(sizes, w, y), operand);
         }
     }
 }
 
 // The operands of the variable y are put at the heads of their chains.
-fn put_operands(equations: &[u32], y: usize, named: &mut [u8], operand: &mut [u32])
-    requires { ⌜ Naming (now equations) ⌝ }
+fn put_operands(sizes: Sizes, equations: &[u32], y: usize, operand: &mut [u64])
+    requires { ⌜ Naming sizes (now equations) ⌝ }
     requires { ⌜ y < length (now equations) ⌝ }
-    requires { ⌜ NamedUpTo (now equations) (2 * y) (now named) (now operand) ⌝ }
-    ensures { λ _. ⌜ NamedUpTo (now (equations .entry)) (suc (suc (2 * y))) (now (named .exit)) (now (operand .exit)) ⌝ }
+    requires { ⌜ NamedUpTo sizes (now equations) (2 * y) (now operand) ⌝ }
+    ensures { λ _. ⌜ NamedUpTo sizes (now (equations .entry)) (suc (suc (2 * y))) (now (operand .exit)) ⌝ }
 {
-    let w = equations[y];
-    let e = words::equation_in(w);
-    let word = slot_word(w, y);
+    let e = words::equation_in(equations[y]);
     let first = e.first as usize;
     let second = e.second as usize;
     let uses = 4 <= e.operator;
     let joins = uses & (e.operator < 6);
-    put_operand(equations, second, y, uses, 2 * y, word, named, operand);
-    put_operand(equations, first, y, joins, 2 * y + 1, word, named, operand);
+    put_operand(sizes, equations, second, y, uses, 2 * y, operand);
+    put_operand(sizes, equations, first, y, joins, 2 * y + 1, operand);
 }
 
 // Chains the operands of all equations by the variable that they name.
-pub fn name_operands(equations: &[u32], named: &mut [u8], operand: &mut [u32])
-    requires { ⌜ Naming (now equations) ⌝ }
-    requires { ⌜ (length (now equations) ≤ length (now named)) × (2 * length (now equations) ≤ length (now operand)) ⌝ }
-    requires { ⌜ Blank (length (now equations)) (now named) ⌝ }
-    ensures { λ _. ⌜ NamedUpTo (now (equations .entry)) (2 * length (now (equations .entry))) (now (named .exit)) (now (operand .exit)) ⌝ }
+pub fn name_operands(sizes: Sizes, equations: &[u32], operand: &mut [u64])
+    requires { ⌜ Naming sizes (now equations) ⌝ }
+    requires { ⌜ most-variables + 2 * length (now equations) ≤ length (now operand) ⌝ }
+    requires { ⌜ Blank (length (now equations)) (now operand) ⌝ }
+    ensures { λ _. ⌜ NamedUpTo sizes (now (equations .entry)) (2 * length (now (equations .entry))) (now (operand .exit)) ⌝ }
 {
     let n = equations.len();
     let mut y: usize = 0;
     while y < n {
-        put_operands(equations, y, named, operand);
+        put_operands(sizes, equations, y, operand);
         y = y + 1;
     }
 }

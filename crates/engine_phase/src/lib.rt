@@ -242,8 +242,7 @@ fn turn_round(
     equations: &[u32],
     moves: &[u32],
     index: &[u16],
-    named: &[u8],
-    operand: &[u32],
+    operand: &[u64],
     values: &mut [u8],
     marks: &mut [u8],
     queue: &mut [u16],
@@ -252,7 +251,7 @@ fn turn_round(
     settling: bool,
     from: u8,
 ) -> Spread
-    requires { ⌜ Indexed (sketch sizes (now equations) (now moves)) (now index) × Named (sketch sizes (now equations) (now moves)) (now named) (now operand) ⌝ }
+    requires { ⌜ Indexed (sketch sizes (now equations) (now moves)) (now index) × Named (sketch sizes (now equations) (now moves)) (now operand) ⌝ }
     requires { ⌜ Waiting sizes (now equations) (now moves) settling from front (roundOf (now values) (now marks) (now queue) (at .tail) (at .visits)) ⌝ }
     ensures { λ r. ⌜ Rounded sizes (now (equations .entry)) (now (moves .entry)) settling from front (at .tail)
         (roundOf (now (values .entry)) (now (marks .entry)) (now (queue .entry)) (at .tail) (at .visits))
@@ -267,7 +266,6 @@ fn turn_round(
             equations,
             moves,
             index,
-            named,
             operand,
             values,
             marks,
@@ -307,8 +305,7 @@ pub fn phase(
     equations: &[u32],
     moves: &[u32],
     index: &[u16],
-    named: &[u8],
-    operand: &[u32],
+    operand: &[u64],
     changes: &[u32],
     values: &mut [u8],
     marks: &mut [u8],
@@ -320,7 +317,7 @@ pub fn phase(
     settling: bool,
 ) -> Counts
     requires { ⌜ Drawn (tableIn sizes (now labels) (now equations) (now moves)) ⌝ }
-    requires { ⌜ (Indexed (tableIn sizes (now labels) (now equations) (now moves)) (now index) × Named (tableIn sizes (now labels) (now equations) (now moves)) (now named) (now operand)) × (changesOk sizes (changesOf (now changes)) ≡ true) ⌝ }
+    requires { ⌜ (Indexed (tableIn sizes (now labels) (now equations) (now moves)) (now index) × Named (tableIn sizes (now labels) (now equations) (now moves)) (now operand)) × (changesOk sizes (changesOf (now changes)) ≡ true) ⌝ }
     requires { ⌜ (block < blocksOf (modelOf (tableIn sizes (now labels) (now equations) (now moves)))) × ((length (now bad) ≡ sizes .states) × (pairsOf sizes < length (now queue))) ⌝ }
     requires { ⌜ Somewhere {I = ℕ} (tableIn sizes (now labels) (now equations) (now moves)) (changesOf (now changes)) (λ other. jobIn sizes block settling 0 (now values) (now marks) (now queue) 0 0 visits other) ⌝ }
     requires { ⌜ Level sizes level (now values) ⌝ }
@@ -355,7 +352,6 @@ pub fn phase(
             equations,
             moves,
             index,
-            named,
             operand,
             values,
             marks,

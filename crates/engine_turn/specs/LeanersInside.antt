@@ -84,4 +84,4 @@ module _ {t : Table} (d : Drawn t) where
       let j = r .0 in
       let e = sym (name-at (t .equations) j (r .1)) ∙ r .2 in
       let h = r .1 in
-      by-stands w (j / 2) s (omega arith) l (slot-uses (t .equations) (drawn-names d) j x e (omega arith)) (r .3)
+      by-stands w (j / 2) s (omega arith) l (slot-uses (t .sizes) (t .equations) (drawn-names d) j x e (omega arith)) (r .3)

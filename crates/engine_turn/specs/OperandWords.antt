@@ -1,145 +1,219 @@
 -- What the word of an operand holds. Assumes nothing.
 use mathlib.Core.Path.{_≡_, refl, sym, ap, _∙_, subst}
-use mathlib.Core.Bool.{Bool, true, false, not, cond}
+use mathlib.Core.Bool.{Bool, true, false, not, cond, _&&_}
 use mathlib.Core.List.{List, [], _∷_}
-use Prim.Native.Nat.{ℕ, _+_, _*_, _/_, _%_, _≤_, _<_}
+use Prim.Native.Nat.{ℕ, zero, suc, _+_, _*_, _/_, _%_, _-_, _≤_, _<_}
+use native.Mathlib.Nat.{mul-le-mul}
+use native.Mathlib.Decide.{ℕ-discrete}
 use native.Mathlib.Omega.{arith}
 use lib.ListN.{length, getD}
 use lib.Dec.{eqb, ltb}
 use Rattle.lists.specs.Lists.{bit}
-use Rattle.lists.specs.Tests.{not-not, ltb-no}
+use Rattle.lists.specs.Tests.{not-not, ltb-no, eqb-no}
+use Rattle.rules.specs.Limits.{most-variables}
 use Rattle.rules.specs.Model.{Equation}
+use Rattle.rules.specs.declared.Sizes.{Sizes}
 use Rattle.words.specs.Table.{ReadsAs, waitingOf}
+use Rattle.words.specs.Limits.{limits}
 use Rattle.engine_index.specs.Indexed.{headsOf}
 use Rattle.engine_index.specs.MovesIndexed.{key-inside}
 use Rattle.engine_index.specs.ChainWalks.{last-le}
-use Rattle.engine_index.specs.Operands.{ofSlot, nameAt, namesOf, lastNamed, isStep, easyBit, slotWord, Named}
+use Rattle.engine_index.specs.Operands.{ofSlot, nameAt, namesOf, lastNamed, isStep, easyBit, slotWord, linkOf, wordBefore, Named}
 use Rattle.engine_index.specs.OperandLaws.{bit-low, slot-uses, drawn-names}
-use Rattle.engine_turn.specs.Scene.{Scene, Standing, sketch, equationOf, sourcesIn, pairsBy, Leaner, Along, Leans, HeadOf, OperandOf}
+use Rattle.engine_turn.specs.Scene.{Scene, Standing, sketch, equationOf, sourcesIn, pairsBy, ownerOf, waitsOf, rowOf, Leaner, Along, Leans, HeadOf, OperandOf}
 use Rattle.engine_turn.specs.Inside.{step-inside}
 
--- Four numbers, a byte each but for the last, out of one.
-pub record Digits (o k a f y : ℕ) : Type 0 where
-  pub lowest : o % 256 ≡ k
-  pub second : o / 256 % 256 ≡ a
-  pub third : o / 256 / 256 % 256 ≡ f
-  pub rest : o / 256 / 256 / 256 ≡ y
+-- The numbers of a word: the link, 1 for a diamond or a box, 1 where it is easy, the variable, where its pairs begin, and where the
+-- heads of its action begin.
+pub record Digits (o link step easy y row heads : ℕ) : Type 0 where
+  pub is-link : o % 512 ≡ 256 + link
+  pub is-step : o / 512 % 2 ≡ step
+  pub is-easy : o / 1024 % 2 ≡ easy
+  pub is-waits : waitsOf o ≡ 1024 * y
+  pub is-owner : ownerOf o ≡ y
+  pub is-row : rowOf o ≡ row
+  pub is-heads : o / 281474976710656 ≡ heads
 
-digits : (o k a f y : ℕ) → k < 256 → a < 256 → f < 256 → o ≡ k + 256 * a + 65536 * f + 16777216 * y → Digits o k a f y
-digits o k a f y hk ha hf e =
-    let one : o / 256 ≡ a + 256 * (f + 256 * y) = omega arith in
-    let two : o / 256 / 256 ≡ f + 256 * y = omega arith in
-    record { lowest = omega arith; second = omega arith; third = omega arith; rest = omega arith }
+digits : (o link step easy y row heads : ℕ) → link < 256 → step ≤ 1 → easy ≤ 1 → y < 64 → row < 65536
+    → o ≡ link + 256 * (1 + 2 * step + 4 * easy) + 67108864 * y + 4294967296 * row + 281474976710656 * heads → Digits o link step easy y row heads
+digits o link step easy y row heads hl hs he hy hr e =
+    let low = link + 256 * (1 + 2 * step + 4 * easy) in
+    let small : low < 65536 = omega arith in
+    let first : o / 65536 ≡ 1024 * y + 65536 * (row + 65536 * heads) = omega arith in
+    let second : o / 4294967296 ≡ row + 65536 * heads = omega arith in
+    record {
+      is-link = omega arith;
+      is-step = omega arith;
+      is-easy = omega arith;
+      is-waits = omega arith;
+      is-owner = omega arith;
+      is-row = omega arith;
+      is-heads = omega arith;
+    }
 
 -- The numbers of a slot's word.
-slot-digits : (e : Equation) (y link : ℕ) → e .first < 256 → link < 256
-    → Digits (slotWord e y link) link (cond (isStep e) (e .first) 0) (bit (isStep e) + 2 * easyBit e) y
+slot-digits : (z : Sizes) (e : Equation) (y link : ℕ) → z .states ≤ 256 → y < 64 → link < 256
+    → Digits (slotWord z e y link) link (bit (isStep e)) (easyBit e) y (y * z .states) (cond (isStep e) (e .first * z .states) 0)
 unfolding slotWord
-slot-digits e y link h l =
-    let b = bit-low (isStep e) in
-    digits (link + 256 * cond (isStep e) (e .first) 0 + 65536 * (bit (isStep e) + 2 * easyBit e) + 16777216 * y)
-    link (cond (isStep e) (e .first) 0) (bit (isStep e) + 2 * easyBit e) y l (low (isStep e)) (omega arith) refl
-  where
-    low : (b : Bool) → cond b (e .first) 0 < 256
-    low true = h
-    low false = omega arith
+slot-digits z e y link low hy hl =
+    let row : y * z .states ≤ 63 * 256 = mul-le-mul {n₂ = 63} {m₂ = 256} (omega arith) low in
+    digits (link + 256 * (1 + 2 * bit (isStep e) + 4 * easyBit e) + 67108864 * y + 4294967296 * (y * z .states) + 281474976710656 * cond (isStep e) (e .first * z .states) 0)
+    link (bit (isStep e)) (easyBit e) y (y * z .states) (cond (isStep e) (e .first * z .states) 0) hl (bit-low (isStep e)) (omega arith) hy (omega arith) refl
 
-module _ {c : Scene} {o : ℕ} (p : OperandOf c o) where
+module _ {c : Scene} {o : ℕ} (g : Standing c) (p : OperandOf c o) where
   abbrev y : ℕ
-  y = o / 256 / 256 / 256
+  y = ownerOf o
 
   abbrev e : Equation
   e = equationOf c y
 
-  of-word : Digits o (o % 256) (cond (isStep e) (e .first) 0) (bit (isStep e) + 2 * easyBit e) y
-  of-word = subst (λ (n : ℕ). Digits n (o % 256) (cond (isStep e) (e .first) 0) (bit (isStep e) + 2 * easyBit e) y) (sym (p .word)) (slot-digits e y (o % 256) (omega arith) (omega arith))
+  of-word : Digits o (o % 256) (bit (isStep e)) (easyBit e) y (y * c .sizes .states) (cond (isStep e) (e .first * c .sizes .states) 0)
+  of-word =
+      subst (λ (n : ℕ). Digits n (o % 256) (bit (isStep e)) (easyBit e) y (y * c .sizes .states) (cond (isStep e) (e .first * c .sizes .states) 0)) (sym (p .word))
+      (slot-digits (c .sizes) e y (o % 256) (limits (g .drawn) .0 .1) (omega arith) (omega arith))
 
-  -- The operand's variable leans on others, and the word says whether it is easy.
-  pub operand-leans : Leans c (eqb (o / 256 / 256 % 256 / 2) 1) y
-  operand-leans = record {
+  -- The operand's variable leans on others, and the word says what a visit needs.
+  pub operand-leans : (ph : Bool) → Leans c ph (ph && eqb (o / 1024 % 2) 1) o
+  operand-leans ph = record {
     variable = p .variable;
     uses = p .uses;
-    told =
-        let f = of-word .third in
-        let b = bit-low (isStep e) in
-        let k : o / 256 / 256 % 256 / 2 ≡ easyBit e = omega arith in
-        ap (λ (n : ℕ). eqb n 1) k;
+    told = ap (λ (n : ℕ). ph && eqb n 1) (of-word .is-easy);
+    row = of-word .is-row;
+    waits = of-word .is-waits;
   }
 
-  step-by : (b : Bool) → bit b + 2 * easyBit e ≡ o / 256 / 256 % 256 → o / 256 / 256 % 256 % 2 ≡ bit b
-  step-by b f = let h = bit-low b in omega arith
-
-  is-not : o / 256 / 256 % 256 % 2 ≡ 0 → isStep e ≡ false
+  is-not : o / 512 % 2 ≡ 0 → isStep e ≡ false
   is-not h = go (isStep e) refl
     where
       go : (b : Bool) → isStep e ≡ b → b ≡ false
-      go true f = let k = step-by (isStep e) (sym (of-word .third)) in let m = ap bit f in absurd (omega arith)
+      go true f = let k = of-word .is-step in let m = ap bit f in absurd (omega arith)
       go false f = refl
 
-  is-step : (o / 256 / 256 % 256 % 2 ≡ 0 → ⊥) → isStep e ≡ true
-  is-step h = go (isStep e) refl
+  is-a-step : (o / 512 % 2 ≡ 0 → ⊥) → isStep e ≡ true
+  is-a-step h = go (isStep e) refl
     where
       go : (b : Bool) → isStep e ≡ b → b ≡ true
       go true f = refl
-      go false f = let k = step-by (isStep e) (sym (of-word .third)) in let m = ap bit f in absurd (h (omega arith))
+      go false f = let k = of-word .is-step in let m = ap bit f in absurd (h (omega arith))
 
   -- A join visits one pair, a step the pairs at the sources of a chain.
-  pub pairs-join : (s : ℕ) → o / 256 / 256 % 256 % 2 ≡ 0 → pairsBy (c .sizes) (c .equations) (c .moves) s y ≡ waitingOf y s ∷ []
+  pub pairs-join : (s : ℕ) → o / 512 % 2 ≡ 0 → pairsBy (c .sizes) (c .equations) (c .moves) s y ≡ waitingOf y s ∷ []
   unfolding pairsBy
   pairs-join s h = rw (is-not h) refl
 
-  second-is : (o / 256 / 256 % 256 % 2 ≡ 0 → ⊥) → o / 256 % 256 ≡ e .first
-  second-is h = of-word .second ∙ ap (λ (b : Bool). cond b (e .first) 0) (is-step h)
+  heads-are : (o / 512 % 2 ≡ 0 → ⊥) → o / 281474976710656 ≡ e .first * c .sizes .states
+  heads-are h = of-word .is-heads ∙ ap (λ (b : Bool). cond b (e .first * c .sizes .states) 0) (is-a-step h)
 
-  pub pairs-step : (s : ℕ) → (o / 256 / 256 % 256 % 2 ≡ 0 → ⊥)
-      → pairsBy (c .sizes) (c .equations) (c .moves) s y ≡ sourcesIn (c .sizes) (c .moves) y (o / 256 % 256 * c .sizes .states + s)
+  pub pairs-step : (s head : ℕ) → (o / 512 % 2 ≡ 0 → ⊥) → head ≡ o / 281474976710656 + s
+      → pairsBy (c .sizes) (c .equations) (c .moves) s y ≡ sourcesIn (c .sizes) (c .moves) y head
   unfolding pairsBy
-  pairs-step s h = rw (is-step h, second-is h) refl
+  pairs-step s head h is = rw (is-a-step h, is, heads-are h) refl
 
   -- A join has no moves, and the head of a step is that of its action.
-  pub join-along : (s j : ℕ) → o / 256 / 256 % 256 % 2 ≡ 0 → Along c false y s j
+  pub join-along : (s j : ℕ) → o / 512 % 2 ≡ 0 → Along c false y s j
   join-along s j h = record { told = sym (is-not h); own = λ t. let k = ap bit t in absurd (omega arith) }
 
-  pub step-head : (s : ℕ) → s < c .sizes .states → (o / 256 / 256 % 256 % 2 ≡ 0 → ⊥) → (head : ℕ) → head ≡ o / 256 % 256 * c .sizes .states + s → HeadOf c y head
-  step-head s l h head is = record { step = is-step h; into = s; low = l; is = is ∙ ap (λ (a : ℕ). a * c .sizes .states + s) (second-is h) }
+  pub step-head : (s : ℕ) → s < c .sizes .states → (o / 512 % 2 ≡ 0 → ⊥) → (head : ℕ) → head ≡ o / 281474976710656 + s → HeadOf c y head
+  step-head s l h head is = record { step = is-a-step h; into = s; low = l; is = is ∙ ap (λ (n : ℕ). n + s) (heads-are h) }
 
   -- Its head is inside.
-  pub head-inside : Standing c → (s : ℕ) → s < c .sizes .states → (o / 256 / 256 % 256 % 2 ≡ 0 → ⊥) → o / 256 % 256 * c .sizes .states + s < headsOf (c .sizes)
-  head-inside g s l h =
-      let six = ltb-no (e .operator) 6 .0 (sym (not-not (ltb (e .operator) 6)) ∙ ap not (is-step h)) in
+  pub head-inside : (s : ℕ) → s < c .sizes .states → (o / 512 % 2 ≡ 0 → ⊥) → (head : ℕ) → head ≡ o / 281474976710656 + s → head < headsOf (c .sizes)
+  head-inside s l h head is =
+      let six = ltb-no (e .operator) 6 .0 (sym (not-not (ltb (e .operator) 6)) ∙ ap not (is-a-step h)) in
       let leaner : Leaner c y s = record { variable = p .variable; state = l; uses = p .uses } in
       let read : ReadsAs e (e .operator) (e .first) (e .second) (e .block) (e .kind) = record { is-operator = refl; is-first = refl; is-second = refl; is-block = refl; is-kind = refl } in
       let k = step-inside g leaner (e .operator) (e .first) (e .second) (e .block) (e .kind) read six in
-      let i = second-is h in
-      key-inside (c .sizes) (o / 256 % 256) s (omega (arith, i, k .0)) l
+      subst (λ (n : ℕ). n < headsOf (c .sizes)) (sym (is ∙ ap (λ (n : ℕ). n + s) (heads-are h))) (key-inside (c .sizes) (e .first) s (k .0) l)
 
--- The word at a slot that names x.
-module _ {c : Scene} (g : Standing c) {named operand : List ℕ} (d : Named (sketch (c .sizes) (c .equations) (c .moves)) named operand)
-    (j x : ℕ) (h : j < 2 * length (c .equations)) (is : nameAt (c .equations) j ≡ x) (l : x < length (c .equations)) where
-  link-low : lastNamed (c .equations) x j < 256
-  link-low = let k = last-le (λ w. w) (namesOf (c .equations)) x j in let f = drawn-names (g .drawn) .few in omega arith
+-- The words of a chain: that of the slot before k, where the last of the first k slots that names x is the one before k.
+module _ {c : Scene} (g : Standing c) where
+  few : length (c .equations) ≤ most-variables
+  few = drawn-names (g .drawn) .few
 
-  word-is : getD operand j 0 ≡ slotWord (ofSlot (c .equations) j) (j / 2) (lastNamed (c .equations) x j)
-  word-is = d .slots j h (let e = is in omega arith) ∙ ap (λ (v : ℕ). slotWord (ofSlot (c .equations) j) (j / 2) (lastNamed (c .equations) v j)) is
+  link-low : (j : ℕ) → j < 2 * length (c .equations) → linkOf (c .equations) j < 256
+  link-low j h = go (eqb (lastNamed (c .equations) (nameAt (c .equations) j) j) 0)
+    where
+      go : (b : Bool) → cond b 0 (most-variables + j) < 256
+      go true = omega arith
+      go false = let f = few in omega arith
 
-  slot-read : Digits (getD operand j 0) (lastNamed (c .equations) x j) (cond (isStep (ofSlot (c .equations) j)) (ofSlot (c .equations) j .first) 0)
-      (bit (isStep (ofSlot (c .equations) j)) + 2 * easyBit (ofSlot (c .equations) j)) (j / 2)
-  slot-read =
-      subst (λ (v : ℕ). Digits v (lastNamed (c .equations) x j) (cond (isStep (ofSlot (c .equations) j)) (ofSlot (c .equations) j .first) 0)
-      (bit (isStep (ofSlot (c .equations) j)) + 2 * easyBit (ofSlot (c .equations) j)) (j / 2)) (sym word-is)
-      (slot-digits (ofSlot (c .equations) j) (j / 2) (lastNamed (c .equations) x j) (omega arith) link-low)
+  word-read : (j : ℕ) → j < 2 * length (c .equations)
+      → Digits (wordBefore (c .sizes) (c .equations) (suc j)) (linkOf (c .equations) j) (bit (isStep (ofSlot (c .equations) j))) (easyBit (ofSlot (c .equations) j))
+      (j / 2) (j / 2 * c .sizes .states) (cond (isStep (ofSlot (c .equations) j)) (ofSlot (c .equations) j .first * c .sizes .states) 0)
+  unfolding wordBefore
+  word-read j h = let f = few in slot-digits (c .sizes) (ofSlot (c .equations) j) (j / 2) (linkOf (c .equations) j) (limits (g .drawn) .0 .1) (omega arith) (link-low j h)
 
-  -- It is that of an operand of the slot's variable, and its link is that of the slot.
-  pub slot-owner : getD operand j 0 / 256 / 256 / 256 ≡ j / 2
-  slot-owner = slot-read .rest
+  word-none : wordBefore (c .sizes) (c .equations) 0 ≡ 0
+  unfolding wordBefore
+  word-none = refl
 
-  pub slot-link : getD operand j 0 % 256 ≡ lastNamed (c .equations) x j
-  slot-link = slot-read .lowest
+  -- The lowest numbers of a word tell how far its chain goes on.
+  word-falls : (k j : ℕ) → k ≤ j → j < 2 * length (c .equations) → linkOf (c .equations) j ≡ most-variables + j
+      → wordBefore (c .sizes) (c .equations) k % 512 < 256 + linkOf (c .equations) j
+  word-falls zero j h l e = let n = ap (λ (w : ℕ). w % 512) word-none in omega arith
+  word-falls (suc i) j h l e = let d = word-read i (omega arith) .is-link in let n = low (eqb (lastNamed (c .equations) (nameAt (c .equations) i) i) 0) in omega arith
+    where
+      low : (b : Bool) → cond b 0 (most-variables + i) ≤ most-variables + i
+      low true = omega arith
+      low false = omega arith
 
-  pub slot-operand : OperandOf c (getD operand j 0)
-  slot-operand = record {
-    variable = let e = slot-owner in let k = g .drawn .long-equations in omega arith;
-    uses = subst (λ (v : ℕ). 4 ≤ equationOf c v .operator) (sym slot-owner) (slot-uses (c .equations) (drawn-names (g .drawn)) j x is l);
-    word = word-is ∙ ap (λ (v : ℕ). slotWord (equationOf c v) v (lastNamed (c .equations) x j)) (sym slot-owner)
-        ∙ ap (slotWord (equationOf c (getD operand j 0 / 256 / 256 / 256)) (getD operand j 0 / 256 / 256 / 256)) (sym slot-link);
-  }
+  module _ {operand : List ℕ} (d : Named (sketch (c .sizes) (c .equations) (c .moves)) operand)
+      (x j o : ℕ) (h : j < 2 * length (c .equations)) (is : nameAt (c .equations) j ≡ x) (l : x < length (c .equations)) (w : o ≡ wordBefore (c .sizes) (c .equations) (suc j)) where
+    read : Digits o (linkOf (c .equations) j) (bit (isStep (ofSlot (c .equations) j))) (easyBit (ofSlot (c .equations) j))
+        (j / 2) (j / 2 * c .sizes .states) (cond (isStep (ofSlot (c .equations) j)) (ofSlot (c .equations) j .first * c .sizes .states) 0)
+    read =
+        subst (λ (n : ℕ). Digits n (linkOf (c .equations) j) (bit (isStep (ofSlot (c .equations) j))) (easyBit (ofSlot (c .equations) j))
+        (j / 2) (j / 2 * c .sizes .states) (cond (isStep (ofSlot (c .equations) j)) (ofSlot (c .equations) j .first * c .sizes .states) 0)) (sym w) (word-read j h)
+
+    link-is : o % 256 ≡ linkOf (c .equations) j
+    link-is = let e = read .is-link in let n = link-low j h in omega arith
+
+    -- The word is that of an operand of the slot's variable.
+    pub slot-owner : ownerOf o ≡ j / 2
+    slot-owner = read .is-owner
+
+    pub slot-operand : OperandOf c o
+    unfolding wordBefore
+    slot-operand = record {
+      variable = let e = slot-owner in let k = g .drawn .long-equations in omega arith;
+      uses = subst (λ (v : ℕ). 4 ≤ equationOf c v .operator) (sym slot-owner) (slot-uses (c .sizes) (c .equations) (drawn-names (g .drawn)) j x is l);
+      word = w ∙ ap (λ (v : ℕ). slotWord (c .sizes) (equationOf c v) v (linkOf (c .equations) j)) (sym slot-owner)
+          ∙ ap (slotWord (c .sizes) (equationOf c (ownerOf o)) (ownerOf o)) (sym link-is);
+    }
+
+    -- The link leads to the word of the slot before it that names x, and to none where there is none.
+    last-is : lastNamed (c .equations) (nameAt (c .equations) j) j ≡ lastNamed (c .equations) x j
+    last-is = ap (λ (v : ℕ). lastNamed (c .equations) v j) is
+
+    pub slot-inside : (o % 256 ≡ 0 → ⊥) → o % 256 < length operand
+    slot-inside some = go (eqb (lastNamed (c .equations) (nameAt (c .equations) j) j) 0) link-is
+      where
+        go : (b : Bool) → o % 256 ≡ cond b 0 (most-variables + j) → o % 256 < length operand
+        go true e = absurd (some e)
+        go false e = let m = d .long in omega arith
+
+    next-by : (n : ℕ) → n ≡ lastNamed (c .equations) x j → (next : ℕ) → next ≡ cond (eqb (o % 256) 0) 0 (getD operand (o % 256) 0)
+        → (next ≡ wordBefore (c .sizes) (c .equations) n) × (wordBefore (c .sizes) (c .equations) n % 512 < o % 512)
+    next-by n e next f =
+        elim (ℕ-discrete n 0) [
+          | yes z ↦
+              let link : o % 256 ≡ 0 = link-is ∙ rw (last-is, sym e, z) refl in
+              let from = read .is-link in
+              let to = ap (λ (w : ℕ). w % 512) (ap (wordBefore (c .sizes) (c .equations)) z ∙ word-none) in
+              (f ∙ rw link refl ∙ sym word-none ∙ ap (wordBefore (c .sizes) (c .equations)) (sym z), omega arith)
+          | no z ↦
+              let some : lastNamed (c .equations) (nameAt (c .equations) j) j ≡ 0 → ⊥ = λ k. z (e ∙ sym last-is ∙ k) in
+              let own : linkOf (c .equations) j ≡ most-variables + j = rw (eqb-no (lastNamed (c .equations) (nameAt (c .equations) j) j) 0 .1 some) refl in
+              let link : o % 256 ≡ most-variables + j = link-is ∙ own in
+              let there : eqb (o % 256) 0 ≡ false = eqb-no (o % 256) 0 .1 (λ k. absurd (omega arith)) in
+              let low = last-le (λ w. w) (namesOf (c .equations)) x j in
+              let from = read .is-link in
+              let less = word-falls n j (omega arith) h own in
+              (f ∙ rw there (ap (λ (i : ℕ). getD operand i 0) link ∙ d .slots j h (let k = is in omega arith) some ∙ ap (wordBefore (c .sizes) (c .equations)) (last-is ∙ sym e)), omega arith)
+        ]
+
+    pub slot-next : (next : ℕ) → next ≡ cond (eqb (o % 256) 0) 0 (getD operand (o % 256) 0) → next ≡ wordBefore (c .sizes) (c .equations) (lastNamed (c .equations) x j)
+    slot-next next f = next-by (lastNamed (c .equations) x j) refl next f .0
+
+    pub slot-falls : (next : ℕ) → next ≡ cond (eqb (o % 256) 0) 0 (getD operand (o % 256) 0) → next % 512 < o % 512
+    slot-falls next f = let n = next-by (lastNamed (c .equations) x j) refl next f in let e = ap (λ (w : ℕ). w % 512) (n .0) in let k = n .1 in omega arith

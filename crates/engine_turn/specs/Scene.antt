@@ -126,21 +126,29 @@ pub record Leaner (c : Scene) (y s : ℕ) : Type 0 where
   pub state : s < c .sizes .states
   pub uses : 4 ≤ equationOf c y .operator
 
--- The same, and `easy` says whether y is easy.
-pub record Leaning (c : Scene) (easy : Bool) (y s : ℕ) : Type 0 where
-  pub leaner : Leaner c y s
-  pub told : easy ≡ eqb (easyBit (equationOf c y)) 1
-
 -- `step` says whether y is a diamond or a box; where it is, the move at j is one of its own at s.
 pub record Along (c : Scene) (step : Bool) (y s j : ℕ) : Type 0 where
   pub told : step ≡ isStep (equationOf c y)
   pub own : step ≡ true → (j < length (c .moves)) × ((source (getD (c .moves) j 0) ≡ s) × (action (getD (c .moves) j 0) ≡ equationOf c y .first))
 
--- y is a variable that leans on others, and `easy` says whether it is easy.
-pub record Leans (c : Scene) (easy : Bool) (y : ℕ) : Type 0 where
-  pub variable : y < c .sizes .variables
-  pub uses : 4 ≤ equationOf c y .operator
-  pub told : easy ≡ eqb (easyBit (equationOf c y)) 1
+-- What the word of an operand holds: its variable, 1,024 times the variable, and where the variable's pairs begin.
+abbrev pub ownerOf : ℕ → ℕ
+ownerOf o = o / 67108864 % 64
+
+abbrev pub waitsOf : ℕ → ℕ
+waitsOf o = o / 65536 % 65536
+
+abbrev pub rowOf : ℕ → ℕ
+rowOf o = o / 4294967296 % 65536
+
+-- What a visit takes from the word: its variable leans on others, the word holds the variable's places, and `asks` says whether the
+-- operands are to be asked, as those of an easy variable are while settling.
+pub record Leans (c : Scene) (ph asks : Bool) (o : ℕ) : Type 0 where
+  pub variable : ownerOf o < c .sizes .variables
+  pub uses : 4 ≤ equationOf c (ownerOf o) .operator
+  pub told : asks ≡ (ph && eqb (easyBit (equationOf c (ownerOf o))) 1)
+  pub row : rowOf o ≡ ownerOf o * c .sizes .states
+  pub waits : waitsOf o ≡ 1024 * ownerOf o
 
 -- y is a diamond or a box, and the head is that of the chain of the moves by its action into some state.
 pub record HeadOf (c : Scene) (y head : ℕ) : Type 0 where
@@ -151,9 +159,9 @@ pub record HeadOf (c : Scene) (y head : ℕ) : Type 0 where
 
 -- The word of an operand: it is that of a slot of the variable that it holds, which leans on others.
 pub record OperandOf (c : Scene) (o : ℕ) : Type 0 where
-  pub variable : o / 256 / 256 / 256 < c .sizes .variables
-  pub uses : 4 ≤ equationOf c (o / 256 / 256 / 256) .operator
-  pub word : o ≡ slotWord (equationOf c (o / 256 / 256 / 256)) (o / 256 / 256 / 256) (o % 256)
+  pub variable : ownerOf o < c .sizes .variables
+  pub uses : 4 ≤ equationOf c (ownerOf o) .operator
+  pub word : o ≡ slotWord (c .sizes) (equationOf c (ownerOf o)) (ownerOf o) (o % 256)
 
 -- A run of visits of the pairs in a list stays inside numbers of 32 bits.
 abbrev pub Bounded : ℕ → ℕ → List ℕ → Type 0

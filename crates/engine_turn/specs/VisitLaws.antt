@@ -12,7 +12,7 @@ use Rattle.systems.specs.Machine.{free, nextMark}
 use Rattle.rules.specs.Moves.{target}
 use Rattle.words.specs.Table.{ReadsAs, pairIn, waitingOf}
 use Rattle.words.specs.Part.{ownMoves}
-use Rattle.engine_turn.specs.Scene.{Scene, equationOf, hasFrom, fails, asksFor, Line, lineOf, waited, passed, visitOne, visitAll, Leaning, Room}
+use Rattle.engine_turn.specs.Scene.{Scene, equationOf, hasFrom, fails, asksFor, Line, lineOf, waited, passed, visitOne, visitAll, ownerOf, waitsOf, rowOf, Leaner, Leans, Room}
 
 module _ (c : Scene) where
   -- What an easy join and an easy step ask, by the numbers read out of the variable's word.
@@ -25,19 +25,25 @@ module _ (c : Scene) where
     unfolding fails
     fails-step h = rw (sym (r .is-operator), sym (r .is-first), sym (r .is-second), ltb-no o 6 .1 h) refl
 
-  module _ (ph easy : Bool) (y s : ℕ) (l : Leaning c easy y s) where
-    -- A pair without the value must not turn; one with it must, unless it is easy and some operand has the value.
-    pub asks-not : hasFrom c y s ≡ false → false ≡ asksFor c ph y s
-    unfolding asksFor
-    asks-not e = rw e refl
+  -- A pair without the value must not turn; one with it must, unless its operands are to be asked and one has the value.
+  pub asks-not : (ph : Bool) (y s : ℕ) → hasFrom c y s ≡ false → false ≡ asksFor c ph y s
+  unfolding asksFor
+  asks-not ph y s e = rw e refl
 
-    pub asks-hard : hasFrom c y s ≡ true → (ph && easy) ≡ false → true ≡ asksFor c ph y s
-    unfolding asksFor
-    asks-hard e f = let g = ap (λ (b : Bool). ph && b) (sym (l .told)) ∙ f in rw (e, g) refl
+  pub asks-by : (ph asks : Bool) (o s : ℕ) → Leans c ph asks o → hasFrom c (ownerOf o) s ≡ true → cond asks (fails c (ownerOf o) s) true ≡ asksFor c ph (ownerOf o) s
+  unfolding asksFor
+  asks-by ph asks o s l e = rw (l .told, e) refl
 
-    pub asks-easy : hasFrom c y s ≡ true → (ph && easy) ≡ true → fails c y s ≡ asksFor c ph y s
-    unfolding asksFor
-    asks-easy e f = let g = ap (λ (b : Bool). ph && b) (sym (l .told)) ∙ f in rw (e, g) refl
+  -- The pair of the operand's variable at s, its place and how it waits, as the word says them.
+  module _ {ph asks : Bool} {o : ℕ} (l : Leans c ph asks o) (s : ℕ) where
+    pub leaner-of : s < c .sizes .states → Leaner c (ownerOf o) s
+    leaner-of h = record { variable = l .variable; state = h; uses = l .uses }
+
+    pub pair-is : (p : ℕ) → p ≡ rowOf o + s → p ≡ pairIn (c .sizes) (ownerOf o) s
+    pair-is p e = let r = l .row in omega arith
+
+    pub waits-is : (w : ℕ) → w ≡ waitsOf o + s → w ≡ waitingOf (ownerOf o) s
+    waits-is w e = let r = l .waits in omega arith
 
   -- The visit of the pair of y and s, by what code finds: the place p of the pair, its mark, whether that leaves it free, and whether
   -- the pair must turn.

@@ -4,7 +4,7 @@ use rules::Sizes;
 use rules::State;
 use rules::Variable;
 ghost use mathlib.Core.Path.{_≡_};
-ghost use mathlib.Core.Bool.{true};
+ghost use mathlib.Core.Bool.{true, cond};
 ghost use mathlib.Core.List.{[], _∷_};
 ghost use Prim.Native.Nat.{_+_, _*_, _/_, _%_, _≤_, _<_};
 ghost use lib.ListN.{length, getD};
@@ -20,7 +20,7 @@ ghost use Rattle.engine_rows.specs.Rooms.{Bits, Packed};
 ghost use Rattle.engine_index.specs.Indexed.{headsOf, Indexed};
 ghost use Rattle.engine_index.specs.Operands.{Named};
 ghost use Rattle.engine_turn.specs.Turns.{Sketched, FromValue, roundOf, RoomFor, Turned};
-ghost use Rattle.engine_turn.specs.Scene.{sceneOf, Standing, hasFrom, fails, asksFor, lineOf, visitAll, Leaner, Leaning, Along, Leans, HeadOf, OperandOf, Bounded, Room, sourcesIn, pairsBy, leanersIn, sketch};
+ghost use Rattle.engine_turn.specs.Scene.{sceneOf, Standing, fails, lineOf, visitAll, ownerOf, waitsOf, rowOf, Leaner, Along, Leans, HeadOf, OperandOf, Bounded, Room, sourcesIn, pairsBy, leanersIn, sketch};
 
 // Where a run of visits stands: the end of the queue, and the number of visits so far.
 pub struct Spread {
@@ -73,34 +73,72 @@ fn easy_fails(
     !engine_own::leads_from(sizes, moves, values, from, Variable(e.second), j)
 }
 
-// Must the pair of y and s, which has the value `from`, turn where one that it leans on has turned?
+// What the word of an operand holds: its variable,
+fn owner_of(o: u64) -> Variable
+    ensures { λ r. ⌜ r .0 ≡ ownerOf o ⌝ }
+{
+    Variable((o / 67108864 % 64) as u8)
+}
+
+// the place of the variable's pair at s,
+fn pair_of(o: u64, s: State) -> usize
+    ensures { λ r. ⌜ r ≡ rowOf o + s .0 ⌝ }
+{
+    (o / 4294967296 % 65536) as usize + s.0 as usize
+}
+
+// that pair as it waits,
+fn waiting_of(o: u64, s: State) -> u16
+    requires { ⌜ waitsOf o + s .0 < 65536 ⌝ }
+    ensures { λ r. ⌜ r ≡ waitsOf o + s .0 ⌝ }
+{
+    (o / 65536 % 65536) as u16 + s.0
+}
+
+// and the head of the chain of the moves by its action into s.
+fn head_of(o: u64, s: State) -> usize
+    ensures { λ r. ⌜ r ≡ o / 281474976710656 + s .0 ⌝ }
+{
+    (o / 281474976710656) as usize + s.0 as usize
+}
+
+// Must the pair at s of the operand's variable, which has the value `from`, turn where one that it leans on has turned? Its operands
+// are looked at where that is asked.
 fn must_turn(
     sizes: Sizes,
     equations: &[u32],
     moves: &[u32],
     values: &[u8],
-    settling: bool,
     from: u8,
-    easy: bool,
+    asks: bool,
     step: bool,
-    y: Variable,
+    o: u64,
     s: State,
     j: usize,
 ) -> bool
     requires { ⌜ Standing (sceneOf sizes (now equations) (now moves) (now values) from) ⌝ }
-    requires { ⌜ Leaning (sceneOf sizes (now equations) (now moves) (now values) from) easy (y .0) (s .0) ⌝ }
-    requires { ⌜ Along (sceneOf sizes (now equations) (now moves) (now values) from) step (y .0) (s .0) j ⌝ }
-    requires { ⌜ hasFrom (sceneOf sizes (now equations) (now moves) (now values) from) (y .0) (s .0) ≡ true ⌝ }
-    ensures { λ r. ⌜ r ≡ asksFor (sceneOf sizes (now (equations .entry)) (now (moves .entry)) (now (values .entry)) from) settling (y .0) (s .0) ⌝ }
+    requires { ⌜ Leaner (sceneOf sizes (now equations) (now moves) (now values) from) (ownerOf o) (s .0) ⌝ }
+    requires { ⌜ Along (sceneOf sizes (now equations) (now moves) (now values) from) step (ownerOf o) (s .0) j ⌝ }
+    ensures { λ r. ⌜ r ≡ cond asks (fails (sceneOf sizes (now (equations .entry)) (now (moves .entry)) (now (values .entry)) from) (ownerOf o) (s .0)) true ⌝ }
 {
-    if settling & easy {
-        return easy_fails(sizes, equations, moves, values, from, step, y, s, j);
+    if asks {
+        return easy_fails(
+            sizes,
+            equations,
+            moves,
+            values,
+            from,
+            step,
+            owner_of(o),
+            s,
+            j,
+        );
     }
     true
 }
 
-// The pair of y and s is visited: it waits if its mark leaves it free and it must turn. A visit to a diamond or a box, which `step`
-// says, comes along its move j.
+// The pair at s of the operand's variable is visited: it waits if its mark leaves it free and it must turn. A visit to a diamond or a
+// box, which `step` says, comes along its move j.
 fn visit(
     sizes: Sizes,
     equations: &[u32],
@@ -111,42 +149,30 @@ fn visit(
     at: Spread,
     settling: bool,
     from: u8,
-    easy: bool,
+    asks: bool,
     step: bool,
-    y: Variable,
+    o: u64,
     s: State,
     j: usize,
 ) -> Spread
     requires { ⌜ Standing (sceneOf sizes (now equations) (now moves) (now values) from) ⌝ }
-    requires { ⌜ Leaning (sceneOf sizes (now equations) (now moves) (now values) from) easy (y .0) (s .0) ⌝ }
+    requires { ⌜ Leans (sceneOf sizes (now equations) (now moves) (now values) from) settling asks o × (s .0 < sizes .states) ⌝ }
     requires { ⌜ (length (now marks) ≡ pairsOf sizes) × ((at .tail < 4294967296) × (at .visits < 4294967296)) ⌝ }
-    requires { ⌜ Along (sceneOf sizes (now equations) (now moves) (now values) from) step (y .0) (s .0) j ⌝ }
-    requires { ⌜ Room (sceneOf sizes (now equations) (now moves) (now values) from) settling (waitingOf (y .0) (s .0) ∷ []) (lineOf (now marks) (now queue) (at .tail) (at .visits)) ⌝ }
+    requires { ⌜ Along (sceneOf sizes (now equations) (now moves) (now values) from) step (ownerOf o) (s .0) j ⌝ }
+    requires { ⌜ Room (sceneOf sizes (now equations) (now moves) (now values) from) settling (waitingOf (ownerOf o) (s .0) ∷ []) (lineOf (now marks) (now queue) (at .tail) (at .visits)) ⌝ }
     ensures { λ r. ⌜ lineOf (now (marks .exit)) (now (queue .exit)) (r .tail) (r .visits)
-        ≡ visitAll (sceneOf sizes (now (equations .entry)) (now (moves .entry)) (now (values .entry)) from) settling (waitingOf (y .0) (s .0) ∷ [])
+        ≡ visitAll (sceneOf sizes (now (equations .entry)) (now (moves .entry)) (now (values .entry)) from) settling (waitingOf (ownerOf o) (s .0) ∷ [])
         (lineOf (now (marks .entry)) (now (queue .entry)) (at .tail) (at .visits)) ⌝ }
 {
     let tail = at.tail;
     let count = at.visits + 1;
-    let p = limits::pair_of(sizes, s, y);
+    let p = pair_of(o, s);
     if values[p] == from {
         let mark = marks[p];
         if is_free(settling, mark) {
-            if must_turn(
-                sizes,
-                equations,
-                moves,
-                values,
-                settling,
-                from,
-                easy,
-                step,
-                y,
-                s,
-                j,
-            ) {
+            if must_turn(sizes, equations, moves, values, from, asks, step, o, s, j) {
                 marks[p] = next_mark(settling, mark);
-                queue[tail] = words::waiting(y, s);
+                queue[tail] = waiting_of(o, s);
                 let end = tail + 1;
                 return Spread {
                     tail: end,
@@ -161,27 +187,14 @@ fn visit(
     }
 }
 
-// A byte and a number of two bytes as places.
-fn place_in_byte(x: u8) -> usize
-    ensures { λ r. ⌜ (r ≡ x) × (r < 256) ⌝ }
-{
-    x as usize
-}
-
+// A number of two bytes as a place.
 fn place_in_half(x: u16) -> usize
     ensures { λ r. ⌜ (r ≡ x) × (r < 65536) ⌝ }
 {
     x as usize
 }
 
-// The head of the chain of the moves by the action a into s.
-fn head_of(sizes: Sizes, a: u8, s: State) -> usize
-    ensures { λ r. ⌜ r ≡ a * sizes .states + s .0 ⌝ }
-{
-    a as usize * sizes.states as usize + s.0 as usize
-}
-
-// The pairs of y at the sources of the moves in the chain of the head are visited.
+// The pairs of the operand's variable at the sources of the moves in the chain of the head are visited.
 fn visit_sources(
     sizes: Sizes,
     equations: &[u32],
@@ -193,17 +206,17 @@ fn visit_sources(
     at: Spread,
     settling: bool,
     from: u8,
-    easy: bool,
-    y: Variable,
+    asks: bool,
+    o: u64,
     head: usize,
 ) -> Spread
     requires { ⌜ Standing (sceneOf sizes (now equations) (now moves) (now values) from) ⌝ }
     requires { ⌜ Indexed (sketch sizes (now equations) (now moves)) (now index) ⌝ }
-    requires { ⌜ Leans (sceneOf sizes (now equations) (now moves) (now values) from) easy (y .0) × HeadOf (sceneOf sizes (now equations) (now moves) (now values) from) (y .0) head ⌝ }
-    requires { ⌜ (head < headsOf sizes) × ((length (now marks) ≡ pairsOf sizes) × Bounded (at .tail) (at .visits) (sourcesIn sizes (now moves) (y .0) head)) ⌝ }
-    requires { ⌜ Room (sceneOf sizes (now equations) (now moves) (now values) from) settling (sourcesIn sizes (now moves) (y .0) head) (lineOf (now marks) (now queue) (at .tail) (at .visits)) ⌝ }
+    requires { ⌜ Leans (sceneOf sizes (now equations) (now moves) (now values) from) settling asks o × HeadOf (sceneOf sizes (now equations) (now moves) (now values) from) (ownerOf o) head ⌝ }
+    requires { ⌜ (head < headsOf sizes) × ((length (now marks) ≡ pairsOf sizes) × Bounded (at .tail) (at .visits) (sourcesIn sizes (now moves) (ownerOf o) head)) ⌝ }
+    requires { ⌜ Room (sceneOf sizes (now equations) (now moves) (now values) from) settling (sourcesIn sizes (now moves) (ownerOf o) head) (lineOf (now marks) (now queue) (at .tail) (at .visits)) ⌝ }
     ensures { λ r. ⌜ lineOf (now (marks .exit)) (now (queue .exit)) (r .tail) (r .visits)
-        ≡ visitAll (sceneOf sizes (now (equations .entry)) (now (moves .entry)) (now (values .entry)) from) settling (sourcesIn sizes (now (moves .entry)) (y .0) head)
+        ≡ visitAll (sceneOf sizes (now (equations .entry)) (now (moves .entry)) (now (values .entry)) from) settling (sourcesIn sizes (now (moves .entry)) (ownerOf o) head)
         (lineOf (now (marks .entry)) (now (queue .entry)) (at .tail) (at .visits)) ⌝ }
 {
     let links = engine_index::heads_of(sizes);
@@ -222,9 +235,9 @@ fn visit_sources(
             s,
             settling,
             from,
-            easy,
+            asks,
             true,
-            y,
+            o,
             here,
             j,
         );
@@ -245,22 +258,20 @@ fn visit_operand(
     at: Spread,
     settling: bool,
     from: u8,
-    o: u32,
+    o: u64,
     s: State,
 ) -> Spread
     requires { ⌜ Standing (sceneOf sizes (now equations) (now moves) (now values) from) ⌝ }
     requires { ⌜ Indexed (sketch sizes (now equations) (now moves)) (now index) ⌝ }
     requires { ⌜ OperandOf (sceneOf sizes (now equations) (now moves) (now values) from) o ⌝ }
-    requires { ⌜ (s .0 < sizes .states) × ((length (now marks) ≡ pairsOf sizes) × Bounded (at .tail) (at .visits) (pairsBy sizes (now equations) (now moves) (s .0) (o / 256 / 256 / 256))) ⌝ }
-    requires { ⌜ Room (sceneOf sizes (now equations) (now moves) (now values) from) settling (pairsBy sizes (now equations) (now moves) (s .0) (o / 256 / 256 / 256)) (lineOf (now marks) (now queue) (at .tail) (at .visits)) ⌝ }
+    requires { ⌜ (s .0 < sizes .states) × ((length (now marks) ≡ pairsOf sizes) × Bounded (at .tail) (at .visits) (pairsBy sizes (now equations) (now moves) (s .0) (ownerOf o))) ⌝ }
+    requires { ⌜ Room (sceneOf sizes (now equations) (now moves) (now values) from) settling (pairsBy sizes (now equations) (now moves) (s .0) (ownerOf o)) (lineOf (now marks) (now queue) (at .tail) (at .visits)) ⌝ }
     ensures { λ r. ⌜ lineOf (now (marks .exit)) (now (queue .exit)) (r .tail) (r .visits)
-        ≡ visitAll (sceneOf sizes (now (equations .entry)) (now (moves .entry)) (now (values .entry)) from) settling (pairsBy sizes (now (equations .entry)) (now (moves .entry)) (s .0) (o / 256 / 256 / 256))
+        ≡ visitAll (sceneOf sizes (now (equations .entry)) (now (moves .entry)) (now (values .entry)) from) settling (pairsBy sizes (now (equations .entry)) (now (moves .entry)) (s .0) (ownerOf o))
         (lineOf (now (marks .entry)) (now (queue .entry)) (at .tail) (at .visits)) ⌝ }
 {
-    let y = (o / 256 / 256 / 256) as u8;
-    let flags = o / 256 / 256 % 256;
-    let easy = flags / 2 == 1;
-    if flags % 2 == 0 {
+    let asks = settling & (o / 1024 % 2 == 1);
+    if o / 512 % 2 == 0 {
         return visit(
             sizes,
             equations,
@@ -271,14 +282,14 @@ fn visit_operand(
             at,
             settling,
             from,
-            easy,
+            asks,
             false,
-            Variable(y),
+            o,
             s,
             0,
         );
     }
-    let head = head_of(sizes, (o / 256 % 256) as u8, s);
+    let head = head_of(o, s);
     visit_sources(
         sizes,
         equations,
@@ -290,10 +301,22 @@ fn visit_operand(
         at,
         settling,
         from,
-        easy,
-        Variable(y),
+        asks,
+        o,
         head,
     )
+}
+
+// The word of the next operand that names the same variable, and 0 where there is none.
+fn next_operand(operand: &[u64], o: u64) -> u64
+    requires { ⌜ ((o % 256 ≡ 0 → ⊥) → o % 256 < length (now operand)) ⌝ }
+    ensures { λ r. ⌜ r ≡ cond (eqb (o % 256) 0) 0 (getD (now (operand .entry)) (o % 256) 0) ⌝ }
+{
+    let next = (o % 256) as usize;
+    if next == 0 {
+        return 0;
+    }
+    operand[next]
 }
 
 // The pairs that lean on the pair of x and s inside its block are visited.
@@ -302,8 +325,7 @@ fn visit_leaners(
     equations: &[u32],
     moves: &[u32],
     index: &[u16],
-    named: &[u8],
-    operand: &[u32],
+    operand: &[u64],
     values: &[u8],
     marks: &mut [u8],
     queue: &mut [u16],
@@ -315,7 +337,7 @@ fn visit_leaners(
 ) -> Spread
     requires { ⌜ Standing (sceneOf sizes (now equations) (now moves) (now values) from) ⌝ }
     requires { ⌜ Indexed (sketch sizes (now equations) (now moves)) (now index) ⌝ }
-    requires { ⌜ Named (sketch sizes (now equations) (now moves)) (now named) (now operand) ⌝ }
+    requires { ⌜ Named (sketch sizes (now equations) (now moves)) (now operand) ⌝ }
     requires { ⌜ (x .0 < sizes .variables) × ((s .0 < sizes .states) × ((length (now marks) ≡ pairsOf sizes) × Bounded (at .tail) (at .visits) (leanersIn sizes (now equations) (now moves) (x .0) (s .0)))) ⌝ }
     requires { ⌜ Room (sceneOf sizes (now equations) (now moves) (now values) from) settling (leanersIn sizes (now equations) (now moves) (x .0) (s .0)) (lineOf (now marks) (now queue) (at .tail) (at .visits)) ⌝ }
     ensures { λ r. ⌜ lineOf (now (marks .exit)) (now (queue .exit)) (r .tail) (r .visits)
@@ -324,10 +346,8 @@ fn visit_leaners(
 {
     let to = x.0 as usize;
     let mut r = at;
-    let mut k = place_in_byte(named[to]);
-    while 0 < k {
-        let j = k - 1;
-        let o = operand[j];
+    let mut o = operand[to];
+    while 0 < o {
         r = visit_operand(
             sizes,
             equations,
@@ -342,7 +362,7 @@ fn visit_leaners(
             o,
             s,
         );
-        k = (o % 256) as usize;
+        o = next_operand(operand, o);
     }
     r
 }
@@ -353,8 +373,7 @@ pub fn turn(
     equations: &[u32],
     moves: &[u32],
     index: &[u16],
-    named: &[u8],
-    operand: &[u32],
+    operand: &[u64],
     values: &mut [u8],
     marks: &mut [u8],
     queue: &mut [u16],
@@ -365,7 +384,7 @@ pub fn turn(
 ) -> Spread
     requires { ⌜ Sketched sizes (now equations) (now moves) ⌝ }
     requires { ⌜ Indexed (sketch sizes (now equations) (now moves)) (now index) ⌝ }
-    requires { ⌜ Named (sketch sizes (now equations) (now moves)) (now named) (now operand) ⌝ }
+    requires { ⌜ Named (sketch sizes (now equations) (now moves)) (now operand) ⌝ }
     requires { ⌜ (length (now values) ≡ pairsOf sizes) × (length (now marks) ≡ pairsOf sizes) ⌝ }
     requires { ⌜ Bits (now values) × (Packed sizes (now queue) (at .tail) × (front < at .tail)) ⌝ }
     requires { ⌜ FromValue (sketch sizes (now equations) (now moves)) settling (now values) (getD (now queue) front 0) ⌝ }
@@ -386,7 +405,6 @@ pub fn turn(
         equations,
         moves,
         index,
-        named,
         operand,
         values,
         marks,

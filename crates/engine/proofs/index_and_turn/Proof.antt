@@ -11,11 +11,6 @@ use Rattle.engine_index.specs.OperandLaws.{drawn-names}
 use borrow.Author.Needs.{needs}
 use Rattle.engine.proofs.index_and_turn.Statement.{statement}
 use Rattle.engine.proofs.index_and_turn.Tie as tie
-use Rattle.engine.proofs.index_and_turn.Reads as reads
-use Rattle.engine.proofs.index_and_turn.Lts as lts
-use Rattle.engine.proofs.turn_blocks.Reads as turn-blocks-reads
-use Rattle.engine_index.proofs.index_moves.Reads as index-moves-reads
-use Rattle.engine_index.proofs.name_operands.Reads as name-operands-reads
 
 cast-states : tie.Need-cast-states
 cast-states c = search needs
@@ -23,53 +18,39 @@ cast-states c = search needs
 slice-aggregate-name-operands : tie.Need-slice-aggregate-name-operands
 slice-aggregate-name-operands c = search needs
 
-slice-aggregate-name-operands-2 : tie.Need-slice-aggregate-name-operands-2
-slice-aggregate-name-operands-2 c = search needs
-
 name-operands-requires : tie.Need-name-operands-requires
 name-operands-requires c κs =
-    let at-start = c .before .before .before .before .before .before .before .before .before .before .before in
-    let d = at-start .pre .0 in
+    let d = c .before .before .before .before .before .before .before .before .before .before .pre .0 in
     let few = limits d .1 .1 .0 in
     let long = d .long-equations in
-    (drawn-names d, ((omega arith, omega arith), λ i h. zeros-at 32 i))
+    (drawn-names d, (omega arith, λ i h. zeros-at 96 i))
 
 index-moves-requires : tie.Need-index-moves-requires
-index-moves-requires c κs =
-    let at-start = c .before .before .before .before .before .before .before .before .before .before .before .before .before .before .before in
-    (drawn-headed (at-start .pre .0), at-start .pre .1 .1 .1 .0 .0)
+index-moves-requires c κs = (drawn-headed (c .before .before .before .before .before .before .before .before .before .before .before .before .before .pre .0), c .before .before .before .before .before .before .before .before .before .before .before .before .before .pre .1 .1 .1 .0 .0)
 
 slice-aggregate-turn-blocks : tie.Need-slice-aggregate-turn-blocks
 slice-aggregate-turn-blocks c = search needs
 
-slice-aggregate-turn-blocks-2 : tie.Need-slice-aggregate-turn-blocks-2
-slice-aggregate-turn-blocks-2 c = search needs
-
 array-borrow-prefix-bad : tie.Need-array-borrow-prefix-bad
 array-borrow-prefix-bad c =
-    let at-start = c .before .before .before .before .before .before .before .before .before .before .before .before .before .before .before .before .before .before .before .before .before .before .before .before in
-    let few = limits (at-start .pre .0) .0 .1 in
+    let few = limits (c .before .before .before .before .before .before .before .before .before .before .before .before .before .before .before .before .before .before .before .before .before .pre .0) .0 .1 in
     omega arith
 
-slice-aggregate-turn-blocks-3 : tie.Need-slice-aggregate-turn-blocks-3
-slice-aggregate-turn-blocks-3 c =
-    let at-start = c .before .before .before .before .before .before .before .before .before .before .before .before .before .before .before .before .before .before .before .before .before .before .before .before .before in
-    let few = limits (at-start .pre .0) .0 .1 in
-    sym (length-take-le (at-start .args .sizes .states) (replicate 256 0) (omega arith))
+slice-aggregate-turn-blocks-2 : tie.Need-slice-aggregate-turn-blocks-2
+slice-aggregate-turn-blocks-2 c =
+    let few = limits (c .before .before .before .before .before .before .before .before .before .before .before .before .before .before .before .before .before .before .before .before .before .before .pre .0) .0 .1 in
+    sym (length-take-le (c .before .before .before .before .before .before .before .before .before .before .before .before .before .before .before .before .before .before .before .before .before .before .args .sizes .states) (replicate 256 0) (omega arith))
 
 turn-blocks-requires : tie.Need-turn-blocks-requires
 turn-blocks-requires c κs =
-    let at-index = c .before .before .before .before .before .before .before .before .before in
-    let at-names = at-index .before .before .before .before in
-    let at-start = at-names .before .before .before .before .before .before .before .before .before .before .before .before in
-    let a = at-start .args in
+    let a = c .before .before .before .before .before .before .before .before .before .before .before .before .before .before .before .before .before .before .before .before .before .before .args in
     let t = tableIn (a .sizes) (a .labels .now) (a .equations .now) (a .moves .now) in
-    let pre = at-start .pre in
+    let pre = c .before .before .before .before .before .before .before .before .before .before .before .before .before .before .before .before .before .before .before .before .before .before .pre in
     let room = pre .1 .1 .1 in
     let few = limits (pre .0) .0 .1 in (
       pre .0,
       (
-        ((indexed t (a .index .now) _ (drawn-headed (pre .0)) (room .0 .0) (room .0 .1) (at-index .index-moves .ensures), at-names .name-operands .ensures), pre .1 .0),
+        ((indexed t (a .index .now) _ (drawn-headed (pre .0)) (room .0 .0) (room .0 .1) (c .before .before .before .before .before .before .before .before .index-moves .ensures), c .before .before .before .before .before .before .before .before .before .before .before .name-operands .ensures), pre .1 .0),
         ((length-take-le (a .sizes .states) (replicate 256 0) (omega arith), room .1), pre .1 .1 .0),
       ),
     )
@@ -95,13 +76,11 @@ index-and-turn-spec =
     (tie.spec
     cast-states
     slice-aggregate-name-operands
-    slice-aggregate-name-operands-2
     name-operands-requires
     index-moves-requires
     slice-aggregate-turn-blocks
-    slice-aggregate-turn-blocks-2
     array-borrow-prefix-bad
-    slice-aggregate-turn-blocks-3
+    slice-aggregate-turn-blocks-2
     turn-blocks-requires
     same-length
     same-length-2

@@ -21,21 +21,28 @@ use Rattle.engine_phase.proofs.phase.Reads as phase-reads
 use Rattle.engine_values.proofs.count_blocks.Reads as count-blocks-reads
 
 abbrev Inv-loop : tie.InvT-loop
-Inv-loop sizes labels equations moves index named operand changes values₀ marks₀ queue₀ bad₀ blocks shifts₀ settles₀ level₀ i₀ values marks queue bad shifts settles level i =
+Inv-loop sizes labels equations moves index operand changes values₀ marks₀ queue₀ bad₀ blocks shifts₀ settles₀ level₀ i₀ values marks queue bad shifts settles level i =
     ((i ≤ blocksOf (modelOf (tableIn sizes labels equations moves))) × ((length values ≡ length values₀) × ((length marks ≡ length marks₀) × ((length queue ≡ length queue₀) × (length bad ≡ length bad₀)))))
     × (On (tableIn sizes labels equations moves) (changesOf changes) values₀ (jobIn sizes i false 0 values marks queue 0 0 shifts settles)
     × Levelled sizes (pairsOf sizes) values₀ level values)
 
 abbrev μ-loop : tie.MeasureT-loop
-μ-loop sizes labels equations moves index named operand changes values₀ marks₀ queue₀ bad₀ blocks shifts₀ settles₀ level₀ i₀ values marks queue bad shifts settles level i =
+μ-loop sizes labels equations moves index operand changes values₀ marks₀ queue₀ bad₀ blocks shifts₀ settles₀ level₀ i₀ values marks queue bad shifts settles level i =
     blocksOf (modelOf (tableIn sizes labels equations moves)) - i
+
+-- The points of the program: from what is known at a later one to what was known at an earlier one.
+abbrev start-before-blocks : tie.After-count-blocks Inv-loop μ-loop → tie.Start Inv-loop μ-loop
+start-before-blocks c = c .before .before .before .before .before .before .before .before .before .before .before
+
+abbrev phase-before-second : tie.After-phase2 Inv-loop μ-loop → tie.After-phase Inv-loop μ-loop
+phase-before-second c = c .before .before .before .before .before .before .before .before .before .before .before .before .before
 
 count-blocks-requires : tie.Need-count-blocks-requires Inv-loop μ-loop
 count-blocks-requires c κs = search needs
 
 loop-holds : tie.Need-loop-holds Inv-loop μ-loop
 loop-holds c =
-    let at-start = c .before .before .before .before .before .before .before .before .before .before .before .before in
+    let at-start = start-before-blocks c in
     let a = at-start .args in
     let t = tableIn (a .sizes) (a .labels .now) (a .equations .now) (a .moves .now) in
     let pre = at-start .pre in
@@ -52,7 +59,7 @@ phase-requires : tie.Need-phase-requires Inv-loop μ-loop
 phase-requires c κs =
     let at-loop = c .before .before .before .before .before in
     let at-blocks = at-loop .before in
-    let at-start = at-blocks .before .before .before .before .before .before .before .before .before .before .before .before in
+    let at-start = start-before-blocks at-blocks in
     let pre = at-start .pre in
     let l = at-loop .loop in
     let inv = l .inv in
@@ -64,7 +71,7 @@ phase-requires-2 : tie.Need-phase-requires-2 Inv-loop μ-loop
 phase-requires-2 c κs =
     let at-loop = c .before .before .before .before .before .before .before .before .before .before .before .before .before .before .before .before .before .before in
     let at-blocks = at-loop .before in
-    let at-start = at-blocks .before .before .before .before .before .before .before .before .before .before .before .before in
+    let at-start = start-before-blocks at-blocks in
     let pre = at-start .pre in
     let l = at-loop .loop in
     let inv = l .inv in
@@ -77,11 +84,11 @@ phase-requires-2 c κs =
       (
         pre .1 .0,
         (
-          (omega arith, (kept .1 .1 .1 .1 .1 .1 .1 .1 .1 .1 .1 .0 ∙ inv .0 .1 .1 .1 .1 ∙ pre .1 .1 .0 .0, omega (arith, kept .1 .1 .1 .1 .1 .1 .1 .1 .1 .1 .0, inv .0 .1 .1 .1 .0, pre .1 .1 .0 .1))),
+          (omega arith, (kept .1 .1 .1 .1 .1 .1 .1 .1 .1 .1 .0 ∙ inv .0 .1 .1 .1 .1 ∙ pre .1 .1 .0 .0, omega (arith, kept .1 .1 .1 .1 .1 .1 .1 .1 .1 .0, inv .0 .1 .1 .1 .0, pre .1 .1 .0 .1))),
           (
             record { start = at-start .args .values .now; index = first .result .visits; on = first .ensures .0 (at-start .args .values .now) (l .settles) (inv .1 .0) },
-            level-of (at-start .args .sizes) (first .result .level) (at-start .args .values .now) (first .last .1 .1 .1 .1 .1 .1 .1 .1 .0)
-                (levelled-on (at-start .args .sizes) (pairsOf (at-start .args .sizes)) (l .level) (first .result .level) (at-start .args .values .now) (l .values) (first .last .1 .1 .1 .1 .1 .1 .1 .1 .0) (inv .1 .1) (first .ensures .1)),
+            level-of (at-start .args .sizes) (first .result .level) (at-start .args .values .now) (first .last .1 .1 .1 .1 .1 .1 .1 .0)
+                (levelled-on (at-start .args .sizes) (pairsOf (at-start .args .sizes)) (l .level) (first .result .level) (at-start .args .values .now) (l .values) (first .last .1 .1 .1 .1 .1 .1 .1 .0) (inv .1 .1) (first .ensures .1)),
           ),
         ),
       ),
@@ -90,7 +97,7 @@ phase-requires-2 c κs =
 add-i : tie.Need-add-i Inv-loop μ-loop
 add-i c =
     let at-second = c .before .before .before .before .before .before .before .before in
-    let at-phase = at-second .before .before .before .before .before .before .before .before .before .before .before .before .before in
+    let at-phase = phase-before-second at-second in
     let at-test = at-phase .before .before .before .before .before in
     omega (arith, at-test .loop-test .taken)
 
@@ -98,12 +105,12 @@ loop-less : tie.Need-loop-less Inv-loop μ-loop
 loop-less c =
     let at-loop = c .before .before .before .before .before .before .before .before .before .before .before .before .before .before .before .before .before .before .before .before .before .before .before .before .before .before .before in
     let at-blocks = at-loop .before in
-    let at-start = at-blocks .before .before .before .before .before .before .before .before .before .before .before .before in
+    let at-start = start-before-blocks at-blocks in
     let pre = at-start .pre in
     let l = at-loop .loop in
     let inv = l .inv in
     let at-second = c .before .before .before .before .before .before .before .before in
-    let at-phase = at-second .before .before .before .before .before .before .before .before .before .before .before .before .before in
+    let at-phase = phase-before-second at-second in
     let taken = at-phase .before .before .before .before .before .loop-test .taken in
     let count = at-blocks .count-blocks .ensures in
     omega arith
@@ -112,22 +119,22 @@ loop-again : tie.Need-loop-again Inv-loop μ-loop
 loop-again c =
     let at-loop = c .before .before .before .before .before .before .before .before .before .before .before .before .before .before .before .before .before .before .before .before .before .before .before .before .before .before .before in
     let at-blocks = at-loop .before in
-    let at-start = at-blocks .before .before .before .before .before .before .before .before .before .before .before .before in
+    let at-start = start-before-blocks at-blocks in
     let pre = at-start .pre in
     let l = at-loop .loop in
     let inv = l .inv in
     let at-second = c .before .before .before .before .before .before .before .before in
-    let at-phase = at-second .before .before .before .before .before .before .before .before .before .before .before .before .before in
+    let at-phase = phase-before-second at-second in
     let taken = at-phase .before .before .before .before .before .loop-test .taken in
     let count = at-blocks .count-blocks .ensures in
     let first = at-phase .phase in
     let second = at-second .phase2 in
     let a = at-start .args in (
-      (omega arith, (second .kept .1 .1 .1 .1 .1 .1 .1 .1 .0 ∙ first .kept .1 .1 .1 .1 .1 .1 .1 .1 .0 ∙ inv .0 .1 .0, (second .kept .1 .1 .1 .1 .1 .1 .1 .1 .1 .0 ∙ first .kept .1 .1 .1 .1 .1 .1 .1 .1 .1 .0 ∙ inv .0 .1 .1 .0, (second .kept .1 .1 .1 .1 .1 .1 .1 .1 .1 .1 .0 ∙ first .kept .1 .1 .1 .1 .1 .1 .1 .1 .1 .1 .0 ∙ inv .0 .1 .1 .1 .0, second .kept .1 .1 .1 .1 .1 .1 .1 .1 .1 .1 .1 .0 ∙ first .kept .1 .1 .1 .1 .1 .1 .1 .1 .1 .1 .1 .0 ∙ inv .0 .1 .1 .1 .1)))),
+      (omega arith, (second .kept .1 .1 .1 .1 .1 .1 .1 .0 ∙ first .kept .1 .1 .1 .1 .1 .1 .1 .0 ∙ inv .0 .1 .0, (second .kept .1 .1 .1 .1 .1 .1 .1 .1 .0 ∙ first .kept .1 .1 .1 .1 .1 .1 .1 .1 .0 ∙ inv .0 .1 .1 .0, (second .kept .1 .1 .1 .1 .1 .1 .1 .1 .1 .0 ∙ first .kept .1 .1 .1 .1 .1 .1 .1 .1 .1 .0 ∙ inv .0 .1 .1 .1 .0, second .kept .1 .1 .1 .1 .1 .1 .1 .1 .1 .1 .0 ∙ first .kept .1 .1 .1 .1 .1 .1 .1 .1 .1 .1 .0 ∙ inv .0 .1 .1 .1 .1)))),
       (
         second .ensures .0 (a .values .now) (first .result .visits) (first .ensures .0 (a .values .now) (l .settles) (inv .1 .0)),
-        levelled-on (a .sizes) (pairsOf (a .sizes)) (first .result .level) (second .result .level) (a .values .now) (first .last .1 .1 .1 .1 .1 .1 .1 .1 .0) (second .last .1 .1 .1 .1 .1 .1 .1 .1 .0)
-            (levelled-on (a .sizes) (pairsOf (a .sizes)) (l .level) (first .result .level) (a .values .now) (l .values) (first .last .1 .1 .1 .1 .1 .1 .1 .1 .0) (inv .1 .1) (first .ensures .1)) (second .ensures .1),
+        levelled-on (a .sizes) (pairsOf (a .sizes)) (first .result .level) (second .result .level) (a .values .now) (first .last .1 .1 .1 .1 .1 .1 .1 .0) (second .last .1 .1 .1 .1 .1 .1 .1 .0)
+            (levelled-on (a .sizes) (pairsOf (a .sizes)) (l .level) (first .result .level) (a .values .now) (l .values) (first .last .1 .1 .1 .1 .1 .1 .1 .0) (inv .1 .1) (first .ensures .1)) (second .ensures .1),
       ),
     )
 
@@ -135,7 +142,7 @@ cast-shift : tie.Need-cast-shift Inv-loop μ-loop
 cast-shift c =
     let at-loop = c .before in
     let at-blocks = at-loop .before in
-    let at-start = at-blocks .before .before .before .before .before .before .before .before .before .before .before .before in
+    let at-start = start-before-blocks at-blocks in
     let pre = at-start .pre in
     let l = at-loop .loop in
     let inv = l .inv in
@@ -146,7 +153,7 @@ cast-settle : tie.Need-cast-settle Inv-loop μ-loop
 cast-settle c =
     let at-loop = c .before in
     let at-blocks = at-loop .before in
-    let at-start = at-blocks .before .before .before .before .before .before .before .before .before .before .before .before in
+    let at-start = start-before-blocks at-blocks in
     let pre = at-start .pre in
     let l = at-loop .loop in
     let inv = l .inv in
@@ -169,7 +176,7 @@ returns : tie.Need-returns Inv-loop μ-loop
 returns c =
     let at-loop = c .before in
     let at-blocks = at-loop .before in
-    let at-start = at-blocks .before .before .before .before .before .before .before .before .before .before .before .before in
+    let at-start = start-before-blocks at-blocks in
     let pre = at-start .pre in
     let l = at-loop .loop in
     let inv = l .inv in

@@ -8,17 +8,14 @@ use borrow.Author.Needs.{needs}
 use Rattle.engine_index.proofs.put_operands.Statement.{statement}
 use Rattle.engine_index.proofs.put_operands.Tie as tie
 
-mul-w : tie.Need-mul-w
-mul-w c = search needs
+mul-equation-in : tie.Need-mul-equation-in
+mul-equation-in c = search needs
 
-shared-slice-read-w : tie.Need-shared-slice-read-w
-shared-slice-read-w c = search needs
+shared-slice-read-equation-in : tie.Need-shared-slice-read-equation-in
+shared-slice-read-equation-in c = search needs
 
 equation-in-requires : tie.Need-equation-in-requires
 equation-in-requires c κs = search needs
-
-slot-word-requires : tie.Need-slot-word-requires
-slot-word-requires c κs = search needs
 
 cast-first : tie.Need-cast-first
 cast-first c = search needs
@@ -31,66 +28,47 @@ mul-put-operand c = search needs
 
 put-operand-requires : tie.Need-put-operand-requires
 put-operand-requires c κs =
-    let at-start = c .before .before .before .before .before .before .before .before .before .before .before .before in
-    let at-equation-in = c .before .before .before .before .before .before .before in
-    let at-slot-word = c .before .before .before .before .before .before in
-    let s = at-start .pre in
-    let a = at-start .args in
-    let e = at-equation-in .equation-in .result in
-    let r = at-equation-in .equation-in .ensures in
-    let w = at-slot-word .slot-word in
-    let slot = second-slot (a .equations .now) (a .y) (e .operator) (e .first) (e .second) (e .block) (e .kind) (w .result) r (s .1 .0) (w .ensures) in
+    let s = c .before .before .before .before .before .before .before .before .before .pre in
+    let a = c .before .before .before .before .before .before .before .before .before .args in
+    let e = c .before .before .before .before .before .equation-in .result in
+    let slot = second-slot (a .equations .now) (a .y) (e .operator) (e .first) (e .second) (e .block) (e .kind) (c .before .before .before .before .before .equation-in .ensures) (s .1 .0) in
     (s .0, (slot, s .1 .1))
 
 mul-put-operand-2 : tie.Need-mul-put-operand-2
 mul-put-operand-2 c =
-    let at-start = c .before .before .before .before .before .before .before .before .before .before .before .before .before .before .before .before .before in
-    let f = at-start .pre .0 .few in
-    let l = at-start .pre .1 .0 in
+    let f = c .before .before .before .before .before .before .before .before .before .before .before .before .pre .0 .few in
+    let l = c .before .before .before .before .before .before .before .before .before .before .before .before .pre .1 .0 in
     omega arith
 
 add-put-operand : tie.Need-add-put-operand
 add-put-operand c =
-    let at-start = c .before .before .before .before .before .before .before .before .before .before .before .before .before .before .before .before .before in
-    let f = at-start .pre .0 .few in
-    let l = at-start .pre .1 .0 in
+    let f = c .before .before .before .before .before .before .before .before .before .before .before .before .pre .0 .few in
+    let l = c .before .before .before .before .before .before .before .before .before .before .before .before .pre .1 .0 in
     omega arith
 
 put-operand-requires-2 : tie.Need-put-operand-requires-2
 put-operand-requires-2 c κs =
-    let at-start = c .before .before .before .before .before .before .before .before .before .before .before .before .before .before .before .before .before .before .before in
-    let at-equation-in = c .before .before .before .before .before .before .before .before .before .before .before .before .before .before in
-    let at-slot-word = c .before .before .before .before .before .before .before .before .before .before .before .before .before in
-    let at-put-operand = c .before .before .before .before .before .before in
-    let s = at-start .pre in
-    let a = at-start .args in
-    let e = at-equation-in .equation-in .result in
-    let r = at-equation-in .equation-in .ensures in
-    let w = at-slot-word .slot-word in
-    let slot = first-slot (a .equations .now) (a .y) (e .operator) (e .first) (e .second) (e .block) (e .kind) (w .result) r (s .1 .0) (w .ensures) in
-    (s .0, (slot, named-same (a .equations .now) (sym (add-one (2 * a .y))) (at-put-operand .put-operand .ensures)))
+    let s = c .before .before .before .before .before .before .before .before .before .before .before .before .before .pre in
+    let a = c .before .before .before .before .before .before .before .before .before .before .before .before .before .args in
+    let e = c .before .before .before .before .before .before .before .before .before .equation-in .result in
+    let slot = first-slot (a .equations .now) (a .y) (e .operator) (e .first) (e .second) (e .block) (e .kind) (c .before .before .before .before .before .before .before .before .before .equation-in .ensures) (s .1 .0) in
+    (s .0, (slot, named-same (a .sizes) (a .equations .now) (sym (add-one (2 * a .y))) (c .before .before .before .put-operand .ensures)))
 
 same-length : tie.Need-same-length
 same-length c = search needs
 
-same-length-2 : tie.Need-same-length-2
-same-length-2 c = search needs
-
 returns : tie.Need-returns
 returns c =
-    let at-start = c .before .before .before .before .before .before .before .before .before .before .before .before .before .before .before .before .before .before .before .before .before .before .before .before in
-    let at-put-operand2 = c .before .before .before .before in
-    let a = at-start .args in
-    named-same (a .equations .now) (ap suc (add-one (2 * a .y))) (at-put-operand2 .put-operand2 .ensures)
+    let a = c .before .before .before .before .before .before .before .before .before .before .before .before .before .before .before .before .args in
+    named-same (a .sizes) (a .equations .now) (ap suc (add-one (2 * a .y))) (c .before .before .put-operand2 .ensures)
 
 pub put-operands-spec : {M : Type 1} → statement M
 put-operands-spec =
     tie.close
     (tie.spec
-    mul-w
-    shared-slice-read-w
+    mul-equation-in
+    shared-slice-read-equation-in
     equation-in-requires
-    slot-word-requires
     cast-first
     cast-second
     mul-put-operand
@@ -99,5 +77,4 @@ put-operands-spec =
     add-put-operand
     put-operand-requires-2
     same-length
-    same-length-2
     returns)

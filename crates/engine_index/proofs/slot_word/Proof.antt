@@ -1,6 +1,9 @@
 -- By the operator. Assumes nothing.
-use mathlib.Core.Path.{sym}
+use mathlib.Core.Path.{sym, _∙_, ap}
+use mathlib.Core.Bool.{not}
+use Prim.Native.Nat.{ℕ}
 use native.Mathlib.Omega.{arith}
+use lib.Dec.{ltb}
 use Rattle.lists.specs.Tests.{ltb-in, ltb-no}
 use Rattle.engine_index.specs.Operands.{slotWord}
 use borrow.Author.Needs.{needs}
@@ -19,32 +22,47 @@ cast-easy-2 c = search needs
 add-easy : tie.Need-add-easy
 add-easy c = search needs
 
-cast-word : tie.Need-cast-word
-cast-word c = search needs
+begins-requires : tie.Need-begins-requires
+begins-requires c κs = search needs
 
 mul-word : tie.Need-mul-word
 mul-word c = search needs
 
+add-word : tie.Need-add-word
+add-word c = search needs
+
 mul-word-2 : tie.Need-mul-word-2
 mul-word-2 c = search needs
 
-add-word : tie.Need-add-word
-add-word c = search needs
+add-word-2 : tie.Need-add-word-2
+add-word-2 c = search needs
+
+mul-word-3 : tie.Need-mul-word-3
+mul-word-3 c = search needs
+
+add-word-3 : tie.Need-add-word-3
+add-word-3 c = search needs
 
 returns : tie.Need-returns
 unfolding slotWord
 returns c =
-    let at-equation-in = c .before .before .before .before in
-    let at-if1 = c in
-    let e = at-equation-in .equation-in .ensures in
-    let l = ltb-in _ 6 (at-if1 .if1 .taken) in
+    let e = c .before .before .before .before .before .equation-in .ensures in
+    let l = ltb-in _ 6 (c .if1 .taken) in
+    let r = c .before .before .begins .ensures .0 in
     rw (sym (e .is-operator), sym (e .is-kind), l) (omega arith)
 
 add-result : tie.Need-add-result
 add-result c = search needs
 
-cast-result : tie.Need-cast-result
-cast-result c = search needs
+cast-begins : tie.Need-cast-begins
+cast-begins c = search needs
+
+begins-requires-2 : tie.Need-begins-requires-2
+begins-requires-2 c κs =
+    let e = c .before .before .before .before .before .before .equation-in .ensures in
+    let step = c .before .before .before .before .before .before .before .pre .1 (ap not (ap (λ (o : ℕ). ltb o 6) (sym (e .is-operator)) ∙ ltb-no _ 6 .1 (c .before .if1 .left))) in
+    let f = e .is-first in
+    (omega arith, c .before .before .before .before .before .before .before .pre .0 .1)
 
 mul-result : tie.Need-mul-result
 mul-result c = search needs
@@ -55,10 +73,10 @@ add-result-2 c = search needs
 returns-2 : tie.Need-returns-2
 unfolding slotWord
 returns-2 c =
-    let at-equation-in = c .before .before .before .before .before in
-    let at-if1 = c .before in
-    let e = at-equation-in .equation-in .ensures in
-    let l = ltb-no _ 6 .1 (at-if1 .if1 .left) in
+    let e = c .before .before .before .before .before .before .before .equation-in .ensures in
+    let l = ltb-no _ 6 .1 (c .before .before .if1 .left) in
+    let r = c .before .before .before .before .begins .ensures .0 in
+    let h = c .begins2 .ensures .0 in
     rw (sym (e .is-operator), sym (e .is-kind), sym (e .is-first), l) (omega arith)
 
 pub slot-word-spec : {M : Type 1} → statement M
@@ -69,13 +87,17 @@ slot-word-spec =
     cast-easy
     cast-easy-2
     add-easy
-    cast-word
+    begins-requires
     mul-word
-    mul-word-2
     add-word
+    mul-word-2
+    add-word-2
+    mul-word-3
+    add-word-3
     returns
     add-result
-    cast-result
+    cast-begins
+    begins-requires-2
     mul-result
     add-result-2
     returns-2)

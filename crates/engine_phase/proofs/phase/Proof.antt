@@ -16,17 +16,17 @@ use Rattle.engine_phase.proofs.phase.Statement.{statement}
 use Rattle.engine_phase.proofs.phase.Tie as tie
 
 abbrev Inv-loop : tie.InvT-loop
-Inv-loop sizes labels equations moves index named operand changes values₀ marks₀ queue₀ bad block visits level settling tail from at₀ front₀ values marks queue at front =
+Inv-loop sizes labels equations moves index operand changes values₀ marks₀ queue₀ bad block visits level settling tail from at₀ front₀ values marks queue at front =
     ((length values ≡ length values₀) × ((length marks ≡ length marks₀) × (length queue ≡ length queue₀)))
     × Rounded sizes equations moves settling from 0 front (roundOf values₀ marks₀ queue₀ tail visits) (roundOf values marks queue (at .tail) (at .visits))
 
 abbrev μ-loop : tie.MeasureT-loop
-μ-loop sizes labels equations moves index named operand changes values₀ marks₀ queue₀ bad block visits level settling tail from at₀ front₀ values marks queue at front =
+μ-loop sizes labels equations moves index operand changes values₀ marks₀ queue₀ bad block visits level settling tail from at₀ front₀ values marks queue at front =
     pairsOf sizes - front
 
 -- The points of the program: from what is known at a later one to what was known at an earlier one.
 abbrev start-before-look-rows : tie.After-look-rows Inv-loop μ-loop → tie.Start Inv-loop μ-loop
-start-before-look-rows c = c .before .before .before .before .before .before .before .before .before .before .before .before .before .before .before .before
+start-before-look-rows c = c .before .before .before .before .before .before .before .before .before .before .before .before .before .before .before
 
 abbrev look-rows-before-first-value : tie.After-first-value Inv-loop μ-loop → tie.After-look-rows Inv-loop μ-loop
 look-rows-before-first-value c = c .before .before .before .before .before .before .before .before .before
@@ -62,7 +62,7 @@ first-waits c =
 
 look-rows-requires : tie.Need-look-rows-requires Inv-loop μ-loop
 look-rows-requires c κs =
-    let at-start = c .before .before .before .before .before .before .before .before .before .before .before .before .before .before .before in
+    let at-start = c .before .before .before .before .before .before .before .before .before .before .before .before .before .before in
     let pre = at-start .pre in
     let sw = pre .1 .1 .1 .0 in
     (pre .0, ((pre .1 .0 .0 .0, pre .1 .0 .1), (pre .1 .1 .0, record { start = sw .start; index = (at-start .args .visits, sw .index); on = sw .on })))
@@ -100,7 +100,7 @@ loop-again c =
     let at-round = round-before-end c in
     let l = at-round .before .before .before .before .before .before .loop in
     let kept = at-round .turn-round .kept in
-    ((kept .1 .1 .1 .1 .1 .1 .0 ∙ l .inv .0 .0, (kept .1 .1 .1 .1 .1 .1 .1 .0 ∙ l .inv .0 .1 .0, kept .1 .1 .1 .1 .1 .1 .1 .1 .0 ∙ l .inv .0 .1 .1)), rounds-on (l .inv .1) (at-round .turn-round .ensures))
+    ((kept .1 .1 .1 .1 .1 .0 ∙ l .inv .0 .0, (kept .1 .1 .1 .1 .1 .1 .0 ∙ l .inv .0 .1 .0, kept .1 .1 .1 .1 .1 .1 .1 .0 ∙ l .inv .0 .1 .1)), rounds-on (l .inv .1) (at-round .turn-round .ensures))
 
 levelled-requires : tie.Need-levelled-requires Inv-loop μ-loop
 levelled-requires c κs =

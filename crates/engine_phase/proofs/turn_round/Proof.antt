@@ -10,23 +10,23 @@ use Rattle.engine_phase.proofs.turn_round.Statement.{statement}
 use Rattle.engine_phase.proofs.turn_round.Tie as tie
 
 abbrev Inv-loop : tie.InvT-loop
-Inv-loop sizes equations moves index named operand values₀ marks₀ queue₀ front settling from end r₀ f₀ values marks queue r f =
+Inv-loop sizes equations moves index operand values₀ marks₀ queue₀ front settling from end r₀ f₀ values marks queue r f =
     ((length values ≡ length values₀) × ((length marks ≡ length marks₀) × (length queue ≡ length queue₀))) × ((f ≤ end)
     × Rounded sizes equations moves settling from front f (roundOf values₀ marks₀ queue₀ end (r₀ .visits)) (roundOf values marks queue (r .tail) (r .visits)))
 
 abbrev μ-loop : tie.MeasureT-loop
-μ-loop sizes equations moves index named operand values₀ marks₀ queue₀ front settling from end r₀ f₀ values marks queue r f = end - f
+μ-loop sizes equations moves index operand values₀ marks₀ queue₀ front settling from end r₀ f₀ values marks queue r f = end - f
 
 -- The points of the program: from what is known at a later one to what was known at an earlier one.
 abbrev start-before-loop : tie.At-loop Inv-loop μ-loop → tie.Start Inv-loop μ-loop
-start-before-loop c = c .before .before .before .before .before .before .before .before .before
+start-before-loop c = c .before .before .before .before .before .before .before .before
 
 abbrev in-loop-before-end : tie.After-slice-known6 Inv-loop μ-loop → tie.In-loop Inv-loop μ-loop
 in-loop-before-end c = c .before .before .before .before .before .before .before .before .before .before
 
 loop-holds : tie.Need-loop-holds Inv-loop μ-loop
 loop-holds c =
-    let at-start = c .before .before .before .before .before .before .before .before in
+    let at-start = c .before .before .before .before .before .before .before in
     let w = at-start .pre .1 in
     ((refl, (refl, refl)), (w .before, round-none w))
 
@@ -70,8 +70,8 @@ loop-again c =
     let kept = at-turn .turn .kept in
     let last = at-turn .turn .last in
     let r = at-turn .turn .result in
-    let b = roundOf (last .1 .1 .1 .1 .1 .1 .0) (last .1 .1 .1 .1 .1 .1 .1 .0) (last .1 .1 .1 .1 .1 .1 .1 .1 .0) (r .tail) (r .visits) in (
-      (kept .1 .1 .1 .1 .1 .1 .0 ∙ l .inv .0 .0, (kept .1 .1 .1 .1 .1 .1 .1 .0 ∙ l .inv .0 .1 .0, kept .1 .1 .1 .1 .1 .1 .1 .1 .0 ∙ l .inv .0 .1 .1)),
+    let b = roundOf (last .1 .1 .1 .1 .1 .0) (last .1 .1 .1 .1 .1 .1 .0) (last .1 .1 .1 .1 .1 .1 .1 .0) (r .tail) (r .visits) in (
+      (kept .1 .1 .1 .1 .1 .0 ∙ l .inv .0 .0, (kept .1 .1 .1 .1 .1 .1 .0 ∙ l .inv .0 .1 .0, kept .1 .1 .1 .1 .1 .1 .1 .0 ∙ l .inv .0 .1 .1)),
       (omega (arith, in-loop .loop-test .taken), rounds-on (l .inv .1 .1) (round-one (waits-here (in-loop .before)) (one-waits in-loop) b (at-turn .turn .ensures))),
     )
 

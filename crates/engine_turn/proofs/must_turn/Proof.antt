@@ -1,29 +1,35 @@
--- By the phase and whether the pair is easy. Assumes nothing.
-use mathlib.Core.Path.{_∙_}
-use Rattle.engine_turn.specs.Scene.{sceneOf}
-use Rattle.engine_turn.specs.VisitLaws.{asks-hard, asks-easy}
+-- By whether the operands are to be asked. Assumes nothing.
+use mathlib.Core.Path.{_≡_, sym, ap, _∙_, subst}
+use mathlib.Core.Bool.{Bool, true, cond}
+use Prim.Native.Nat.{ℕ}
+use Rattle.engine_turn.specs.Scene.{sceneOf, fails, ownerOf, Leaner, Along}
+use borrow.Author.Needs.{needs}
 use Rattle.engine_turn.proofs.must_turn.Statement.{statement}
 use Rattle.engine_turn.proofs.must_turn.Tie as tie
 
+owner-of-requires : tie.Need-owner-of-requires
+owner-of-requires c κs = search needs
+
 easy-fails-requires : tie.Need-easy-fails-requires
 easy-fails-requires c κs =
-    let at-start = c .before .before .before .before in
-    (at-start .pre .0, (at-start .pre .1 .0 .leaner, at-start .pre .1 .1 .0))
+    let a = c .before .before .before .before .before .args in
+    let pre = c .before .before .before .before .before .pre in
+    let scene = sceneOf (a .sizes) (a .equations .now) (a .moves .now) (a .values .now) (a .from) in
+    let y = sym (c .owner-of .ensures) in
+    (pre .0, (subst (λ (n : ℕ). Leaner scene n (a .s .0)) y (pre .1 .0), subst (λ (n : ℕ). Along scene (a .step) n (a .s .0) (a .j)) y (pre .1 .1)))
 
 returns : tie.Need-returns
 returns c =
-    let at-if1 = c .before in
-    let at-start = at-if1 .before .before .before .before in
-    let a = at-start .args in
+    let a = c .before .before .before .before .before .before .args in
     let scene = sceneOf (a .sizes) (a .equations .now) (a .moves .now) (a .values .now) (a .from) in
-    c .easy-fails .ensures ∙ asks-easy scene (a .settling) (a .easy) (a .y .0) (a .s .0) (at-start .pre .1 .0) (at-start .pre .1 .1 .1) (at-if1 .if1 .taken)
+    c .easy-fails .ensures ∙ ap (λ (n : ℕ). fails scene n (a .s .0)) (c .before .owner-of .ensures)
+    ∙ ap (λ (b : Bool). cond b (fails scene (ownerOf (a .o)) (a .s .0)) true) (sym (c .before .before .if1 .taken))
 
 returns-2 : tie.Need-returns-2
 returns-2 c =
-    let at-start = c .before .before .before .before in
-    let a = at-start .args in
+    let a = c .before .before .before .before .args in
     let scene = sceneOf (a .sizes) (a .equations .now) (a .moves .now) (a .values .now) (a .from) in
-    asks-hard scene (a .settling) (a .easy) (a .y .0) (a .s .0) (at-start .pre .1 .0) (at-start .pre .1 .1 .1) (c .if1 .left)
+    ap (λ (b : Bool). cond b (fails scene (ownerOf (a .o)) (a .s .0)) true) (sym (c .if1 .left))
 
 pub must-turn-spec : {M : Type 1} → statement M
-must-turn-spec = tie.close (tie.spec easy-fails-requires returns returns-2)
+must-turn-spec = tie.close (tie.spec owner-of-requires easy-fails-requires returns returns-2)

@@ -1,168 +1,178 @@
 -- The chain of a variable, walked to its end. Assumes nothing.
-use mathlib.Core.Path.{_≡_, sym, ap, _∙_, subst}
-use Prim.Native.Nat.{ℕ, suc, _*_, _/_, _-_, _<_}
+use mathlib.Core.Path.{_≡_, refl, sym, ap, _∙_, subst}
+use mathlib.Core.List.{List}
+use borrow.Author.Needs.{needs}
+use Prim.Native.Nat.{ℕ, suc, _*_, _/_, _%_, _-_, _<_}
 use native.Mathlib.Omega.{arith}
 use lib.ListN.{length}
 use Rattle.words.specs.Limits.{limits}
-use Rattle.engine_index.specs.Operands.{namesOf, lastNamed}
-use Rattle.engine_index.specs.OperandLaws.{name-at}
+use Rattle.engine_index.specs.Operands.{namesOf, lastNamed, wordBefore}
+use Rattle.engine_index.specs.OperandLaws.{name-at, word-before, word-some}
 use Rattle.engine_turn.specs.Scene.{sceneOf, lineOf, visitAll, pairsBy, leanersIn, Bounded, Room}
-use Rattle.engine_turn.specs.ChainVisits.{OnChain, falls, chain-begins, chain-at, chain-room, chain-fits, chain-goes, chain-ends}
-use Rattle.engine_turn.specs.OperandWords.{slot-owner, slot-link, slot-operand}
-use borrow.Author.Needs.{needs}
+use Rattle.engine_turn.specs.ChainVisits.{OnChain, chain-begins, chain-at, chain-room, chain-fits, chain-goes, chain-ends}
+use Rattle.engine_turn.specs.OperandWords.{slot-owner, slot-operand, slot-inside, slot-next, slot-falls}
 use Rattle.engine_turn.proofs.visit_leaners.Statement.{statement}
 use Rattle.engine_turn.proofs.visit_leaners.Tie as tie
 
 abbrev Inv-loop : tie.InvT-loop
-Inv-loop sizes equations moves index named operand values marks₀ queue₀ settling from s to r₀ k₀ marks queue r k =
-    OnChain (sceneOf sizes equations moves values from) settling (λ (w : ℕ). w) (namesOf equations) (2 * length equations) to
+Inv-loop sizes equations moves index operand values marks₀ queue₀ settling from s to r₀ o₀ marks queue r o =
+    (k : ℕ) × (OnChain (sceneOf sizes equations moves values from) settling (λ (w : ℕ). w) (namesOf equations) (2 * length equations) to
     (λ (j : ℕ). pairsBy sizes equations moves (s .0) (j / 2)) (lineOf marks₀ queue₀ (r₀ .tail) (r₀ .visits)) k (lineOf marks queue (r .tail) (r .visits))
+    × (o ≡ wordBefore sizes equations k))
 
 abbrev μ-loop : tie.MeasureT-loop
-μ-loop sizes equations moves index named operand values marks₀ queue₀ settling from s to r₀ k₀ marks queue r k = k
+μ-loop sizes equations moves index operand values marks₀ queue₀ settling from s to r₀ o₀ marks queue r o = o % 512
 
 cast-to : tie.Need-cast-to Inv-loop μ-loop
 cast-to c = search needs
 
-shared-slice-read-place-in-byte : tie.Need-shared-slice-read-place-in-byte Inv-loop μ-loop
-shared-slice-read-place-in-byte c =
-    let at-start = c .before .before .before .before .before .before .before .before .before .before in
-    let n = at-start .pre .0 .drawn .long-equations in
-    let m = at-start .pre .1 .1 .0 .long-named in
-    let h = at-start .pre .1 .1 .1 .0 .0 in
-    omega arith
-
-place-in-byte-requires : tie.Need-place-in-byte-requires Inv-loop μ-loop
-place-in-byte-requires c κs = search needs
-
-loop-holds : tie.Need-loop-holds Inv-loop μ-loop
-loop-holds c =
-    let at-start = c .before .before .before .before .before .before .before .before .before .before .before in
-    let at-place-in-byte = c in
-    let a = at-start .args in
-    let scene = sceneOf (a .sizes) (a .equations .now) (a .moves .now) (a .values .now) (a .from) in
-    let v = lineOf (a .marks .now) (a .queue .now) (a .at .tail) (a .at .visits) in
-    let n = at-start .pre .0 .drawn .long-equations in
-    chain-begins (λ (w : ℕ). w) (namesOf (a .equations .now)) (a .x .0) (λ (j : ℕ). pairsBy (a .sizes) (a .equations .now) (a .moves .now) (a .s .0) (j / 2)) scene (a .settling) (2 * length (a .equations .now)) v (at-place-in-byte .place-in-byte .result) (at-place-in-byte .place-in-byte .ensures .0 ∙ at-start .pre .1 .1 .0 .ends (a .x .0) (omega (arith, at-start .pre .1 .1 .1 .0 .0)))
-
-sub-j : tie.Need-sub-j Inv-loop μ-loop
-sub-j c = search needs
-
 mul-o : tie.Need-mul-o Inv-loop μ-loop
 mul-o c =
-    let at-loop = c .before in
-    let at-start = c .before .before .before .before .before .before .before .before .before .before .before .before .before in
-    let at-loop-test = c in
-    let b = at-loop .loop .inv .below in
-    let z = limits (at-start .pre .0 .drawn) in
-    let n = at-start .pre .0 .drawn .long-equations in
-    let m = at-start .pre .1 .1 .0 .long-operand in
-    omega (arith, at-loop-test .loop-test .taken)
+    let z = limits (c .before .before .before .before .before .before .before .before .pre .0 .drawn) in
+    let h = c .before .before .before .before .before .before .before .before .pre .1 .1 .1 .0 .0 in
+    omega arith
 
 shared-slice-read-o : tie.Need-shared-slice-read-o Inv-loop μ-loop
 shared-slice-read-o c =
-    let at-loop = c .before .before in
-    let at-start = c .before .before .before .before .before .before .before .before .before .before .before .before .before .before in
-    let at-loop-test = c .before in
-    let b = at-loop .loop .inv .below in
-    let z = limits (at-start .pre .0 .drawn) in
-    let n = at-start .pre .0 .drawn .long-equations in
-    let m = at-start .pre .1 .1 .0 .long-operand in
-    omega (arith, at-loop-test .loop-test .taken)
+    let a = c .before .before .before .before .before .before .before .before .before .args in
+    let pre = c .before .before .before .before .before .before .before .before .before .pre in
+    let scene = sceneOf (a .sizes) (a .equations .now) (a .moves .now) (a .values .now) (a .from) in
+    let v = lineOf (a .marks .now) (a .queue .now) (a .at .tail) (a .at .visits) in
+    let n = pre .0 .drawn .long-equations in
+    let inside : a .x .0 < length (a .equations .now) = omega (arith, pre .1 .1 .1 .0 .0) in
+    let few = limits (pre .0 .drawn) in
+    let m = pre .1 .1 .0 .long in
+    omega arith
+
+loop-holds : tie.Need-loop-holds Inv-loop μ-loop
+loop-holds c =
+    let a = c .before .before .before .before .before .before .before .before .before .args in
+    let pre = c .before .before .before .before .before .before .before .before .before .pre in
+    let scene = sceneOf (a .sizes) (a .equations .now) (a .moves .now) (a .values .now) (a .from) in
+    let v = lineOf (a .marks .now) (a .queue .now) (a .at .tail) (a .at .visits) in
+    let n = pre .0 .drawn .long-equations in
+    let inside : a .x .0 < length (a .equations .now) = omega (arith, pre .1 .1 .1 .0 .0) in
+    let k = lastNamed (a .equations .now) (a .x .0) (2 * length (a .equations .now)) in
+    (k, (chain-begins (λ (w : ℕ). w) (namesOf (a .equations .now)) (a .x .0) (λ (j : ℕ). pairsBy (a .sizes) (a .equations .now) (a .moves .now) (a .s .0) (j / 2)) scene (a .settling) (2 * length (a .equations .now)) v k refl, pre .1 .1 .0 .heads (a .x .0) inside))
 
 visit-operand-requires : tie.Need-visit-operand-requires Inv-loop μ-loop
 unfolding leanersIn
 visit-operand-requires c κs =
-    let at-start = c .before .before .before .before .before .before .before .before .before .before .before .before .before .before .before .before in
-    let at-loop = c .before .before .before .before in
-    let at-loop-test = c .before .before .before in
-    let a = at-start .args in
+    let a = c .before .before .before .before .before .before .before .before .before .before .before .before .before .args in
+    let pre = c .before .before .before .before .before .before .before .before .before .before .before .before .before .pre in
     let scene = sceneOf (a .sizes) (a .equations .now) (a .moves .now) (a .values .now) (a .from) in
     let v = lineOf (a .marks .now) (a .queue .now) (a .at .tail) (a .at .visits) in
-    let l = at-loop .loop in
-    let up : l .k ≡ suc (l .k - 1) = omega (arith, at-loop-test .loop-test .taken) in
-    let h : l .k - 1 < 2 * length (a .equations .now) = omega (arith, l .inv .below, at-loop-test .loop-test .taken) in
-    let is = sym (name-at (a .equations .now) (l .k - 1) h) ∙ chain-at (λ (w : ℕ). w) (namesOf (a .equations .now)) (a .x .0) (λ (j : ℕ). pairsBy (a .sizes) (a .equations .now) (a .moves .now) (a .s .0) (j / 2)) scene (a .settling) (2 * length (a .equations .now)) v (l .k) (l .k - 1) (lineOf (l .marks) (l .queue) (l .r .tail) (l .r .visits)) (l .inv) up in
-    let inside : a .x .0 < length (a .equations .now) = omega (arith, at-start .pre .1 .1 .1 .0 .0, at-start .pre .0 .drawn .long-equations) in
-    let b = chain-room (λ (w : ℕ). w) (namesOf (a .equations .now)) (a .x .0) (λ (j : ℕ). pairsBy (a .sizes) (a .equations .now) (a .moves .now) (a .s .0) (j / 2)) scene (a .settling) (2 * length (a .equations .now)) v (l .k) (l .k - 1) (lineOf (l .marks) (l .queue) (l .r .tail) (l .r .visits)) (l .inv) up (at-start .pre .1 .1 .1 .0 .1 .1 .1) in
-    let fits = chain-fits (λ (w : ℕ). w) (namesOf (a .equations .now)) (a .x .0) (λ (j : ℕ). pairsBy (a .sizes) (a .equations .now) (a .moves .now) (a .s .0) (j / 2)) scene (a .settling) (2 * length (a .equations .now)) v (l .k) (l .k - 1) (lineOf (l .marks) (l .queue) (l .r .tail) (l .r .visits)) (l .inv) up (at-start .pre .1 .1 .1 .1) in
-    let e = slot-owner {c = scene} (at-start .pre .0) (at-start .pre .1 .1 .0) (l .k - 1) (a .x .0) h is inside in (
-      at-start .pre .0,
+    let n = pre .0 .drawn .long-equations in
+    let inside : a .x .0 < length (a .equations .now) = omega (arith, pre .1 .1 .1 .0 .0) in
+    let l = c .before .before .before .loop in
+    let k = l .inv .0 in
+    let walk = l .inv .1 .0 in
+    let u = lineOf (l .marks) (l .queue) (l .r .tail) (l .r .visits) in
+    let some : 0 < k = word-before (a .sizes) (a .equations .now) k (l .o) (l .inv .1 .1) (c .before .before .loop-test .taken) in
+    let up : k ≡ suc (k - 1) = omega arith in
+    let h : k - 1 < 2 * length (a .equations .now) = omega (arith, walk .below) in
+    let at = chain-at (λ (w : ℕ). w) (namesOf (a .equations .now)) (a .x .0) (λ (j : ℕ). pairsBy (a .sizes) (a .equations .now) (a .moves .now) (a .s .0) (j / 2)) scene (a .settling) (2 * length (a .equations .now)) v k (k - 1) u walk up in
+    let is = sym (name-at (a .equations .now) (k - 1) h) ∙ at in
+    let word : l .o ≡ wordBefore (a .sizes) (a .equations .now) (suc (k - 1)) = l .inv .1 .1 ∙ ap (wordBefore (a .sizes) (a .equations .now)) up in
+    let b = chain-room (λ (w : ℕ). w) (namesOf (a .equations .now)) (a .x .0) (λ (j : ℕ). pairsBy (a .sizes) (a .equations .now) (a .moves .now) (a .s .0) (j / 2)) scene (a .settling) (2 * length (a .equations .now)) v k (k - 1) u walk up (pre .1 .1 .1 .0 .1 .1 .1) in
+    let fits = chain-fits (λ (w : ℕ). w) (namesOf (a .equations .now)) (a .x .0) (λ (j : ℕ). pairsBy (a .sizes) (a .equations .now) (a .moves .now) (a .s .0) (j / 2)) scene (a .settling) (2 * length (a .equations .now)) v k (k - 1) u walk up (pre .1 .1 .1 .1) in
+    let e = slot-owner {c = scene} (pre .0) (pre .1 .1 .0) (a .x .0) (k - 1) (l .o) h is inside word in
+    let pairs : ℕ → List ℕ = λ y. pairsBy (a .sizes) (a .equations .now) (a .moves .now) (a .s .0) y in (
+      pre .0,
       (
-        at-start .pre .1 .0,
+        pre .1 .0,
         (
-          slot-operand {c = scene} (at-start .pre .0) (at-start .pre .1 .1 .0) (l .k - 1) (a .x .0) h is inside,
+          slot-operand {c = scene} (pre .0) (pre .1 .1 .0) (a .x .0) (k - 1) (l .o) h is inside word,
           (
-            (
-              at-start .pre .1 .1 .1 .0 .1 .0,
-              (
-                l .inv .long-marks ∙ at-start .pre .1 .1 .1 .0 .1 .1 .0,
-                subst (λ (y : ℕ). Bounded (l .r .tail) (l .r .visits) (pairsBy (a .sizes) (a .equations .now) (a .moves .now) (a .s .0) y)) (sym e) b,
-              ),
-            ),
-            subst (λ (y : ℕ). Room scene (a .settling) (pairsBy (a .sizes) (a .equations .now) (a .moves .now) (a .s .0) y) (lineOf (l .marks) (l .queue) (l .r .tail) (l .r .visits))) (sym e) fits,
+            (pre .1 .1 .1 .0 .1 .0, (walk .long-marks ∙ pre .1 .1 .1 .0 .1 .1 .0, subst (λ (y : ℕ). Bounded (l .r .tail) (l .r .visits) (pairs y)) (sym e) b)),
+            subst (λ (y : ℕ). Room scene (a .settling) (pairs y) u) (sym e) fits,
           ),
         ),
       ),
     )
 
-cast-k : tie.Need-cast-k Inv-loop μ-loop
-cast-k c = search needs
+next-operand-requires : tie.Need-next-operand-requires Inv-loop μ-loop
+next-operand-requires c κs =
+    let a = c .before .before .before .before .before .before .before .before .before .before .before .before .before .before .before .before .before .before .args in
+    let pre = c .before .before .before .before .before .before .before .before .before .before .before .before .before .before .before .before .before .before .pre in
+    let scene = sceneOf (a .sizes) (a .equations .now) (a .moves .now) (a .values .now) (a .from) in
+    let v = lineOf (a .marks .now) (a .queue .now) (a .at .tail) (a .at .visits) in
+    let n = pre .0 .drawn .long-equations in
+    let inside : a .x .0 < length (a .equations .now) = omega (arith, pre .1 .1 .1 .0 .0) in
+    let l = c .before .before .before .before .before .before .before .before .loop in
+    let k = l .inv .0 in
+    let walk = l .inv .1 .0 in
+    let u = lineOf (l .marks) (l .queue) (l .r .tail) (l .r .visits) in
+    let some : 0 < k = word-before (a .sizes) (a .equations .now) k (l .o) (l .inv .1 .1) (c .before .before .before .before .before .before .before .loop-test .taken) in
+    let up : k ≡ suc (k - 1) = omega arith in
+    let h : k - 1 < 2 * length (a .equations .now) = omega (arith, walk .below) in
+    let at = chain-at (λ (w : ℕ). w) (namesOf (a .equations .now)) (a .x .0) (λ (j : ℕ). pairsBy (a .sizes) (a .equations .now) (a .moves .now) (a .s .0) (j / 2)) scene (a .settling) (2 * length (a .equations .now)) v k (k - 1) u walk up in
+    let is = sym (name-at (a .equations .now) (k - 1) h) ∙ at in
+    let word : l .o ≡ wordBefore (a .sizes) (a .equations .now) (suc (k - 1)) = l .inv .1 .1 ∙ ap (wordBefore (a .sizes) (a .equations .now)) up in
+    slot-inside {c = scene} (pre .0) (pre .1 .1 .0) (a .x .0) (k - 1) (l .o) h is inside word
 
 loop-less : tie.Need-loop-less Inv-loop μ-loop
 loop-less c =
-    let at-start = c .before .before .before .before .before .before .before .before .before .before .before .before .before .before .before .before .before .before .before .before .before in
-    let at-loop = c .before .before .before .before .before .before .before .before .before in
-    let at-loop-test = c .before .before .before .before .before .before .before .before in
-    let a = at-start .args in
+    let a = c .before .before .before .before .before .before .before .before .before .before .before .before .before .before .before .before .before .before .before .args in
+    let pre = c .before .before .before .before .before .before .before .before .before .before .before .before .before .before .before .before .before .before .before .pre in
     let scene = sceneOf (a .sizes) (a .equations .now) (a .moves .now) (a .values .now) (a .from) in
     let v = lineOf (a .marks .now) (a .queue .now) (a .at .tail) (a .at .visits) in
-    let l = at-loop .loop in
-    let up : l .k ≡ suc (l .k - 1) = omega (arith, at-loop-test .loop-test .taken) in
-    let h : l .k - 1 < 2 * length (a .equations .now) = omega (arith, l .inv .below, at-loop-test .loop-test .taken) in
-    let is = sym (name-at (a .equations .now) (l .k - 1) h) ∙ chain-at (λ (w : ℕ). w) (namesOf (a .equations .now)) (a .x .0) (λ (j : ℕ). pairsBy (a .sizes) (a .equations .now) (a .moves .now) (a .s .0) (j / 2)) scene (a .settling) (2 * length (a .equations .now)) v (l .k) (l .k - 1) (lineOf (l .marks) (l .queue) (l .r .tail) (l .r .visits)) (l .inv) up in
-    let inside : a .x .0 < length (a .equations .now) = omega (arith, at-start .pre .1 .1 .1 .0 .0, at-start .pre .0 .drawn .long-equations) in
-    falls (λ (w : ℕ). w) (namesOf (a .equations .now)) (a .x .0) (λ (j : ℕ). pairsBy (a .sizes) (a .equations .now) (a .moves .now) (a .s .0) (j / 2)) (l .k) (l .k - 1) _ (a .x .0) up (slot-link {c = scene} (at-start .pre .0) (at-start .pre .1 .1 .0) (l .k - 1) (a .x .0) h is inside)
+    let n = pre .0 .drawn .long-equations in
+    let inside : a .x .0 < length (a .equations .now) = omega (arith, pre .1 .1 .1 .0 .0) in
+    let l = c .before .before .before .before .before .before .before .before .before .loop in
+    let k = l .inv .0 in
+    let walk = l .inv .1 .0 in
+    let u = lineOf (l .marks) (l .queue) (l .r .tail) (l .r .visits) in
+    let some : 0 < k = word-before (a .sizes) (a .equations .now) k (l .o) (l .inv .1 .1) (c .before .before .before .before .before .before .before .before .loop-test .taken) in
+    let up : k ≡ suc (k - 1) = omega arith in
+    let h : k - 1 < 2 * length (a .equations .now) = omega (arith, walk .below) in
+    let at = chain-at (λ (w : ℕ). w) (namesOf (a .equations .now)) (a .x .0) (λ (j : ℕ). pairsBy (a .sizes) (a .equations .now) (a .moves .now) (a .s .0) (j / 2)) scene (a .settling) (2 * length (a .equations .now)) v k (k - 1) u walk up in
+    let is = sym (name-at (a .equations .now) (k - 1) h) ∙ at in
+    let word : l .o ≡ wordBefore (a .sizes) (a .equations .now) (suc (k - 1)) = l .inv .1 .1 ∙ ap (wordBefore (a .sizes) (a .equations .now)) up in
+    slot-falls {c = scene} (pre .0) (pre .1 .1 .0) (a .x .0) (k - 1) (l .o) h is inside word (c .next-operand .result) (c .next-operand .ensures)
 
 loop-again : tie.Need-loop-again Inv-loop μ-loop
 loop-again c =
-    let at-start = c .before .before .before .before .before .before .before .before .before .before .before .before .before .before .before .before .before .before .before .before .before in
-    let at-loop = c .before .before .before .before .before .before .before .before .before in
-    let at-loop-test = c .before .before .before .before .before .before .before .before in
-    let at-visit-operand = c .before .before .before .before in
-    let a = at-start .args in
+    let a = c .before .before .before .before .before .before .before .before .before .before .before .before .before .before .before .before .before .before .before .args in
+    let pre = c .before .before .before .before .before .before .before .before .before .before .before .before .before .before .before .before .before .before .before .pre in
     let scene = sceneOf (a .sizes) (a .equations .now) (a .moves .now) (a .values .now) (a .from) in
     let v = lineOf (a .marks .now) (a .queue .now) (a .at .tail) (a .at .visits) in
-    let l = at-loop .loop in
-    let up : l .k ≡ suc (l .k - 1) = omega (arith, at-loop-test .loop-test .taken) in
-    let h : l .k - 1 < 2 * length (a .equations .now) = omega (arith, l .inv .below, at-loop-test .loop-test .taken) in
-    let is = sym (name-at (a .equations .now) (l .k - 1) h) ∙ chain-at (λ (w : ℕ). w) (namesOf (a .equations .now)) (a .x .0) (λ (j : ℕ). pairsBy (a .sizes) (a .equations .now) (a .moves .now) (a .s .0) (j / 2)) scene (a .settling) (2 * length (a .equations .now)) v (l .k) (l .k - 1) (lineOf (l .marks) (l .queue) (l .r .tail) (l .r .visits)) (l .inv) up in
-    let inside : a .x .0 < length (a .equations .now) = omega (arith, at-start .pre .1 .1 .1 .0 .0, at-start .pre .0 .drawn .long-equations) in
-    let next = slot-link {c = scene} (at-start .pre .0) (at-start .pre .1 .1 .0) (l .k - 1) (a .x .0) h is inside ∙ ap (λ (t : ℕ). lastNamed (a .equations .now) t (l .k - 1)) (sym (chain-at (λ (w : ℕ). w) (namesOf (a .equations .now)) (a .x .0) (λ (j : ℕ). pairsBy (a .sizes) (a .equations .now) (a .moves .now) (a .s .0) (j / 2)) scene (a .settling) (2 * length (a .equations .now)) v (l .k) (l .k - 1) (lineOf (l .marks) (l .queue) (l .r .tail) (l .r .visits)) (l .inv) up)) in
-    let e = at-visit-operand .visit-operand .ensures ∙ ap (λ (y : ℕ). visitAll scene (a .settling) (pairsBy (a .sizes) (a .equations .now) (a .moves .now) (a .s .0) y) (lineOf (l .marks) (l .queue) (l .r .tail) (l .r .visits))) (slot-owner {c = scene} (at-start .pre .0) (at-start .pre .1 .1 .0) (l .k - 1) (a .x .0) h is inside) in
-    chain-goes (λ (w : ℕ). w) (namesOf (a .equations .now)) (a .x .0) (λ (j : ℕ). pairsBy (a .sizes) (a .equations .now) (a .moves .now) (a .s .0) (j / 2)) scene (a .settling) (2 * length (a .equations .now)) v (l .k) (l .k - 1) (lineOf (l .marks) (l .queue) (l .r .tail) (l .r .visits)) _ _ (l .inv) up e next
+    let n = pre .0 .drawn .long-equations in
+    let inside : a .x .0 < length (a .equations .now) = omega (arith, pre .1 .1 .1 .0 .0) in
+    let l = c .before .before .before .before .before .before .before .before .before .loop in
+    let k = l .inv .0 in
+    let walk = l .inv .1 .0 in
+    let u = lineOf (l .marks) (l .queue) (l .r .tail) (l .r .visits) in
+    let some : 0 < k = word-before (a .sizes) (a .equations .now) k (l .o) (l .inv .1 .1) (c .before .before .before .before .before .before .before .before .loop-test .taken) in
+    let up : k ≡ suc (k - 1) = omega arith in
+    let h : k - 1 < 2 * length (a .equations .now) = omega (arith, walk .below) in
+    let at = chain-at (λ (w : ℕ). w) (namesOf (a .equations .now)) (a .x .0) (λ (j : ℕ). pairsBy (a .sizes) (a .equations .now) (a .moves .now) (a .s .0) (j / 2)) scene (a .settling) (2 * length (a .equations .now)) v k (k - 1) u walk up in
+    let is = sym (name-at (a .equations .now) (k - 1) h) ∙ at in
+    let word : l .o ≡ wordBefore (a .sizes) (a .equations .now) (suc (k - 1)) = l .inv .1 .1 ∙ ap (wordBefore (a .sizes) (a .equations .now)) up in
+    let next = slot-next {c = scene} (pre .0) (pre .1 .1 .0) (a .x .0) (k - 1) (l .o) h is inside word (c .next-operand .result) (c .next-operand .ensures) in
+    let e = c .before .before .before .before .before .visit-operand .ensures ∙ ap (λ (y : ℕ). visitAll scene (a .settling) (pairsBy (a .sizes) (a .equations .now) (a .moves .now) (a .s .0) y) u) (slot-owner {c = scene} (pre .0) (pre .1 .1 .0) (a .x .0) (k - 1) (l .o) h is inside word) in
+    let last = lastNamed (a .equations .now) (a .x .0) (k - 1) in
+    (last, (chain-goes (λ (w : ℕ). w) (namesOf (a .equations .now)) (a .x .0) (λ (j : ℕ). pairsBy (a .sizes) (a .equations .now) (a .moves .now) (a .s .0) (j / 2)) scene (a .settling) (2 * length (a .equations .now)) v k (k - 1) u _ last walk up e (ap (λ (t : ℕ). lastNamed (a .equations .now) t (k - 1)) (sym at)), next))
 
 same-length : tie.Need-same-length Inv-loop μ-loop
-same-length c =
-    let at-loop = c .before in
-    at-loop .loop .inv .long-marks
+same-length c = c .before .loop .inv .1 .0 .long-marks
 
 same-length-2 : tie.Need-same-length-2 Inv-loop μ-loop
-same-length-2 c =
-    let at-loop = c .before in
-    at-loop .loop .inv .long-queue
+same-length-2 c = c .before .loop .inv .1 .0 .long-queue
 
 returns : tie.Need-returns Inv-loop μ-loop
 unfolding leanersIn
 returns c =
-    let at-start = c .before .before .before .before .before .before .before .before .before .before .before .before .before in
-    let at-loop = c .before in
-    let at-loop-test = c in
-    let a = at-start .args in
+    let a = c .before .before .before .before .before .before .before .before .before .before .before .args in
+    let pre = c .before .before .before .before .before .before .before .before .before .before .before .pre in
     let scene = sceneOf (a .sizes) (a .equations .now) (a .moves .now) (a .values .now) (a .from) in
     let v = lineOf (a .marks .now) (a .queue .now) (a .at .tail) (a .at .visits) in
-    let l = at-loop .loop in
-    chain-ends (λ (w : ℕ). w) (namesOf (a .equations .now)) (a .x .0) (λ (j : ℕ). pairsBy (a .sizes) (a .equations .now) (a .moves .now) (a .s .0) (j / 2)) scene (a .settling) (2 * length (a .equations .now)) v (l .k) (lineOf (l .marks) (l .queue) (l .r .tail) (l .r .visits)) (l .inv) (omega (arith, at-loop-test .loop-test .left))
+    let n = pre .0 .drawn .long-equations in
+    let inside : a .x .0 < length (a .equations .now) = omega (arith, pre .1 .1 .1 .0 .0) in
+    let l = c .before .loop in
+    let k = l .inv .0 in
+    let none : k ≡ 0 = word-some (a .sizes) (a .equations .now) k (sym (l .inv .1 .1) ∙ omega (arith, c .loop-test .left)) in
+    chain-ends (λ (w : ℕ). w) (namesOf (a .equations .now)) (a .x .0) (λ (j : ℕ). pairsBy (a .sizes) (a .equations .now) (a .moves .now) (a .s .0) (j / 2)) scene (a .settling) (2 * length (a .equations .now)) v k (lineOf (l .marks) (l .queue) (l .r .tail) (l .r .visits)) (l .inv .1 .0) none
 
 pub visit-leaners-spec : {M : Type 1} → statement M
 visit-leaners-spec =
@@ -171,14 +181,11 @@ visit-leaners-spec =
     Inv-loop
     μ-loop
     cast-to
-    shared-slice-read-place-in-byte
-    place-in-byte-requires
-    loop-holds
-    sub-j
     mul-o
     shared-slice-read-o
+    loop-holds
     visit-operand-requires
-    cast-k
+    next-operand-requires
     loop-less
     loop-again
     same-length

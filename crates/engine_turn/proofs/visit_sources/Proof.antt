@@ -8,7 +8,7 @@ use lib.ListN.{length, getD}
 use Rattle.words.specs.Limits.{limits}
 use Rattle.words.specs.Table.{waitingOf}
 use Rattle.engine_index.specs.Indexed.{keyOf}
-use Rattle.engine_turn.specs.Scene.{sceneOf, lineOf, visitAll, sourceOf, Leaning, Along, Room}
+use Rattle.engine_turn.specs.Scene.{sceneOf, lineOf, visitAll, sourceOf, ownerOf, Along, Room}
 use Rattle.engine_turn.specs.Inside.{source-inside, along-chain}
 use Rattle.engine_turn.specs.ChainVisits.{OnChain, falls, chain-begins, chain-at, chain-room, chain-fits, chain-goes, chain-ends, head-at, link-at}
 use borrow.Author.Needs.{needs}
@@ -16,12 +16,12 @@ use Rattle.engine_turn.proofs.visit_sources.Statement.{statement}
 use Rattle.engine_turn.proofs.visit_sources.Tie as tie
 
 abbrev Inv-loop : tie.InvT-loop
-Inv-loop sizes equations moves index values marks₀ queue₀ settling from easy y head links s₀ k₀ marks queue s k =
-    OnChain (sceneOf sizes equations moves values from) settling (keyOf sizes) moves (length moves) head (sourceOf moves (y .0))
+Inv-loop sizes equations moves index values marks₀ queue₀ settling from asks o head links s₀ k₀ marks queue s k =
+    OnChain (sceneOf sizes equations moves values from) settling (keyOf sizes) moves (length moves) head (sourceOf moves (ownerOf o))
     (lineOf marks₀ queue₀ (s₀ .tail) (s₀ .visits)) k (lineOf marks queue (s .tail) (s .visits))
 
 abbrev μ-loop : tie.MeasureT-loop
-μ-loop sizes equations moves index values marks₀ queue₀ settling from easy y head links s₀ k₀ marks queue s k = k
+μ-loop sizes equations moves index values marks₀ queue₀ settling from asks o head links s₀ k₀ marks queue s k = k
 
 heads-of-requires : tie.Need-heads-of-requires Inv-loop μ-loop
 heads-of-requires c κs = search needs
@@ -50,7 +50,7 @@ loop-holds c =
     let a = at-start .args in
     let scene = sceneOf (a .sizes) (a .equations .now) (a .moves .now) (a .values .now) (a .from) in
     let v = lineOf (a .marks .now) (a .queue .now) (a .at .tail) (a .at .visits) in
-    chain-begins (keyOf (a .sizes)) (a .moves .now) (a .head) (sourceOf (a .moves .now) (a .y .0)) scene (a .settling) (length (a .moves .now)) v (at-place-in-half .place-in-half .result) (at-place-in-half .place-in-half .ensures .0 ∙ head-at (at-start .pre .1 .0) (a .head) (at-start .pre .1 .1 .1 .0 .0))
+    chain-begins (keyOf (a .sizes)) (a .moves .now) (a .head) (sourceOf (a .moves .now) (ownerOf (a .o))) scene (a .settling) (length (a .moves .now)) v (at-place-in-half .place-in-half .result) (at-place-in-half .place-in-half .ensures .0 ∙ head-at (at-start .pre .1 .0) (a .head) (at-start .pre .1 .1 .1 .0 .0))
 
 sub-j : tie.Need-sub-j Inv-loop μ-loop
 sub-j c = search needs
@@ -91,13 +91,12 @@ visit-requires c κs =
     let e = at-source-of .source-of .ensures in
     let h = source-inside (at-start .pre .0) (l .k - 1) (omega (arith, l .inv .below, at-loop-test .loop-test .taken)) in
     let i : at-source-of .source-of .result .0 < a .sizes .states = omega arith in
-    let leaning : Leaning scene (a .easy) (a .y .0) (at-source-of .source-of .result .0) = record { leaner = record { variable = s .variable; state = i; uses = s .uses }; told = s .told } in
-    let b = chain-room (keyOf (a .sizes)) (a .moves .now) (a .head) (sourceOf (a .moves .now) (a .y .0)) scene (a .settling) (length (a .moves .now)) v (l .k) (l .k - 1) (lineOf (l .marks) (l .queue) (l .s .tail) (l .s .visits)) (l .inv) up (at-start .pre .1 .1 .1 .0 .1 .1) in
-    let at = chain-at (keyOf (a .sizes)) (a .moves .now) (a .head) (sourceOf (a .moves .now) (a .y .0)) scene (a .settling) (length (a .moves .now)) v (l .k) (l .k - 1) (lineOf (l .marks) (l .queue) (l .s .tail) (l .s .visits)) (l .inv) up in
-    let along = subst (λ (n : ℕ). Along scene true (a .y .0) n (l .k - 1)) (sym e) (along-chain (at-start .pre .0) (a .y .0) (a .head) (l .k - 1) (at-start .pre .1 .1 .0 .1) (omega (arith, l .inv .below, at-loop-test .loop-test .taken)) at) in
-    let fits = chain-fits (keyOf (a .sizes)) (a .moves .now) (a .head) (sourceOf (a .moves .now) (a .y .0)) scene (a .settling) (length (a .moves .now)) v (l .k) (l .k - 1) (lineOf (l .marks) (l .queue) (l .s .tail) (l .s .visits)) (l .inv) up (at-start .pre .1 .1 .1 .1) in
-    let room = subst (λ (n : ℕ). Room scene (a .settling) (waitingOf (a .y .0) n ∷ []) (lineOf (l .marks) (l .queue) (l .s .tail) (l .s .visits))) (sym e) fits in
-    (at-start .pre .0, (leaning, ((l .inv .long-marks ∙ at-start .pre .1 .1 .1 .0 .1 .0, (omega (arith, b .0), omega (arith, b .1))), (along, room))))
+    let b = chain-room (keyOf (a .sizes)) (a .moves .now) (a .head) (sourceOf (a .moves .now) (ownerOf (a .o))) scene (a .settling) (length (a .moves .now)) v (l .k) (l .k - 1) (lineOf (l .marks) (l .queue) (l .s .tail) (l .s .visits)) (l .inv) up (at-start .pre .1 .1 .1 .0 .1 .1) in
+    let at = chain-at (keyOf (a .sizes)) (a .moves .now) (a .head) (sourceOf (a .moves .now) (ownerOf (a .o))) scene (a .settling) (length (a .moves .now)) v (l .k) (l .k - 1) (lineOf (l .marks) (l .queue) (l .s .tail) (l .s .visits)) (l .inv) up in
+    let along = subst (λ (n : ℕ). Along scene true (ownerOf (a .o)) n (l .k - 1)) (sym e) (along-chain (at-start .pre .0) (ownerOf (a .o)) (a .head) (l .k - 1) (at-start .pre .1 .1 .0 .1) (omega (arith, l .inv .below, at-loop-test .loop-test .taken)) at) in
+    let fits = chain-fits (keyOf (a .sizes)) (a .moves .now) (a .head) (sourceOf (a .moves .now) (ownerOf (a .o))) scene (a .settling) (length (a .moves .now)) v (l .k) (l .k - 1) (lineOf (l .marks) (l .queue) (l .s .tail) (l .s .visits)) (l .inv) up (at-start .pre .1 .1 .1 .1) in
+    let room = subst (λ (n : ℕ). Room scene (a .settling) (waitingOf (ownerOf (a .o)) n ∷ []) (lineOf (l .marks) (l .queue) (l .s .tail) (l .s .visits))) (sym e) fits in
+    (at-start .pre .0, ((s, i), ((l .inv .long-marks ∙ at-start .pre .1 .1 .1 .0 .1 .0, (omega (arith, b .0), omega (arith, b .1))), (along, room))))
 
 add-place-in-half : tie.Need-add-place-in-half Inv-loop μ-loop
 add-place-in-half c =
@@ -146,7 +145,7 @@ loop-less c =
     let l = at-loop .loop in
     let up : l .k ≡ suc (l .k - 1) = omega (arith, at-loop-test .loop-test .taken) in
     let next = at-place-in-half2 .place-in-half2 .ensures .0 ∙ ap (λ (n : ℕ). getD (a .index .now) (n + (l .k - 1)) 0) (at-heads-of .heads-of .ensures .0) ∙ link-at (at-start .pre .1 .0) (l .k - 1) (omega (arith, at-loop-test .loop-test .taken, l .inv .below)) in
-    falls (keyOf (a .sizes)) (a .moves .now) (a .head) (sourceOf (a .moves .now) (a .y .0)) (l .k) (l .k - 1) (at-place-in-half2 .place-in-half2 .result) _ up next
+    falls (keyOf (a .sizes)) (a .moves .now) (a .head) (sourceOf (a .moves .now) (ownerOf (a .o))) (l .k) (l .k - 1) (at-place-in-half2 .place-in-half2 .result) _ up next
 
 loop-again : tie.Need-loop-again Inv-loop μ-loop
 loop-again c =
@@ -163,8 +162,8 @@ loop-again c =
     let l = at-loop .loop in
     let up : l .k ≡ suc (l .k - 1) = omega (arith, at-loop-test .loop-test .taken) in
     let next = at-place-in-half2 .place-in-half2 .ensures .0 ∙ ap (λ (n : ℕ). getD (a .index .now) (n + (l .k - 1)) 0) (at-heads-of .heads-of .ensures .0) ∙ link-at (at-start .pre .1 .0) (l .k - 1) (omega (arith, at-loop-test .loop-test .taken, l .inv .below)) in
-    let e = at-visit .visit .ensures ∙ ap (λ (n : ℕ). visitAll scene (a .settling) (waitingOf (a .y .0) n ∷ []) (lineOf (l .marks) (l .queue) (l .s .tail) (l .s .visits))) (at-source-of .source-of .ensures) in
-    chain-goes (keyOf (a .sizes)) (a .moves .now) (a .head) (sourceOf (a .moves .now) (a .y .0)) scene (a .settling) (length (a .moves .now)) v (l .k) (l .k - 1) (lineOf (l .marks) (l .queue) (l .s .tail) (l .s .visits)) _ (at-place-in-half2 .place-in-half2 .result) (l .inv) up e next
+    let e = at-visit .visit .ensures ∙ ap (λ (n : ℕ). visitAll scene (a .settling) (waitingOf (ownerOf (a .o)) n ∷ []) (lineOf (l .marks) (l .queue) (l .s .tail) (l .s .visits))) (at-source-of .source-of .ensures) in
+    chain-goes (keyOf (a .sizes)) (a .moves .now) (a .head) (sourceOf (a .moves .now) (ownerOf (a .o))) scene (a .settling) (length (a .moves .now)) v (l .k) (l .k - 1) (lineOf (l .marks) (l .queue) (l .s .tail) (l .s .visits)) _ (at-place-in-half2 .place-in-half2 .result) (l .inv) up e next
 
 same-length : tie.Need-same-length Inv-loop μ-loop
 same-length c =
@@ -185,7 +184,7 @@ returns c =
     let scene = sceneOf (a .sizes) (a .equations .now) (a .moves .now) (a .values .now) (a .from) in
     let v = lineOf (a .marks .now) (a .queue .now) (a .at .tail) (a .at .visits) in
     let l = at-loop .loop in
-    chain-ends (keyOf (a .sizes)) (a .moves .now) (a .head) (sourceOf (a .moves .now) (a .y .0)) scene (a .settling) (length (a .moves .now)) v (l .k) (lineOf (l .marks) (l .queue) (l .s .tail) (l .s .visits)) (l .inv) (omega (arith, at-loop-test .loop-test .left))
+    chain-ends (keyOf (a .sizes)) (a .moves .now) (a .head) (sourceOf (a .moves .now) (ownerOf (a .o))) scene (a .settling) (length (a .moves .now)) v (l .k) (lineOf (l .marks) (l .queue) (l .s .tail) (l .s .visits)) (l .inv) (omega (arith, at-loop-test .loop-test .left))
 
 pub visit-sources-spec : {M : Type 1} → statement M
 visit-sources-spec =

@@ -1,0 +1,26 @@
+-- The product of two low numbers is low. Assumes nothing.
+use mathlib.Core.Path.{refl}
+use Prim.Native.Nat.{_*_, _≤_}
+use native.Mathlib.Nat.{mul-le-mul}
+use native.Mathlib.Omega.{arith}
+use borrow.Author.Needs.{needs}
+use Rattle.engine_index.proofs.begins.Statement.{statement}
+use Rattle.engine_index.proofs.begins.Tie as tie
+
+cast-result : tie.Need-cast-result
+cast-result c = search needs
+
+mul-result : tie.Need-mul-result
+mul-result c =
+    let a = c .before .args in
+    let h : a .x * a .sizes .states ≤ 32 * 256 = mul-le-mul {n₂ = 32} {m₂ = 256} (c .before .pre .0) (c .before .pre .1) in
+    omega arith
+
+returns : tie.Need-returns
+returns c =
+    let a = c .before .args in
+    let h : a .x * a .sizes .states ≤ 32 * 256 = mul-le-mul {n₂ = 32} {m₂ = 256} (c .before .pre .0) (c .before .pre .1) in
+    (refl, omega arith)
+
+pub begins-spec : {M : Type 1} → statement M
+begins-spec = tie.close (tie.spec cast-result mul-result returns)
