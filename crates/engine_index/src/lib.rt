@@ -3,7 +3,7 @@ use rules::Sizes;
 ghost use mathlib.Core.Path.{_≡_};
 ghost use mathlib.Core.Bool.{true};
 ghost use Prim.Native.Nat.{suc, _+_, _*_, _≤_, _<_};
-ghost use lib.ListN.{length, getD};
+ghost use lib.ListN.{length};
 ghost use Rattle.rules.specs.Session.{unword};
 ghost use Rattle.engine_index.specs.Chains.{link, linked};
 ghost use Rattle.engine_index.specs.Indexed.{keyOf, headsOf};

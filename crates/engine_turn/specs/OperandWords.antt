@@ -9,7 +9,7 @@ use native.Mathlib.Omega.{arith}
 use lib.ListN.{length, getD}
 use lib.Dec.{eqb, ltb}
 use Rattle.lists.specs.Lists.{bit}
-use Rattle.lists.specs.Tests.{not-not, ltb-no, eqb-no}
+use Rattle.lists.specs.Tests.{not-not, ltb-no, eqb-out, eqb-no}
 use Rattle.rules.specs.Limits.{most-variables}
 use Rattle.rules.specs.Model.{Equation}
 use Rattle.rules.specs.declared.Sizes.{Sizes}
@@ -26,7 +26,7 @@ use Rattle.engine_turn.specs.Inside.{step-inside}
 -- The numbers of a word: the link, 1 for a diamond or a box, 1 where it is easy, the variable, where its pairs begin, and where the
 -- heads of its action begin.
 pub record Digits (o link step easy y row heads : ℕ) : Type 0 where
-  pub is-link : o % 512 ≡ 256 + link
+  pub is-link : o % 256 ≡ link
   pub is-step : o / 512 % 2 ≡ step
   pub is-easy : o / 1024 % 2 ≡ easy
   pub is-waits : waitsOf o ≡ 1024 * y
@@ -147,11 +147,10 @@ module _ {c : Scene} (g : Standing c) where
   unfolding wordBefore
   word-none = refl
 
-  -- The lowest numbers of a word tell how far its chain goes on.
-  word-falls : (k j : ℕ) → k ≤ j → j < 2 * length (c .equations) → linkOf (c .equations) j ≡ most-variables + j
-      → wordBefore (c .sizes) (c .equations) k % 512 < 256 + linkOf (c .equations) j
-  word-falls zero j h l e = let n = ap (λ (w : ℕ). w % 512) word-none in omega arith
-  word-falls (suc i) j h l e = let d = word-read i (omega arith) .is-link in let n = low (eqb (lastNamed (c .equations) (nameAt (c .equations) i) i) 0) in omega arith
+  -- The link of the word of a slot before j is lower than the place of the slot j.
+  word-falls : (k j : ℕ) → k ≤ j → j < 2 * length (c .equations) → wordBefore (c .sizes) (c .equations) k % 256 < most-variables + j
+  word-falls zero j h l = let n = ap (λ (w : ℕ). w % 256) word-none in omega arith
+  word-falls (suc i) j h l = let d = word-read i (omega arith) .is-link in let n = low (eqb (lastNamed (c .equations) (nameAt (c .equations) i) i) 0) in omega arith
     where
       low : (b : Bool) → cond b 0 (most-variables + i) ≤ most-variables + i
       low true = omega arith
@@ -165,9 +164,6 @@ module _ {c : Scene} (g : Standing c) where
         subst (λ (n : ℕ). Digits n (linkOf (c .equations) j) (bit (isStep (ofSlot (c .equations) j))) (easyBit (ofSlot (c .equations) j))
         (j / 2) (j / 2 * c .sizes .states) (cond (isStep (ofSlot (c .equations) j)) (ofSlot (c .equations) j .first * c .sizes .states) 0)) (sym w) (word-read j h)
 
-    link-is : o % 256 ≡ linkOf (c .equations) j
-    link-is = let e = read .is-link in let n = link-low j h in omega arith
-
     -- The word is that of an operand of the slot's variable.
     pub slot-owner : ownerOf o ≡ j / 2
     slot-owner = read .is-owner
@@ -178,42 +174,45 @@ module _ {c : Scene} (g : Standing c) where
       variable = let e = slot-owner in let k = g .drawn .long-equations in omega arith;
       uses = subst (λ (v : ℕ). 4 ≤ equationOf c v .operator) (sym slot-owner) (slot-uses (c .sizes) (c .equations) (drawn-names (g .drawn)) j x is l);
       word = w ∙ ap (λ (v : ℕ). slotWord (c .sizes) (equationOf c v) v (linkOf (c .equations) j)) (sym slot-owner)
-          ∙ ap (slotWord (c .sizes) (equationOf c (ownerOf o)) (ownerOf o)) (sym link-is);
+          ∙ ap (slotWord (c .sizes) (equationOf c (ownerOf o)) (ownerOf o)) (sym (read .is-link));
     }
 
-    -- The link leads to the word of the slot before it that names x, and to none where there is none.
+    -- Where the link is 0, no slot before it names x; else it is the slot's own place.
     last-is : lastNamed (c .equations) (nameAt (c .equations) j) j ≡ lastNamed (c .equations) x j
     last-is = ap (λ (v : ℕ). lastNamed (c .equations) v j) is
 
-    pub slot-inside : (o % 256 ≡ 0 → ⊥) → o % 256 < length operand
-    slot-inside some = go (eqb (lastNamed (c .equations) (nameAt (c .equations) j) j) 0) link-is
+    pub slot-last : o % 256 ≡ 0 → lastNamed (c .equations) x j ≡ 0
+    slot-last e = go (eqb (lastNamed (c .equations) (nameAt (c .equations) j) j) 0) refl (sym (read .is-link) ∙ e)
       where
-        go : (b : Bool) → o % 256 ≡ cond b 0 (most-variables + j) → o % 256 < length operand
-        go true e = absurd (some e)
-        go false e = let m = d .long in omega arith
+        go : (b : Bool) → eqb (lastNamed (c .equations) (nameAt (c .equations) j) j) 0 ≡ b → cond b 0 (most-variables + j) ≡ 0 → lastNamed (c .equations) x j ≡ 0
+        go true f k = sym last-is ∙ eqb-out _ 0 f
+        go false f k = absurd (omega arith)
 
-    next-by : (n : ℕ) → n ≡ lastNamed (c .equations) x j → (next : ℕ) → next ≡ cond (eqb (o % 256) 0) 0 (getD operand (o % 256) 0)
-        → (next ≡ wordBefore (c .sizes) (c .equations) n) × (wordBefore (c .sizes) (c .equations) n % 512 < o % 512)
-    next-by n e next f =
-        elim (ℕ-discrete n 0) [
-          | yes z ↦
-              let link : o % 256 ≡ 0 = link-is ∙ rw (last-is, sym e, z) refl in
-              let from = read .is-link in
-              let to = ap (λ (w : ℕ). w % 512) (ap (wordBefore (c .sizes) (c .equations)) z ∙ word-none) in
-              (f ∙ rw link refl ∙ sym word-none ∙ ap (wordBefore (c .sizes) (c .equations)) (sym z), omega arith)
-          | no z ↦
-              let some : lastNamed (c .equations) (nameAt (c .equations) j) j ≡ 0 → ⊥ = λ k. z (e ∙ sym last-is ∙ k) in
-              let own : linkOf (c .equations) j ≡ most-variables + j = rw (eqb-no (lastNamed (c .equations) (nameAt (c .equations) j) j) 0 .1 some) refl in
-              let link : o % 256 ≡ most-variables + j = link-is ∙ own in
-              let there : eqb (o % 256) 0 ≡ false = eqb-no (o % 256) 0 .1 (λ k. absurd (omega arith)) in
-              let low = last-le (λ w. w) (namesOf (c .equations)) x j in
-              let from = read .is-link in
-              let less = word-falls n j (omega arith) h own in
-              (f ∙ rw there (ap (λ (i : ℕ). getD operand i 0) link ∙ d .slots j h (let k = is in omega arith) some ∙ ap (wordBefore (c .sizes) (c .equations)) (last-is ∙ sym e)), omega arith)
-        ]
+    module _ (some : o % 256 ≡ 0 → ⊥) where
+      place-is : (o % 256 ≡ most-variables + j) × (lastNamed (c .equations) (nameAt (c .equations) j) j ≡ 0 → ⊥)
+      place-is = go (eqb (lastNamed (c .equations) (nameAt (c .equations) j) j) 0) refl (read .is-link)
+        where
+          go : (b : Bool) → eqb (lastNamed (c .equations) (nameAt (c .equations) j) j) 0 ≡ b → o % 256 ≡ cond b 0 (most-variables + j)
+              → (o % 256 ≡ most-variables + j) × (lastNamed (c .equations) (nameAt (c .equations) j) j ≡ 0 → ⊥)
+          go true f k = absurd (some k)
+          go false f k = (k, eqb-no (lastNamed (c .equations) (nameAt (c .equations) j) j) 0 .0 f)
 
-    pub slot-next : (next : ℕ) → next ≡ cond (eqb (o % 256) 0) 0 (getD operand (o % 256) 0) → next ≡ wordBefore (c .sizes) (c .equations) (lastNamed (c .equations) x j)
-    slot-next next f = next-by (lastNamed (c .equations) x j) refl next f .0
+      -- There the word of the last slot before it that names x stands, and its link is lower.
+      pub slot-inside : o % 256 < length operand
+      slot-inside = let e = place-is .0 in let m = d .long in omega arith
 
-    pub slot-falls : (next : ℕ) → next ≡ cond (eqb (o % 256) 0) 0 (getD operand (o % 256) 0) → next % 512 < o % 512
-    slot-falls next f = let n = next-by (lastNamed (c .equations) x j) refl next f in let e = ap (λ (w : ℕ). w % 512) (n .0) in let k = n .1 in omega arith
+      pub slot-before : 0 < lastNamed (c .equations) x j
+      slot-before = elim (ℕ-discrete (lastNamed (c .equations) x j) 0) [ yes e ↦ absurd (place-is .1 (last-is ∙ e)) | no e ↦ omega arith ]
+
+      pub slot-next : getD operand (o % 256) 0 ≡ wordBefore (c .sizes) (c .equations) (lastNamed (c .equations) x j)
+      slot-next =
+          ap (λ (i : ℕ). getD operand i 0) (place-is .0) ∙ d .slots j h (let k = is in omega arith) (place-is .1)
+          ∙ ap (wordBefore (c .sizes) (c .equations)) last-is
+
+      pub slot-falls : getD operand (o % 256) 0 % 256 < o % 256
+      slot-falls =
+          let low = last-le (λ w. w) (namesOf (c .equations)) x j in
+          let less = word-falls (lastNamed (c .equations) x j) j (omega arith) h in
+          let e = ap (λ (w : ℕ). w % 256) slot-next in
+          let f = place-is .0 in
+          omega arith

@@ -6,16 +6,12 @@ use rules::Variable;
 ghost use mathlib.Core.Path.{_≡_};
 ghost use mathlib.Core.Bool.{true, cond};
 ghost use mathlib.Core.List.{[], _∷_};
-ghost use Prim.Native.Nat.{_+_, _*_, _/_, _%_, _≤_, _<_};
+ghost use Prim.Native.Nat.{_+_, _*_, _/_, _%_, _<_};
 ghost use lib.ListN.{length, getD};
-ghost use lib.Seq.{slice};
-ghost use lib.Dec.{eqb};
-ghost use Rattle.lists.specs.Lists.{any};
 ghost use Rattle.systems.specs.Machine.{free, nextMark};
-ghost use Rattle.rules.specs.Moves.{target};
 ghost use Rattle.rules.specs.Rooms.{pairsOf};
 ghost use Rattle.laws.specs.ModelLeaners.{leanersOf};
-ghost use Rattle.words.specs.Table.{modelOf, pairIn, waitingOf, waiter};
+ghost use Rattle.words.specs.Table.{modelOf, waitingOf, waiter};
 ghost use Rattle.engine_rows.specs.Rooms.{Bits, Packed};
 ghost use Rattle.engine_index.specs.Indexed.{headsOf, Indexed};
 ghost use Rattle.engine_index.specs.Operands.{Named};
@@ -307,18 +303,6 @@ fn visit_operand(
     )
 }
 
-// The word of the next operand that names the same variable, and 0 where there is none.
-fn next_operand(operand: &[u64], o: u64) -> u64
-    requires { ⌜ ((o % 256 ≡ 0 → ⊥) → o % 256 < length (now operand)) ⌝ }
-    ensures { λ r. ⌜ r ≡ cond (eqb (o % 256) 0) 0 (getD (now (operand .entry)) (o % 256) 0) ⌝ }
-{
-    let next = (o % 256) as usize;
-    if next == 0 {
-        return 0;
-    }
-    operand[next]
-}
-
 // The pairs that lean on the pair of x and s inside its block are visited.
 fn visit_leaners(
     sizes: Sizes,
@@ -347,7 +331,10 @@ fn visit_leaners(
     let to = x.0 as usize;
     let mut r = at;
     let mut o = operand[to];
-    while 0 < o {
+    if o == 0 {
+        return r;
+    }
+    loop {
         r = visit_operand(
             sizes,
             equations,
@@ -362,9 +349,12 @@ fn visit_leaners(
             o,
             s,
         );
-        o = next_operand(operand, o);
+        let next = (o % 256) as usize;
+        if next == 0 {
+            return r;
+        }
+        o = operand[next];
     }
-    r
 }
 
 // The pair in front of the queue turns from its value, and the pairs that lean on it inside its block are visited.
