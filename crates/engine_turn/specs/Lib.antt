@@ -3,6 +3,7 @@ pub mod Inside
 pub mod VisitLaws
 pub mod ChainVisits
 pub mod OperandWords
+pub mod LeanerWalk
 pub mod Turns
 pub mod PileVisits
 pub mod LeanersFound

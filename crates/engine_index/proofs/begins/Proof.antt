@@ -12,14 +12,16 @@ cast-result c = search needs
 
 mul-result : tie.Need-mul-result
 mul-result c =
-    let a = c .before .args in
-    let h : a .x * a .sizes .states ≤ 32 * 256 = mul-le-mul {n₂ = 32} {m₂ = 256} (c .before .pre .0) (c .before .pre .1) in
+    let at-start = c .before in
+    let a = at-start .args in
+    let h : a .x * a .sizes .states ≤ 32 * 256 = mul-le-mul {n₂ = 32} {m₂ = 256} (at-start .pre .0) (at-start .pre .1) in
     omega arith
 
 returns : tie.Need-returns
 returns c =
-    let a = c .before .args in
-    let h : a .x * a .sizes .states ≤ 32 * 256 = mul-le-mul {n₂ = 32} {m₂ = 256} (c .before .pre .0) (c .before .pre .1) in
+    let at-start = c .before in
+    let a = at-start .args in
+    let h : a .x * a .sizes .states ≤ 32 * 256 = mul-le-mul {n₂ = 32} {m₂ = 256} (at-start .pre .0) (at-start .pre .1) in
     (refl, omega arith)
 
 pub begins-spec : {M : Type 1} → statement M

@@ -14,13 +14,23 @@ Inv-loop sizes equations operand₀ n y₀ operand y = ((y ≤ n) × (length ope
 abbrev μ-loop : tie.MeasureT-loop
 μ-loop sizes equations operand₀ n y₀ operand y = n - y
 
+-- The points of the program: from what is known at a later one to what was known at an earlier one.
+abbrev start-before-slice-known : tie.After-slice-known Inv-loop μ-loop → tie.Start Inv-loop μ-loop
+start-before-slice-known c = c .before .before
+
+abbrev at-loop-before-put-operands-arg : tie.After-put-operands-arg Inv-loop μ-loop → tie.At-loop Inv-loop μ-loop
+at-loop-before-put-operands-arg c = c .before .before
+
 loop-holds : tie.Need-loop-holds Inv-loop μ-loop
 loop-holds c =
-    let a = c .before .before .args in
-    ((omega arith, refl), named-none (a .sizes) (a .equations .now) (a .operand .now) (c .before .before .pre .1 .0) (c .before .before .pre .1 .1))
+    let at-start = start-before-slice-known c in
+    let a = at-start .args in
+    ((omega arith, refl), named-none (a .sizes) (a .equations .now) (a .operand .now) (at-start .pre .1 .0) (at-start .pre .1 .1))
 
 put-operands-requires : tie.Need-put-operands-requires Inv-loop μ-loop
-put-operands-requires c κs = (c .before .before .before .before .before .pre .0, (c .before .loop-test .taken, c .before .before .loop .inv .1))
+put-operands-requires c κs =
+    let at-loop = at-loop-before-put-operands-arg c in
+    (start-before-slice-known (at-loop .before) .pre .0, (c .before .loop-test .taken, at-loop .loop .inv .1))
 
 add-y : tie.Need-add-y Inv-loop μ-loop
 add-y c = omega arith
@@ -30,19 +40,23 @@ loop-less c = omega arith
 
 loop-again : tie.Need-loop-again Inv-loop μ-loop
 loop-again c =
-    let i = c .before .before .before .before .before .loop .inv in
-    let y = c .before .before .before .before .before .loop .y in
+    let after-put-operands = c .before .before in
+    let at-loop = at-loop-before-put-operands-arg (after-put-operands .before) in
+    let at-start = start-before-slice-known (at-loop .before) in
+    let i = at-loop .loop .inv in
+    let y = at-loop .loop .y in
     let e : suc (suc (2 * y)) ≡ 2 * (y + 1) = omega arith in
-    ((omega arith, omega (arith, i .0 .1)), named-same (c .before .before .before .before .before .before .before .before .args .sizes) (c .before .before .before .before .before .before .before .before .args .equations .now) e (c .before .before .put-operands .ensures))
+    ((omega arith, omega (arith, i .0 .1)), named-same (at-start .args .sizes) (at-start .args .equations .now) e (after-put-operands .put-operands .ensures))
 
 same-length : tie.Need-same-length Inv-loop μ-loop
 same-length c = c .before .loop .inv .0 .1
 
 returns : tie.Need-returns Inv-loop μ-loop
 returns c =
-    let a = c .before .before .before .before .args in
-    let e : c .before .loop .y ≡ length (a .equations .now) = omega arith in
-    named-same (a .sizes) (a .equations .now) (ap (λ (k : ℕ). 2 * k) e) (c .before .loop .inv .1)
+    let at-loop = c .before in
+    let a = start-before-slice-known (at-loop .before) .args in
+    let e : at-loop .loop .y ≡ length (a .equations .now) = omega arith in
+    named-same (a .sizes) (a .equations .now) (ap (λ (k : ℕ). 2 * k) e) (at-loop .loop .inv .1)
 
 pub name-operands-spec : {M : Type 1} → statement M
 name-operands-spec =

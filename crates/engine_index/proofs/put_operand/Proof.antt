@@ -10,9 +10,28 @@ use borrow.Author.Needs.{needs}
 use Rattle.engine_index.proofs.put_operand.Statement.{statement}
 use Rattle.engine_index.proofs.put_operand.Tie as tie
 
+-- The points of the program: from what is known at a later one to what was known at an earlier one.
+abbrev start-before-slice-known : tie.After-slice-known → tie.Start
+start-before-slice-known c = c .before .before
+
+abbrev then1-before-shared-slice-known3 : tie.After-shared-slice-known3 → tie.Then1
+then1-before-shared-slice-known3 c = c .before .before
+
+abbrev then1-before-equation-in2 : tie.After-equation-in2 → tie.Then1
+then1-before-equation-in2 c = then1-before-shared-slice-known3 (c .before .before)
+
+abbrev equation-in2-before-struct-known2 : tie.After-struct-known2 → tie.After-equation-in2
+equation-in2-before-struct-known2 c = c .before .before
+
+abbrev start-before-then2 : tie.Then2 → tie.Start
+start-before-then2 c = start-before-slice-known (then1-before-equation-in2 (equation-in2-before-struct-known2 (c .before)) .before)
+
+abbrev equation-in2-before-slot-word : tie.After-slot-word → tie.After-equation-in2
+equation-in2-before-slot-word c = equation-in2-before-struct-known2 (c .before .before)
+
 mul-w : tie.Need-mul-w
 mul-w c =
-    let s = c .before .before .before .pre in
+    let s = start-before-slice-known (c .before) .pre in
     let i = s .1 .0 .inside in
     let o = s .1 .0 .owner in
     let f = s .0 .few in
@@ -20,22 +39,25 @@ mul-w c =
 
 shared-slice-read-w : tie.Need-shared-slice-read-w
 shared-slice-read-w c =
-    let s = c .before .before .before .before .pre in
+    let s = start-before-slice-known (c .before .before) .pre in
     let i = s .1 .0 .inside in
     let o = s .1 .0 .owner in
     omega arith
 
 mul-equation-in : tie.Need-mul-equation-in
 mul-equation-in c =
-    let s = c .before .before .before .before .pre in
-    let h = slot-inside (c .before .before .before .before .args .sizes) (c .before .before .before .before .args .equations .now) (s .1 .0) (s .0) (c .before .if1 .taken) in
+    let at-start = start-before-slice-known (c .before .before) in
+    let s = at-start .pre in
+    let h = slot-inside (at-start .args .sizes) (at-start .args .equations .now) (s .1 .0) (s .0) (c .before .if1 .taken) in
     let f = s .0 .few in
     omega arith
 
 shared-slice-read-equation-in : tie.Need-shared-slice-read-equation-in
 shared-slice-read-equation-in c =
-    let s = c .before .before .before .before .before .pre in
-    let h = slot-inside (c .before .before .before .before .before .args .sizes) (c .before .before .before .before .before .args .equations .now) (s .1 .0) (s .0) (c .before .before .if1 .taken) in
+    let in-then1 = then1-before-shared-slice-known3 c in
+    let at-start = start-before-slice-known (in-then1 .before) in
+    let s = at-start .pre in
+    let h = slot-inside (at-start .args .sizes) (at-start .args .equations .now) (s .1 .0) (s .0) (in-then1 .if1 .taken) in
     omega arith
 
 equation-in-requires : tie.Need-equation-in-requires
@@ -46,21 +68,25 @@ equation-in-requires-2 c κs = search needs
 
 slot-word-requires : tie.Need-slot-word-requires
 slot-word-requires c κs =
-    let s = c .before .before .before .before .before .before .before .before .before .before .pre in
+    let at-start = start-before-then2 c in
+    let s = at-start .pre in
     let i = s .1 .0 .inside in
     let o = s .1 .0 .owner in
     let f = s .0 .few in
-    let y : c .before .before .before .before .before .before .before .before .before .before .args .y < length (c .before .before .before .before .before .before .before .before .before .before .args .equations .now) = omega arith in
-    ((omega arith, s .0 .states), s .0 .actions (c .before .before .before .before .before .before .before .before .before .before .args .y) y)
+    let y : at-start .args .y < length (at-start .args .equations .now) = omega arith in
+    ((omega arith, s .0 .states), s .0 .actions (at-start .args .y) y)
 
 put-first-requires : tie.Need-put-first-requires
 put-first-requires c κs =
-    let s = c .before .before .before .before .before .before .before .before .before .before .before .before .pre in
+    let after-slot-word = c .before in
+    let in-then1 = then1-before-equation-in2 (equation-in2-before-slot-word after-slot-word) in
+    let at-start = start-before-slice-known (in-then1 .before) in
+    let s = at-start .pre in
     let i = s .1 .0 .inside in
     let f = s .0 .few in
-    let h = slot-inside (c .before .before .before .before .before .before .before .before .before .before .before .before .args .sizes) (c .before .before .before .before .before .before .before .before .before .before .before .before .args .equations .now) (s .1 .0) (s .0) (c .before .before .before .before .before .before .before .before .before .if1 .taken) in
+    let h = slot-inside (at-start .args .sizes) (at-start .args .equations .now) (s .1 .0) (s .0) (in-then1 .if1 .taken) in
     let l = s .1 .1 .long in
-    let w = word-low (c .before .before .before .before .before .before .before .before .before .before .before .before .args .sizes) (c .before .before .before .before .before .before .before .before .before .before .before .before .args .equations .now) (s .1 .0) (s .0) (c .before .slot-word .result) (c .before .slot-word .ensures) in
+    let w = word-low (at-start .args .sizes) (at-start .args .equations .now) (s .1 .0) (s .0) (after-slot-word .slot-word .result) (after-slot-word .slot-word .ensures) in
     ((omega arith, omega arith), (omega arith, w))
 
 same-length : tie.Need-same-length
@@ -68,23 +94,32 @@ same-length c = search needs
 
 returns : tie.Need-returns
 returns c =
-    let s = c .before .before .before .before .before .before .before .before .before .before .before .before .before .before .before .pre in
-    let a = c .before .before .before .before .before .before .before .before .before .before .before .before .before .before .before .args in
-    let e = sym (c .before .before .before .before .before .before .before .before .before .equation-in .ensures .is-block) ∙ c .before .before .before .before .before .if2 .taken ∙ c .before .before .before .before .before .before .before .before .equation-in2 .ensures .is-block in
-    let p = slot-put (a .sizes) (a .equations .now) (s .1 .0) (s .0) (c .before .before .before .before .slot-word .result) (a .operand .now) (c .before .before .before .before .before .before .before .before .before .before .before .before .if1 .taken) e (c .before .before .before .before .slot-word .ensures) (s .1 .1) in
-    subst (NamedUpTo (a .sizes) (a .equations .now) _) (sym (c .before .before .put-first .ensures)) p
+    let after-put-first = c .before .before in
+    let after-slot-word = after-put-first .before .before in
+    let after-equation-in2 = equation-in2-before-slot-word after-slot-word in
+    let in-then1 = then1-before-equation-in2 after-equation-in2 in
+    let at-start = start-before-slice-known (in-then1 .before) in
+    let s = at-start .pre in
+    let a = at-start .args in
+    let e = sym (after-equation-in2 .before .equation-in .ensures .is-block) ∙ after-slot-word .before .if2 .taken ∙ after-equation-in2 .equation-in2 .ensures .is-block in
+    let p = slot-put (a .sizes) (a .equations .now) (s .1 .0) (s .0) (after-slot-word .slot-word .result) (a .operand .now) (in-then1 .if1 .taken) e (after-slot-word .slot-word .ensures) (s .1 .1) in
+    subst (NamedUpTo (a .sizes) (a .equations .now) _) (sym (after-put-first .put-first .ensures)) p
 
 returns-2 : tie.Need-returns-2
 returns-2 c =
-    let s = c .before .before .before .before .before .before .before .before .before .before .pre in
-    let a = c .before .before .before .before .before .before .before .before .before .before .args in
-    let e = names-other (a .equations .now) (s .1 .0) (c .before .before .before .before .before .before .before .if1 .taken) (λ f. c .if2 .left (c .before .before .before .before .equation-in .ensures .is-block ∙ f ∙ sym (c .before .before .before .equation-in2 .ensures .is-block))) in
+    let after-equation-in2 = equation-in2-before-struct-known2 (c .before) in
+    let in-then1 = then1-before-equation-in2 after-equation-in2 in
+    let at-start = start-before-slice-known (in-then1 .before) in
+    let s = at-start .pre in
+    let a = at-start .args in
+    let e = names-other (a .equations .now) (s .1 .0) (in-then1 .if1 .taken) (λ f. c .if2 .left (after-equation-in2 .before .equation-in .ensures .is-block ∙ f ∙ sym (after-equation-in2 .equation-in2 .ensures .is-block))) in
     slot-left (a .sizes) (a .equations .now) (s .1 .0) (s .0) (a .operand .now) e (s .1 .1)
 
 returns-3 : tie.Need-returns-3
 returns-3 c =
-    let s = c .before .before .before .pre in
-    let a = c .before .before .before .args in
+    let at-start = start-before-slice-known (c .before) in
+    let s = at-start .pre in
+    let a = at-start .args in
     slot-left (a .sizes) (a .equations .now) (s .1 .0) (s .0) (a .operand .now) (names-none (a .equations .now) (s .1 .0) (c .if1 .left)) (s .1 .1)
 
 pub put-operand-spec : {M : Type 1} → statement M

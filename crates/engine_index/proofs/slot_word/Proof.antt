@@ -10,6 +10,13 @@ use borrow.Author.Needs.{needs}
 use Rattle.engine_index.proofs.slot_word.Statement.{statement}
 use Rattle.engine_index.proofs.slot_word.Tie as tie
 
+-- The points of the program: from what is known at a later one to what was known at an earlier one.
+abbrev equation-in-before-begins : tie.After-begins → tie.After-equation-in
+equation-in-before-begins c = c .before .before .before
+
+abbrev begins-before-else1 : tie.Else1 → tie.After-begins
+begins-before-else1 c = c .before .before
+
 equation-in-requires : tie.Need-equation-in-requires
 equation-in-requires c κs = search needs
 
@@ -46,9 +53,10 @@ add-word-3 c = search needs
 returns : tie.Need-returns
 unfolding slotWord
 returns c =
-    let e = c .before .before .before .before .before .equation-in .ensures in
+    let after-begins = c .before .before in
+    let e = equation-in-before-begins after-begins .equation-in .ensures in
     let l = ltb-in _ 6 (c .if1 .taken) in
-    let r = c .before .before .begins .ensures .0 in
+    let r = after-begins .begins .ensures .0 in
     rw (sym (e .is-operator), sym (e .is-kind), l) (omega arith)
 
 add-result : tie.Need-add-result
@@ -59,10 +67,12 @@ cast-begins c = search needs
 
 begins-requires-2 : tie.Need-begins-requires-2
 begins-requires-2 c κs =
-    let e = c .before .before .before .before .before .before .equation-in .ensures in
-    let step = c .before .before .before .before .before .before .before .pre .1 (ap not (ap (λ (o : ℕ). ltb o 6) (sym (e .is-operator)) ∙ ltb-no _ 6 .1 (c .before .if1 .left))) in
+    let after-equation-in = equation-in-before-begins (begins-before-else1 (c .before)) in
+    let at-start = after-equation-in .before in
+    let e = after-equation-in .equation-in .ensures in
+    let step = at-start .pre .1 (ap not (ap (λ (o : ℕ). ltb o 6) (sym (e .is-operator)) ∙ ltb-no _ 6 .1 (c .before .if1 .left))) in
     let f = e .is-first in
-    (omega arith, c .before .before .before .before .before .before .before .pre .0 .1)
+    (omega arith, at-start .pre .0 .1)
 
 mul-result : tie.Need-mul-result
 mul-result c = search needs
@@ -73,9 +83,11 @@ add-result-2 c = search needs
 returns-2 : tie.Need-returns-2
 unfolding slotWord
 returns-2 c =
-    let e = c .before .before .before .before .before .before .before .equation-in .ensures in
-    let l = ltb-no _ 6 .1 (c .before .before .if1 .left) in
-    let r = c .before .before .before .before .begins .ensures .0 in
+    let in-else1 = c .before .before in
+    let after-begins = begins-before-else1 in-else1 in
+    let e = equation-in-before-begins after-begins .equation-in .ensures in
+    let l = ltb-no _ 6 .1 (in-else1 .if1 .left) in
+    let r = after-begins .begins .ensures .0 in
     let h = c .begins2 .ensures .0 in
     rw (sym (e .is-operator), sym (e .is-kind), sym (e .is-first), l) (omega arith)
 

@@ -14,6 +14,40 @@ use borrow.Author.Needs.{needs}
 use Rattle.engine_turn.proofs.visit.Statement.{statement}
 use Rattle.engine_turn.proofs.visit.Tie as tie
 
+-- The points of the program: from what is known at a later one to what was known at an earlier one.
+abbrev start-before-pair-of : tie.After-pair-of → tie.Start
+start-before-pair-of c = c .before .before .before .before .before .before .before
+
+abbrev pair-of-before-then1 : tie.Then1 → tie.After-pair-of
+pair-of-before-then1 c = c .before .before
+
+abbrev then1-before-is-free : tie.After-is-free → tie.Then1
+then1-before-is-free c = c .before .before
+
+abbrev start-before-then2 : tie.Then2 → tie.Start
+start-before-then2 c = start-before-pair-of (pair-of-before-then1 (then1-before-is-free (c .before)))
+
+abbrev is-free-before-must-turn : tie.After-must-turn → tie.After-is-free
+is-free-before-must-turn c = c .before .before
+
+abbrev then1-before-must-turn : tie.After-must-turn → tie.Then1
+then1-before-must-turn c = then1-before-is-free (is-free-before-must-turn c)
+
+abbrev then2-before-then3 : tie.Then3 → tie.Then2
+then2-before-then3 c = c .before .before
+
+abbrev must-turn-before-next-mark : tie.After-next-mark → tie.After-must-turn
+must-turn-before-next-mark c = c .before .before
+
+abbrev pair-of-before-next-mark : tie.After-next-mark → tie.After-pair-of
+pair-of-before-next-mark c = pair-of-before-then1 (then1-before-must-turn (must-turn-before-next-mark c))
+
+abbrev start-before-next-mark : tie.After-next-mark → tie.Start
+start-before-next-mark c = start-before-pair-of (pair-of-before-next-mark c)
+
+abbrev then3-before-waiting-of : tie.After-waiting-of → tie.Then3
+then3-before-waiting-of c = c .before .before
+
 add-count : tie.Need-add-count
 add-count c = search needs
 
@@ -22,20 +56,24 @@ pair-of-requires c κs = search needs
 
 shared-slice-read-if1 : tie.Need-shared-slice-read-if1
 shared-slice-read-if1 c =
-    let a = c .before .before .before .before .before .before .before .before .args in
-    let pre = c .before .before .before .before .before .before .before .before .pre in
+    let after-pair-of = c .before in
+    let at-start = start-before-pair-of after-pair-of in
+    let a = at-start .args in
+    let pre = at-start .pre in
     let scene = sceneOf (a .sizes) (a .equations .now) (a .moves .now) (a .values .now) (a .from) in
-    let is = pair-is scene (pre .1 .0 .0) (a .s .0) (c .before .pair-of .result) (c .before .pair-of .ensures) in
+    let is = pair-is scene (pre .1 .0 .0) (a .s .0) (after-pair-of .pair-of .result) (after-pair-of .pair-of .ensures) in
     let low = pair-low (a .sizes) (ownerOf (a .o)) (a .s .0) (pre .1 .0 .0 .variable) (pre .1 .0 .1) in
     let n = pre .0 .long in
     omega arith
 
 slice-read-mark : tie.Need-slice-read-mark
 slice-read-mark c =
-    let a = c .before .before .before .before .before .before .before .before .before .before .args in
-    let pre = c .before .before .before .before .before .before .before .before .before .before .pre in
+    let after-pair-of = pair-of-before-then1 (c .before) in
+    let at-start = start-before-pair-of after-pair-of in
+    let a = at-start .args in
+    let pre = at-start .pre in
     let scene = sceneOf (a .sizes) (a .equations .now) (a .moves .now) (a .values .now) (a .from) in
-    let is = pair-is scene (pre .1 .0 .0) (a .s .0) (c .before .before .before .pair-of .result) (c .before .before .before .pair-of .ensures) in
+    let is = pair-is scene (pre .1 .0 .0) (a .s .0) (after-pair-of .pair-of .result) (after-pair-of .pair-of .ensures) in
     let low = pair-low (a .sizes) (ownerOf (a .o)) (a .s .0) (pre .1 .0 .0 .variable) (pre .1 .0 .1) in
     let n = pre .1 .1 .0 .0 in
     omega arith
@@ -45,28 +83,34 @@ is-free-requires c κs = search needs
 
 must-turn-requires : tie.Need-must-turn-requires
 must-turn-requires c κs =
-    let a = c .before .before .before .before .before .before .before .before .before .before .before .before .args in
-    let pre = c .before .before .before .before .before .before .before .before .before .before .before .before .pre in
+    let at-start = start-before-then2 c in
+    let a = at-start .args in
+    let pre = at-start .pre in
     let scene = sceneOf (a .sizes) (a .equations .now) (a .moves .now) (a .values .now) (a .from) in
     (pre .0, (leaner-of scene (pre .1 .0 .0) (a .s .0) (pre .1 .0 .1), pre .1 .1 .1 .0))
 
 next-mark-requires : tie.Need-next-mark-requires
-next-mark-requires c κs = sym (c .before .before .before .is-free .ensures) ∙ c .before .before .if2 .taken
+next-mark-requires c κs =
+    let in-then2 = then2-before-then3 c in
+    sym (in-then2 .before .is-free .ensures) ∙ in-then2 .if2 .taken
 
 slice-write-marks : tie.Need-slice-write-marks
 slice-write-marks c =
-    let a = c .before .before .before .before .before .before .before .before .before .before .before .before .before .before .before .args in
-    let pre = c .before .before .before .before .before .before .before .before .before .before .before .before .before .before .before .pre in
+    let after-pair-of = pair-of-before-next-mark c in
+    let at-start = start-before-pair-of after-pair-of in
+    let a = at-start .args in
+    let pre = at-start .pre in
     let scene = sceneOf (a .sizes) (a .equations .now) (a .moves .now) (a .values .now) (a .from) in
-    let is = pair-is scene (pre .1 .0 .0) (a .s .0) (c .before .before .before .before .before .before .before .before .pair-of .result) (c .before .before .before .before .before .before .before .before .pair-of .ensures) in
+    let is = pair-is scene (pre .1 .0 .0) (a .s .0) (after-pair-of .pair-of .result) (after-pair-of .pair-of .ensures) in
     let low = pair-low (a .sizes) (ownerOf (a .o)) (a .s .0) (pre .1 .0 .0 .variable) (pre .1 .0 .1) in
     let n = pre .1 .1 .0 .0 in
     omega arith
 
 waiting-of-requires : tie.Need-waiting-of-requires
 waiting-of-requires c κs =
-    let a = c .before .before .before .before .before .before .before .before .before .before .before .before .before .before .before .args in
-    let pre = c .before .before .before .before .before .before .before .before .before .before .before .before .before .before .before .pre in
+    let at-start = start-before-next-mark c in
+    let a = at-start .args in
+    let pre = at-start .pre in
     let z = limits (pre .0 .drawn) in
     let w = pre .1 .0 .0 .waits in
     let y = pre .1 .0 .0 .variable in
@@ -75,23 +119,29 @@ waiting-of-requires c κs =
     k
 
 mul-queue : tie.Need-mul-queue
-mul-queue c = record { fits = omega (arith, c .before .before .before .before .before .before .before .before .before .before .before .before .before .before .before .before .pre .1 .1 .0 .1 .0) }
+mul-queue c = record { fits = omega (arith, start-before-next-mark (c .before) .pre .1 .1 .0 .1 .0) }
 
 slice-write-queue : tie.Need-slice-write-queue
 slice-write-queue c =
-    let a = c .before .before .before .before .before .before .before .before .before .before .before .before .before .before .before .before .args in
-    let pre = c .before .before .before .before .before .before .before .before .before .before .before .before .before .before .before .before .pre in
+    let in-then3 = then3-before-waiting-of c in
+    let after-must-turn = in-then3 .before in
+    let after-is-free = is-free-before-must-turn after-must-turn in
+    let in-then1 = then1-before-is-free after-is-free in
+    let after-pair-of = pair-of-before-then1 in-then1 in
+    let at-start = start-before-pair-of after-pair-of in
+    let a = at-start .args in
+    let pre = at-start .pre in
     let scene = sceneOf (a .sizes) (a .equations .now) (a .moves .now) (a .values .now) (a .from) in
     let z = limits (pre .0 .drawn) in
     let s : a .s .0 < 1024 = omega (arith, pre .1 .0 .1) in
-    let is = pair-is scene (pre .1 .0 .0) (a .s .0) (c .before .before .before .before .before .before .before .before .before .pair-of .result) (c .before .before .before .before .before .before .before .before .before .pair-of .ensures) in
-    let has = ap (λ (q : ℕ). eqb (getD (a .values .now) q 0) (a .from)) (sym is) ∙ eqb-in _ _ (c .before .before .before .before .before .before .before .if1 .taken) in
-    let asked = c .before .before .before .must-turn .ensures ∙ asks-by scene (a .settling) (a .asks) (a .o) (a .s .0) (pre .1 .0 .0) has in
-    visit-room scene (a .settling) (ownerOf (a .o)) (a .s .0) s (a .marks .now) (a .queue .now) (a .at .tail) (a .at .visits) (c .before .before .before .before .before .before .before .before .before .pair-of .result) _ (c .before .before .before .before .before .is-free .result) is refl (c .before .before .before .before .before .is-free .ensures) (c .before .before .before .before .if2 .taken)
-    (c .before .before .before .must-turn .result) asked (c .before .before .if3 .taken) (pre .1 .1 .1 .1)
+    let is = pair-is scene (pre .1 .0 .0) (a .s .0) (after-pair-of .pair-of .result) (after-pair-of .pair-of .ensures) in
+    let has = ap (λ (q : ℕ). eqb (getD (a .values .now) q 0) (a .from)) (sym is) ∙ eqb-in _ _ (in-then1 .if1 .taken) in
+    let asked = after-must-turn .must-turn .ensures ∙ asks-by scene (a .settling) (a .asks) (a .o) (a .s .0) (pre .1 .0 .0) has in
+    visit-room scene (a .settling) (ownerOf (a .o)) (a .s .0) s (a .marks .now) (a .queue .now) (a .at .tail) (a .at .visits) (after-pair-of .pair-of .result) _ (after-is-free .is-free .result) is refl (after-is-free .is-free .ensures) (after-must-turn .before .if2 .taken)
+    (after-must-turn .must-turn .result) asked (in-then3 .if3 .taken) (pre .1 .1 .1 .1)
 
 add-end : tie.Need-add-end
-add-end c = record { fits = omega (arith, c .before .before .before .before .before .before .before .before .before .before .before .before .before .before .before .before .pre .1 .1 .0 .1 .0) }
+add-end c = record { fits = omega (arith, start-before-next-mark (c .before) .pre .1 .1 .0 .1 .0) }
 
 same-length : tie.Need-same-length
 same-length c = search needs
@@ -101,47 +151,62 @@ same-length-2 c = search needs
 
 returns : tie.Need-returns
 returns c =
-    let a = c .before .before .before .before .before .before .before .before .before .before .before .before .before .before .before .before .args in
-    let pre = c .before .before .before .before .before .before .before .before .before .before .before .before .before .before .before .before .pre in
+    let after-next-mark = c .before in
+    let after-must-turn = must-turn-before-next-mark after-next-mark in
+    let after-is-free = is-free-before-must-turn after-must-turn in
+    let in-then1 = then1-before-is-free after-is-free in
+    let after-pair-of = pair-of-before-then1 in-then1 in
+    let at-start = start-before-pair-of after-pair-of in
+    let a = at-start .args in
+    let pre = at-start .pre in
     let scene = sceneOf (a .sizes) (a .equations .now) (a .moves .now) (a .values .now) (a .from) in
     let z = limits (pre .0 .drawn) in
     let s : a .s .0 < 1024 = omega (arith, pre .1 .0 .1) in
-    let is = pair-is scene (pre .1 .0 .0) (a .s .0) (c .before .before .before .before .before .before .before .before .before .pair-of .result) (c .before .before .before .before .before .before .before .before .before .pair-of .ensures) in
-    let has = ap (λ (q : ℕ). eqb (getD (a .values .now) q 0) (a .from)) (sym is) ∙ eqb-in _ _ (c .before .before .before .before .before .before .before .if1 .taken) in
-    let asked = c .before .before .before .must-turn .ensures ∙ asks-by scene (a .settling) (a .asks) (a .o) (a .s .0) (pre .1 .0 .0) has in
-    visit-waits scene (a .settling) (ownerOf (a .o)) (a .s .0) s (a .marks .now) (a .queue .now) (a .at .tail) (a .at .visits) (c .before .before .before .before .before .before .before .before .before .pair-of .result) _ (c .before .before .before .before .before .is-free .result) is refl (c .before .before .before .before .before .is-free .ensures) (c .before .before .before .before .if2 .taken)
-    (c .before .before .before .must-turn .result) asked (c .before .before .if3 .taken) (c .before .next-mark .result) (c .waiting-of .result) _ (c .before .next-mark .ensures) (waits-is scene (pre .1 .0 .0) (a .s .0) _ (c .waiting-of .ensures)) refl
+    let is = pair-is scene (pre .1 .0 .0) (a .s .0) (after-pair-of .pair-of .result) (after-pair-of .pair-of .ensures) in
+    let has = ap (λ (q : ℕ). eqb (getD (a .values .now) q 0) (a .from)) (sym is) ∙ eqb-in _ _ (in-then1 .if1 .taken) in
+    let asked = after-must-turn .must-turn .ensures ∙ asks-by scene (a .settling) (a .asks) (a .o) (a .s .0) (pre .1 .0 .0) has in
+    visit-waits scene (a .settling) (ownerOf (a .o)) (a .s .0) s (a .marks .now) (a .queue .now) (a .at .tail) (a .at .visits) (after-pair-of .pair-of .result) _ (after-is-free .is-free .result) is refl (after-is-free .is-free .ensures) (after-must-turn .before .if2 .taken)
+    (after-must-turn .must-turn .result) asked (after-next-mark .before .if3 .taken) (after-next-mark .next-mark .result) (c .waiting-of .result) _ (after-next-mark .next-mark .ensures) (waits-is scene (pre .1 .0 .0) (a .s .0) _ (c .waiting-of .ensures)) refl
 
 returns-2 : tie.Need-returns-2
 returns-2 c =
-    let a = c .before .before .before .before .before .before .before .before .before .before .before .before .before .before .args in
-    let pre = c .before .before .before .before .before .before .before .before .before .before .before .before .before .before .pre in
+    let after-must-turn = c .before in
+    let in-then1 = then1-before-must-turn after-must-turn in
+    let after-pair-of = pair-of-before-then1 in-then1 in
+    let at-start = start-before-pair-of after-pair-of in
+    let a = at-start .args in
+    let pre = at-start .pre in
     let scene = sceneOf (a .sizes) (a .equations .now) (a .moves .now) (a .values .now) (a .from) in
     let z = limits (pre .0 .drawn) in
     let s : a .s .0 < 1024 = omega (arith, pre .1 .0 .1) in
-    let is = pair-is scene (pre .1 .0 .0) (a .s .0) (c .before .before .before .before .before .before .before .pair-of .result) (c .before .before .before .before .before .before .before .pair-of .ensures) in
-    let has = ap (λ (q : ℕ). eqb (getD (a .values .now) q 0) (a .from)) (sym is) ∙ eqb-in _ _ (c .before .before .before .before .before .if1 .taken) in
-    let asked = c .before .must-turn .ensures ∙ asks-by scene (a .settling) (a .asks) (a .o) (a .s .0) (pre .1 .0 .0) has in
-    visit-stays scene (a .settling) (ownerOf (a .o)) (a .s .0) s (a .marks .now) (a .queue .now) (a .at .tail) (a .at .visits) (c .before .must-turn .result) asked (c .if3 .left)
+    let is = pair-is scene (pre .1 .0 .0) (a .s .0) (after-pair-of .pair-of .result) (after-pair-of .pair-of .ensures) in
+    let has = ap (λ (q : ℕ). eqb (getD (a .values .now) q 0) (a .from)) (sym is) ∙ eqb-in _ _ (in-then1 .if1 .taken) in
+    let asked = after-must-turn .must-turn .ensures ∙ asks-by scene (a .settling) (a .asks) (a .o) (a .s .0) (pre .1 .0 .0) has in
+    visit-stays scene (a .settling) (ownerOf (a .o)) (a .s .0) s (a .marks .now) (a .queue .now) (a .at .tail) (a .at .visits) (after-must-turn .must-turn .result) asked (c .if3 .left)
 
 returns-3 : tie.Need-returns-3
 returns-3 c =
-    let a = c .before .before .before .before .before .before .before .before .before .before .before .before .args in
-    let pre = c .before .before .before .before .before .before .before .before .before .before .before .before .pre in
+    let after-is-free = c .before in
+    let after-pair-of = pair-of-before-then1 (then1-before-is-free after-is-free) in
+    let at-start = start-before-pair-of after-pair-of in
+    let a = at-start .args in
+    let pre = at-start .pre in
     let scene = sceneOf (a .sizes) (a .equations .now) (a .moves .now) (a .values .now) (a .from) in
     let z = limits (pre .0 .drawn) in
     let s : a .s .0 < 1024 = omega (arith, pre .1 .0 .1) in
-    let is = pair-is scene (pre .1 .0 .0) (a .s .0) (c .before .before .before .before .before .pair-of .result) (c .before .before .before .before .before .pair-of .ensures) in
-    visit-shut scene (a .settling) (ownerOf (a .o)) (a .s .0) s (a .marks .now) (a .queue .now) (a .at .tail) (a .at .visits) (c .before .before .before .before .before .pair-of .result) _ (c .before .is-free .result) is refl (c .before .is-free .ensures) (c .if2 .left)
+    let is = pair-is scene (pre .1 .0 .0) (a .s .0) (after-pair-of .pair-of .result) (after-pair-of .pair-of .ensures) in
+    visit-shut scene (a .settling) (ownerOf (a .o)) (a .s .0) s (a .marks .now) (a .queue .now) (a .at .tail) (a .at .visits) (after-pair-of .pair-of .result) _ (after-is-free .is-free .result) is refl (after-is-free .is-free .ensures) (c .if2 .left)
 
 returns-4 : tie.Need-returns-4
 returns-4 c =
-    let a = c .before .before .before .before .before .before .before .before .before .args in
-    let pre = c .before .before .before .before .before .before .before .before .before .pre in
+    let after-pair-of = c .before .before in
+    let at-start = start-before-pair-of after-pair-of in
+    let a = at-start .args in
+    let pre = at-start .pre in
     let scene = sceneOf (a .sizes) (a .equations .now) (a .moves .now) (a .values .now) (a .from) in
     let z = limits (pre .0 .drawn) in
     let s : a .s .0 < 1024 = omega (arith, pre .1 .0 .1) in
-    let is = pair-is scene (pre .1 .0 .0) (a .s .0) (c .before .before .pair-of .result) (c .before .before .pair-of .ensures) in
+    let is = pair-is scene (pre .1 .0 .0) (a .s .0) (after-pair-of .pair-of .result) (after-pair-of .pair-of .ensures) in
     let off : hasFrom scene (ownerOf (a .o)) (a .s .0) ≡ false = ap (λ (q : ℕ). eqb (getD (a .values .now) q 0) (a .from)) (sym is) ∙ eqb-no _ _ .1 (c .if1 .left) in
     visit-stays scene (a .settling) (ownerOf (a .o)) (a .s .0) s (a .marks .now) (a .queue .now) (a .at .tail) (a .at .visits) false (asks-not scene (a .settling) (ownerOf (a .o)) (a .s .0) off) refl
 

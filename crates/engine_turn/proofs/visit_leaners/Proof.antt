@@ -1,240 +1,136 @@
 -- The chain of a variable, walked to its end. Assumes nothing.
-use mathlib.Core.Path.{_≡_, refl, sym, ap, _∙_, subst}
-use mathlib.Core.List.{List}
-use Prim.Native.Nat.{ℕ, suc, _*_, _/_, _%_, _-_, _<_}
+use mathlib.Core.Path.{_∙_}
+use Prim.Native.Nat.{_%_, _<_}
 use native.Mathlib.Omega.{arith}
 use lib.ListN.{length}
 use Rattle.words.specs.Limits.{limits}
-use Rattle.engine_index.specs.Operands.{namesOf, lastNamed, wordBefore}
-use Rattle.engine_index.specs.OperandLaws.{name-at, word-before, word-some}
-use Rattle.engine_turn.specs.Scene.{sceneOf, lineOf, visitAll, pairsBy, leanersIn, Bounded, Room}
-use Rattle.engine_turn.specs.ChainVisits.{OnChain, chain-begins, chain-at, chain-room, chain-fits, chain-goes, chain-ends}
-use Rattle.engine_turn.specs.OperandWords.{slot-owner, slot-operand, slot-last, slot-inside, slot-before, slot-next, slot-falls}
+use Rattle.engine_turn.specs.Scene.{Line, sceneOf, lineOf}
+use Rattle.engine_turn.specs.LeanerWalk.{AtWord, walk-begins, walk-none, walk-operand, walk-bounded, walk-room, walk-marks, walk-queue, walk-ends, walk-goes, walk-inside, walk-falls}
 use borrow.Author.Needs.{needs}
 use Rattle.engine_turn.proofs.visit_leaners.Statement.{statement}
 use Rattle.engine_turn.proofs.visit_leaners.Tie as tie
 
 abbrev Inv-loop : tie.InvT-loop
 Inv-loop sizes equations moves index operand values marks₀ queue₀ settling from s to r₀ o₀ marks queue r o =
-    (k : ℕ) × (OnChain (sceneOf sizes equations moves values from) settling (λ (w : ℕ). w) (namesOf equations) (2 * length equations) to
-    (λ (j : ℕ). pairsBy sizes equations moves (s .0) (j / 2)) (lineOf marks₀ queue₀ (r₀ .tail) (r₀ .visits)) k (lineOf marks queue (r .tail) (r .visits))
-    × ((0 < k) × (o ≡ wordBefore sizes equations k)))
+    AtWord (sceneOf sizes equations moves values from) settling to (s .0) (lineOf marks₀ queue₀ (r₀ .tail) (r₀ .visits)) o (lineOf marks queue (r .tail) (r .visits))
 
 abbrev μ-loop : tie.MeasureT-loop
 μ-loop sizes equations moves index operand values marks₀ queue₀ settling from s to r₀ o₀ marks queue r o = o % 256
+
+-- The variable is one of the equations', and the line with which the walk begins.
+x-low : (c : tie.Start Inv-loop μ-loop) → c .args .x .0 < length (c .args .equations .now)
+x-low c = omega (arith, c .pre .1 .1 .1 .0 .0, c .pre .0 .drawn .long-equations)
+
+abbrev line-at : tie.Start Inv-loop μ-loop → Line
+line-at c = lineOf (c .args .marks .now) (c .args .queue .now) (c .args .at .tail) (c .args .at .visits)
+
+-- The points of the program: from what is known at a later one to what was known at an earlier one.
+abbrev start-before-loop : tie.At-loop Inv-loop μ-loop → tie.Start Inv-loop μ-loop
+start-before-loop c = c .before .before .before .before .before .before .before .before .before .before .before
+
+abbrev at-loop-before-visit-operand-arg2 : tie.After-visit-operand-arg2 Inv-loop μ-loop → tie.At-loop Inv-loop μ-loop
+at-loop-before-visit-operand-arg2 c = c .before .before
+
+abbrev visit-operand-before-slice-known4 : tie.After-slice-known4 Inv-loop μ-loop → tie.After-visit-operand Inv-loop μ-loop
+visit-operand-before-slice-known4 c = c .before .before .before .before
+
+abbrev visit-operand-before-shared-slice-known7 : tie.After-shared-slice-known7 Inv-loop μ-loop → tie.After-visit-operand Inv-loop μ-loop
+visit-operand-before-shared-slice-known7 c = visit-operand-before-slice-known4 (c .before .before)
+
+abbrev at-loop-before-shared-slice-known7 : tie.After-shared-slice-known7 Inv-loop μ-loop → tie.At-loop Inv-loop μ-loop
+at-loop-before-shared-slice-known7 c = at-loop-before-visit-operand-arg2 (visit-operand-before-shared-slice-known7 c .before)
 
 cast-to : tie.Need-cast-to Inv-loop μ-loop
 cast-to c = search needs
 
 mul-o : tie.Need-mul-o Inv-loop μ-loop
 mul-o c =
-    let z = limits (c .before .before .before .before .before .before .before .before .pre .0 .drawn) in
-    let h = c .before .before .before .before .before .before .before .before .pre .1 .1 .1 .0 .0 in
-    omega arith
+    let at-start = c .before .before .before .before .before .before .before .before in
+    let z = limits (at-start .pre .0 .drawn) in
+    omega (arith, at-start .pre .1 .1 .1 .0 .0)
 
 shared-slice-read-o : tie.Need-shared-slice-read-o Inv-loop μ-loop
 shared-slice-read-o c =
-    let a = c .before .before .before .before .before .before .before .before .before .args in
-    let pre = c .before .before .before .before .before .before .before .before .before .pre in
-    let scene = sceneOf (a .sizes) (a .equations .now) (a .moves .now) (a .values .now) (a .from) in
-    let v = lineOf (a .marks .now) (a .queue .now) (a .at .tail) (a .at .visits) in
-    let n = pre .0 .drawn .long-equations in
-    let inside : a .x .0 < length (a .equations .now) = omega (arith, pre .1 .1 .1 .0 .0) in
-    let few = limits (pre .0 .drawn) in
-    let m = pre .1 .1 .0 .long in
-    omega arith
+    let at-start = c .before .before .before .before .before .before .before .before .before in
+    omega (arith, x-low at-start, at-start .pre .1 .1 .0 .long)
 
 returns : tie.Need-returns Inv-loop μ-loop
-unfolding leanersIn
 returns c =
-    let a = c .before .before .before .before .before .before .before .before .before .before .args in
-    let pre = c .before .before .before .before .before .before .before .before .before .before .pre in
-    let scene = sceneOf (a .sizes) (a .equations .now) (a .moves .now) (a .values .now) (a .from) in
-    let v = lineOf (a .marks .now) (a .queue .now) (a .at .tail) (a .at .visits) in
-    let n = pre .0 .drawn .long-equations in
-    let inside : a .x .0 < length (a .equations .now) = omega (arith, pre .1 .1 .1 .0 .0) in
-    let k = lastNamed (a .equations .now) (a .x .0) (2 * length (a .equations .now)) in
-    let none : k ≡ 0 = word-some (a .sizes) (a .equations .now) k (sym (pre .1 .1 .0 .heads (a .x .0) inside) ∙ c .if1 .taken) in
-    chain-ends (λ (w : ℕ). w) (namesOf (a .equations .now)) (a .x .0) (λ (j : ℕ). pairsBy (a .sizes) (a .equations .now) (a .moves .now) (a .s .0) (j / 2)) scene (a .settling) (2 * length (a .equations .now)) v k v (chain-begins (λ (w : ℕ). w) (namesOf (a .equations .now)) (a .x .0) (λ (j : ℕ). pairsBy (a .sizes) (a .equations .now) (a .moves .now) (a .s .0) (j / 2)) scene (a .settling) (2 * length (a .equations .now)) v k refl) none
+    let at-start = c .before .before .before .before .before .before .before .before .before .before in
+    let a = at-start .args in
+    let pre = at-start .pre in
+    walk-none (pre .0) (pre .1 .1 .0) (a .settling) (a .x .0) (a .s .0) (x-low at-start) (line-at at-start) (c .if1 .taken)
 
 loop-holds : tie.Need-loop-holds Inv-loop μ-loop
 loop-holds c =
-    let a = c .before .before .before .before .before .before .before .before .before .before .args in
-    let pre = c .before .before .before .before .before .before .before .before .before .before .pre in
-    let scene = sceneOf (a .sizes) (a .equations .now) (a .moves .now) (a .values .now) (a .from) in
-    let v = lineOf (a .marks .now) (a .queue .now) (a .at .tail) (a .at .visits) in
-    let n = pre .0 .drawn .long-equations in
-    let inside : a .x .0 < length (a .equations .now) = omega (arith, pre .1 .1 .1 .0 .0) in
-    let k = lastNamed (a .equations .now) (a .x .0) (2 * length (a .equations .now)) in
-    let word = pre .1 .1 .0 .heads (a .x .0) inside in
-    let left = c .if1 .left in
-    (k, (chain-begins (λ (w : ℕ). w) (namesOf (a .equations .now)) (a .x .0) (λ (j : ℕ). pairsBy (a .sizes) (a .equations .now) (a .moves .now) (a .s .0) (j / 2)) scene (a .settling) (2 * length (a .equations .now)) v k refl, (word-before (a .sizes) (a .equations .now) k _ word (omega (arith, left)), word)))
+    let at-start = c .before .before .before .before .before .before .before .before .before .before in
+    let a = at-start .args in
+    let pre = at-start .pre in
+    walk-begins (pre .0) (pre .1 .1 .0) (a .settling) (a .x .0) (a .s .0) (x-low at-start) (line-at at-start) (c .if1 .left)
 
 visit-operand-requires : tie.Need-visit-operand-requires Inv-loop μ-loop
-unfolding leanersIn
 visit-operand-requires c κs =
-    let a = c .before .before .before .before .before .before .before .before .before .before .before .before .before .args in
-    let pre = c .before .before .before .before .before .before .before .before .before .before .before .before .before .pre in
-    let scene = sceneOf (a .sizes) (a .equations .now) (a .moves .now) (a .values .now) (a .from) in
-    let v = lineOf (a .marks .now) (a .queue .now) (a .at .tail) (a .at .visits) in
-    let n = pre .0 .drawn .long-equations in
-    let inside : a .x .0 < length (a .equations .now) = omega (arith, pre .1 .1 .1 .0 .0) in
-    let l = c .before .before .loop in
-    let k = l .inv .0 in
-    let walk = l .inv .1 .0 in
-    let u = lineOf (l .marks) (l .queue) (l .r .tail) (l .r .visits) in
-    let up : k ≡ suc (k - 1) = omega (arith, l .inv .1 .1 .0) in
-    let h : k - 1 < 2 * length (a .equations .now) = omega (arith, walk .below, l .inv .1 .1 .0) in
-    let at = chain-at (λ (w : ℕ). w) (namesOf (a .equations .now)) (a .x .0) (λ (j : ℕ). pairsBy (a .sizes) (a .equations .now) (a .moves .now) (a .s .0) (j / 2)) scene (a .settling) (2 * length (a .equations .now)) v k (k - 1) u walk up in
-    let is = sym (name-at (a .equations .now) (k - 1) h) ∙ at in
-    let word : l .o ≡ wordBefore (a .sizes) (a .equations .now) (suc (k - 1)) = l .inv .1 .1 .1 ∙ ap (wordBefore (a .sizes) (a .equations .now)) up in
-    let b = chain-room (λ (w : ℕ). w) (namesOf (a .equations .now)) (a .x .0) (λ (j : ℕ). pairsBy (a .sizes) (a .equations .now) (a .moves .now) (a .s .0) (j / 2)) scene (a .settling) (2 * length (a .equations .now)) v k (k - 1) u walk up (pre .1 .1 .1 .0 .1 .1 .1) in
-    let fits = chain-fits (λ (w : ℕ). w) (namesOf (a .equations .now)) (a .x .0) (λ (j : ℕ). pairsBy (a .sizes) (a .equations .now) (a .moves .now) (a .s .0) (j / 2)) scene (a .settling) (2 * length (a .equations .now)) v k (k - 1) u walk up (pre .1 .1 .1 .1) in
-    let e = slot-owner {c = scene} (pre .0) (pre .1 .1 .0) (a .x .0) (k - 1) (l .o) h is inside word in
-    let pairs : ℕ → List ℕ = λ y. pairsBy (a .sizes) (a .equations .now) (a .moves .now) (a .s .0) y in (
-      pre .0,
-      (
-        pre .1 .0,
-        (
-          slot-operand {c = scene} (pre .0) (pre .1 .1 .0) (a .x .0) (k - 1) (l .o) h is inside word,
-          (
-            (pre .1 .1 .1 .0 .1 .0, (walk .long-marks ∙ pre .1 .1 .1 .0 .1 .1 .0, subst (λ (y : ℕ). Bounded (l .r .tail) (l .r .visits) (pairs y)) (sym e) b)),
-            subst (λ (y : ℕ). Room scene (a .settling) (pairs y) u) (sym e) fits,
-          ),
-        ),
-      ),
-    )
+    let at-loop = at-loop-before-visit-operand-arg2 c in
+    let at-start = start-before-loop at-loop in
+    let a = at-start .args in
+    let pre = at-start .pre in
+    let w = at-loop .loop .inv in
+    (pre .0, (pre .1 .0, (walk-operand (pre .0) (pre .1 .1 .0) (a .settling) (a .x .0) (a .s .0) (x-low at-start) (line-at at-start) w, ((pre .1 .1 .1 .0 .1 .0, (w .on .long-marks ∙ pre .1 .1 .1 .0 .1 .1 .0, walk-bounded (pre .0) (pre .1 .1 .0) (a .settling) (a .x .0) (a .s .0) (x-low at-start) (line-at at-start) w (pre .1 .1 .1 .0 .1 .1 .1))), walk-room (pre .0) (pre .1 .1 .0) (a .settling) (a .x .0) (a .s .0) (x-low at-start) (line-at at-start) w (pre .1 .1 .1 .1)))))
 
 same-length : tie.Need-same-length Inv-loop μ-loop
 same-length c =
-    let a = c .before .before .before .before .before .before .before .before .before .before .before .before .before .before .before .before .before .before .before .args in
-    let pre = c .before .before .before .before .before .before .before .before .before .before .before .before .before .before .before .before .before .before .before .pre in
-    let scene = sceneOf (a .sizes) (a .equations .now) (a .moves .now) (a .values .now) (a .from) in
-    let v = lineOf (a .marks .now) (a .queue .now) (a .at .tail) (a .at .visits) in
-    let n = pre .0 .drawn .long-equations in
-    let inside : a .x .0 < length (a .equations .now) = omega (arith, pre .1 .1 .1 .0 .0) in
-    let l = c .before .before .before .before .before .before .before .before .loop in
-    let k = l .inv .0 in
-    let walk = l .inv .1 .0 in
-    let u = lineOf (l .marks) (l .queue) (l .r .tail) (l .r .visits) in
-    let up : k ≡ suc (k - 1) = omega (arith, l .inv .1 .1 .0) in
-    let h : k - 1 < 2 * length (a .equations .now) = omega (arith, walk .below, l .inv .1 .1 .0) in
-    let at = chain-at (λ (w : ℕ). w) (namesOf (a .equations .now)) (a .x .0) (λ (j : ℕ). pairsBy (a .sizes) (a .equations .now) (a .moves .now) (a .s .0) (j / 2)) scene (a .settling) (2 * length (a .equations .now)) v k (k - 1) u walk up in
-    let is = sym (name-at (a .equations .now) (k - 1) h) ∙ at in
-    let word : l .o ≡ wordBefore (a .sizes) (a .equations .now) (suc (k - 1)) = l .inv .1 .1 .1 ∙ ap (wordBefore (a .sizes) (a .equations .now)) up in
-    let e = c .before .before .before .before .before .visit-operand .ensures ∙ ap (λ (y : ℕ). visitAll scene (a .settling) (pairsBy (a .sizes) (a .equations .now) (a .moves .now) (a .s .0) y) u) (slot-owner {c = scene} (pre .0) (pre .1 .1 .0) (a .x .0) (k - 1) (l .o) h is inside word) in
-    let last = lastNamed (a .equations .now) (a .x .0) (k - 1) in
-    let on = chain-goes (λ (w : ℕ). w) (namesOf (a .equations .now)) (a .x .0) (λ (j : ℕ). pairsBy (a .sizes) (a .equations .now) (a .moves .now) (a .s .0) (j / 2)) scene (a .settling) (2 * length (a .equations .now)) v k (k - 1) u _ last walk up e (ap (λ (t : ℕ). lastNamed (a .equations .now) t (k - 1)) (sym at)) in
-    on .long-marks
+    let after-visit-operand = visit-operand-before-slice-known4 (c .before) in
+    let at-loop = at-loop-before-visit-operand-arg2 (after-visit-operand .before) in
+    let at-start = start-before-loop at-loop in
+    let a = at-start .args in
+    let pre = at-start .pre in
+    walk-marks (pre .0) (pre .1 .1 .0) (a .settling) (a .x .0) (a .s .0) (x-low at-start) (line-at at-start) (at-loop .loop .inv) (after-visit-operand .visit-operand .ensures)
 
 same-length-2 : tie.Need-same-length-2 Inv-loop μ-loop
 same-length-2 c =
-    let a = c .before .before .before .before .before .before .before .before .before .before .before .before .before .before .before .before .before .before .before .args in
-    let pre = c .before .before .before .before .before .before .before .before .before .before .before .before .before .before .before .before .before .before .before .pre in
-    let scene = sceneOf (a .sizes) (a .equations .now) (a .moves .now) (a .values .now) (a .from) in
-    let v = lineOf (a .marks .now) (a .queue .now) (a .at .tail) (a .at .visits) in
-    let n = pre .0 .drawn .long-equations in
-    let inside : a .x .0 < length (a .equations .now) = omega (arith, pre .1 .1 .1 .0 .0) in
-    let l = c .before .before .before .before .before .before .before .before .loop in
-    let k = l .inv .0 in
-    let walk = l .inv .1 .0 in
-    let u = lineOf (l .marks) (l .queue) (l .r .tail) (l .r .visits) in
-    let up : k ≡ suc (k - 1) = omega (arith, l .inv .1 .1 .0) in
-    let h : k - 1 < 2 * length (a .equations .now) = omega (arith, walk .below, l .inv .1 .1 .0) in
-    let at = chain-at (λ (w : ℕ). w) (namesOf (a .equations .now)) (a .x .0) (λ (j : ℕ). pairsBy (a .sizes) (a .equations .now) (a .moves .now) (a .s .0) (j / 2)) scene (a .settling) (2 * length (a .equations .now)) v k (k - 1) u walk up in
-    let is = sym (name-at (a .equations .now) (k - 1) h) ∙ at in
-    let word : l .o ≡ wordBefore (a .sizes) (a .equations .now) (suc (k - 1)) = l .inv .1 .1 .1 ∙ ap (wordBefore (a .sizes) (a .equations .now)) up in
-    let e = c .before .before .before .before .before .visit-operand .ensures ∙ ap (λ (y : ℕ). visitAll scene (a .settling) (pairsBy (a .sizes) (a .equations .now) (a .moves .now) (a .s .0) y) u) (slot-owner {c = scene} (pre .0) (pre .1 .1 .0) (a .x .0) (k - 1) (l .o) h is inside word) in
-    let last = lastNamed (a .equations .now) (a .x .0) (k - 1) in
-    let on = chain-goes (λ (w : ℕ). w) (namesOf (a .equations .now)) (a .x .0) (λ (j : ℕ). pairsBy (a .sizes) (a .equations .now) (a .moves .now) (a .s .0) (j / 2)) scene (a .settling) (2 * length (a .equations .now)) v k (k - 1) u _ last walk up e (ap (λ (t : ℕ). lastNamed (a .equations .now) t (k - 1)) (sym at)) in
-    on .long-queue
+    let after-visit-operand = visit-operand-before-slice-known4 (c .before) in
+    let at-loop = at-loop-before-visit-operand-arg2 (after-visit-operand .before) in
+    let at-start = start-before-loop at-loop in
+    let a = at-start .args in
+    let pre = at-start .pre in
+    walk-queue (pre .0) (pre .1 .1 .0) (a .settling) (a .x .0) (a .s .0) (x-low at-start) (line-at at-start) (at-loop .loop .inv) (after-visit-operand .visit-operand .ensures)
 
 returns-2 : tie.Need-returns-2 Inv-loop μ-loop
-unfolding leanersIn
 returns-2 c =
-    let a = c .before .before .before .before .before .before .before .before .before .before .before .before .before .before .before .before .before .before .before .args in
-    let pre = c .before .before .before .before .before .before .before .before .before .before .before .before .before .before .before .before .before .before .before .pre in
-    let scene = sceneOf (a .sizes) (a .equations .now) (a .moves .now) (a .values .now) (a .from) in
-    let v = lineOf (a .marks .now) (a .queue .now) (a .at .tail) (a .at .visits) in
-    let n = pre .0 .drawn .long-equations in
-    let inside : a .x .0 < length (a .equations .now) = omega (arith, pre .1 .1 .1 .0 .0) in
-    let l = c .before .before .before .before .before .before .before .before .loop in
-    let k = l .inv .0 in
-    let walk = l .inv .1 .0 in
-    let u = lineOf (l .marks) (l .queue) (l .r .tail) (l .r .visits) in
-    let up : k ≡ suc (k - 1) = omega (arith, l .inv .1 .1 .0) in
-    let h : k - 1 < 2 * length (a .equations .now) = omega (arith, walk .below, l .inv .1 .1 .0) in
-    let at = chain-at (λ (w : ℕ). w) (namesOf (a .equations .now)) (a .x .0) (λ (j : ℕ). pairsBy (a .sizes) (a .equations .now) (a .moves .now) (a .s .0) (j / 2)) scene (a .settling) (2 * length (a .equations .now)) v k (k - 1) u walk up in
-    let is = sym (name-at (a .equations .now) (k - 1) h) ∙ at in
-    let word : l .o ≡ wordBefore (a .sizes) (a .equations .now) (suc (k - 1)) = l .inv .1 .1 .1 ∙ ap (wordBefore (a .sizes) (a .equations .now)) up in
-    let e = c .before .before .before .before .before .visit-operand .ensures ∙ ap (λ (y : ℕ). visitAll scene (a .settling) (pairsBy (a .sizes) (a .equations .now) (a .moves .now) (a .s .0) y) u) (slot-owner {c = scene} (pre .0) (pre .1 .1 .0) (a .x .0) (k - 1) (l .o) h is inside word) in
-    let last = lastNamed (a .equations .now) (a .x .0) (k - 1) in
-    let on = chain-goes (λ (w : ℕ). w) (namesOf (a .equations .now)) (a .x .0) (λ (j : ℕ). pairsBy (a .sizes) (a .equations .now) (a .moves .now) (a .s .0) (j / 2)) scene (a .settling) (2 * length (a .equations .now)) v k (k - 1) u _ last walk up e (ap (λ (t : ℕ). lastNamed (a .equations .now) t (k - 1)) (sym at)) in
-    chain-ends (λ (w : ℕ). w) (namesOf (a .equations .now)) (a .x .0) (λ (j : ℕ). pairsBy (a .sizes) (a .equations .now) (a .moves .now) (a .s .0) (j / 2)) scene (a .settling) (2 * length (a .equations .now)) v last _ on (slot-last {c = scene} (pre .0) (pre .1 .1 .0) (a .x .0) (k - 1) (l .o) h is inside word (c .if2 .taken))
+    let after-visit-operand = visit-operand-before-slice-known4 (c .before) in
+    let at-loop = at-loop-before-visit-operand-arg2 (after-visit-operand .before) in
+    let at-start = start-before-loop at-loop in
+    let a = at-start .args in
+    let pre = at-start .pre in
+    walk-ends (pre .0) (pre .1 .1 .0) (a .settling) (a .x .0) (a .s .0) (x-low at-start) (line-at at-start) (at-loop .loop .inv) (after-visit-operand .visit-operand .ensures) (c .if2 .taken)
 
 mul-o-2 : tie.Need-mul-o-2 Inv-loop μ-loop
 mul-o-2 c = omega arith
 
 shared-slice-read-o-2 : tie.Need-shared-slice-read-o-2 Inv-loop μ-loop
 shared-slice-read-o-2 c =
-    let a = c .before .before .before .before .before .before .before .before .before .before .before .before .before .before .before .before .before .before .before .before .args in
-    let pre = c .before .before .before .before .before .before .before .before .before .before .before .before .before .before .before .before .before .before .before .before .pre in
-    let scene = sceneOf (a .sizes) (a .equations .now) (a .moves .now) (a .values .now) (a .from) in
-    let v = lineOf (a .marks .now) (a .queue .now) (a .at .tail) (a .at .visits) in
-    let n = pre .0 .drawn .long-equations in
-    let inside : a .x .0 < length (a .equations .now) = omega (arith, pre .1 .1 .1 .0 .0) in
-    let l = c .before .before .before .before .before .before .before .before .before .loop in
-    let k = l .inv .0 in
-    let walk = l .inv .1 .0 in
-    let u = lineOf (l .marks) (l .queue) (l .r .tail) (l .r .visits) in
-    let up : k ≡ suc (k - 1) = omega (arith, l .inv .1 .1 .0) in
-    let h : k - 1 < 2 * length (a .equations .now) = omega (arith, walk .below, l .inv .1 .1 .0) in
-    let at = chain-at (λ (w : ℕ). w) (namesOf (a .equations .now)) (a .x .0) (λ (j : ℕ). pairsBy (a .sizes) (a .equations .now) (a .moves .now) (a .s .0) (j / 2)) scene (a .settling) (2 * length (a .equations .now)) v k (k - 1) u walk up in
-    let is = sym (name-at (a .equations .now) (k - 1) h) ∙ at in
-    let word : l .o ≡ wordBefore (a .sizes) (a .equations .now) (suc (k - 1)) = l .inv .1 .1 .1 ∙ ap (wordBefore (a .sizes) (a .equations .now)) up in
-    slot-inside {c = scene} (pre .0) (pre .1 .1 .0) (a .x .0) (k - 1) (l .o) h is inside word (c .before .if2 .left)
+    let at-loop = at-loop-before-shared-slice-known7 c in
+    let at-start = start-before-loop at-loop in
+    let a = at-start .args in
+    let pre = at-start .pre in
+    walk-inside (pre .0) (pre .1 .1 .0) (a .settling) (a .x .0) (a .s .0) (x-low at-start) (line-at at-start) (at-loop .loop .inv) (c .before .if2 .left)
 
 loop-less : tie.Need-loop-less Inv-loop μ-loop
 loop-less c =
-    let a = c .before .before .before .before .before .before .before .before .before .before .before .before .before .before .before .before .before .before .before .before .args in
-    let pre = c .before .before .before .before .before .before .before .before .before .before .before .before .before .before .before .before .before .before .before .before .pre in
-    let scene = sceneOf (a .sizes) (a .equations .now) (a .moves .now) (a .values .now) (a .from) in
-    let v = lineOf (a .marks .now) (a .queue .now) (a .at .tail) (a .at .visits) in
-    let n = pre .0 .drawn .long-equations in
-    let inside : a .x .0 < length (a .equations .now) = omega (arith, pre .1 .1 .1 .0 .0) in
-    let l = c .before .before .before .before .before .before .before .before .before .loop in
-    let k = l .inv .0 in
-    let walk = l .inv .1 .0 in
-    let u = lineOf (l .marks) (l .queue) (l .r .tail) (l .r .visits) in
-    let up : k ≡ suc (k - 1) = omega (arith, l .inv .1 .1 .0) in
-    let h : k - 1 < 2 * length (a .equations .now) = omega (arith, walk .below, l .inv .1 .1 .0) in
-    let at = chain-at (λ (w : ℕ). w) (namesOf (a .equations .now)) (a .x .0) (λ (j : ℕ). pairsBy (a .sizes) (a .equations .now) (a .moves .now) (a .s .0) (j / 2)) scene (a .settling) (2 * length (a .equations .now)) v k (k - 1) u walk up in
-    let is = sym (name-at (a .equations .now) (k - 1) h) ∙ at in
-    let word : l .o ≡ wordBefore (a .sizes) (a .equations .now) (suc (k - 1)) = l .inv .1 .1 .1 ∙ ap (wordBefore (a .sizes) (a .equations .now)) up in
-    slot-falls {c = scene} (pre .0) (pre .1 .1 .0) (a .x .0) (k - 1) (l .o) h is inside word (c .before .if2 .left)
+    let at-loop = at-loop-before-shared-slice-known7 c in
+    let at-start = start-before-loop at-loop in
+    let a = at-start .args in
+    let pre = at-start .pre in
+    walk-falls (pre .0) (pre .1 .1 .0) (a .settling) (a .x .0) (a .s .0) (x-low at-start) (line-at at-start) (at-loop .loop .inv) (c .before .if2 .left)
 
 loop-again : tie.Need-loop-again Inv-loop μ-loop
 loop-again c =
-    let a = c .before .before .before .before .before .before .before .before .before .before .before .before .before .before .before .before .before .before .before .before .args in
-    let pre = c .before .before .before .before .before .before .before .before .before .before .before .before .before .before .before .before .before .before .before .before .pre in
-    let scene = sceneOf (a .sizes) (a .equations .now) (a .moves .now) (a .values .now) (a .from) in
-    let v = lineOf (a .marks .now) (a .queue .now) (a .at .tail) (a .at .visits) in
-    let n = pre .0 .drawn .long-equations in
-    let inside : a .x .0 < length (a .equations .now) = omega (arith, pre .1 .1 .1 .0 .0) in
-    let l = c .before .before .before .before .before .before .before .before .before .loop in
-    let k = l .inv .0 in
-    let walk = l .inv .1 .0 in
-    let u = lineOf (l .marks) (l .queue) (l .r .tail) (l .r .visits) in
-    let up : k ≡ suc (k - 1) = omega (arith, l .inv .1 .1 .0) in
-    let h : k - 1 < 2 * length (a .equations .now) = omega (arith, walk .below, l .inv .1 .1 .0) in
-    let at = chain-at (λ (w : ℕ). w) (namesOf (a .equations .now)) (a .x .0) (λ (j : ℕ). pairsBy (a .sizes) (a .equations .now) (a .moves .now) (a .s .0) (j / 2)) scene (a .settling) (2 * length (a .equations .now)) v k (k - 1) u walk up in
-    let is = sym (name-at (a .equations .now) (k - 1) h) ∙ at in
-    let word : l .o ≡ wordBefore (a .sizes) (a .equations .now) (suc (k - 1)) = l .inv .1 .1 .1 ∙ ap (wordBefore (a .sizes) (a .equations .now)) up in
-    let e = c .before .before .before .before .before .before .visit-operand .ensures ∙ ap (λ (y : ℕ). visitAll scene (a .settling) (pairsBy (a .sizes) (a .equations .now) (a .moves .now) (a .s .0) y) u) (slot-owner {c = scene} (pre .0) (pre .1 .1 .0) (a .x .0) (k - 1) (l .o) h is inside word) in
-    let last = lastNamed (a .equations .now) (a .x .0) (k - 1) in
-    let on = chain-goes (λ (w : ℕ). w) (namesOf (a .equations .now)) (a .x .0) (λ (j : ℕ). pairsBy (a .sizes) (a .equations .now) (a .moves .now) (a .s .0) (j / 2)) scene (a .settling) (2 * length (a .equations .now)) v k (k - 1) u _ last walk up e (ap (λ (t : ℕ). lastNamed (a .equations .now) t (k - 1)) (sym at)) in
-    let some = c .before .if2 .left in
-    (last, (on, (slot-before {c = scene} (pre .0) (pre .1 .1 .0) (a .x .0) (k - 1) (l .o) h is inside word some, slot-next {c = scene} (pre .0) (pre .1 .1 .0) (a .x .0) (k - 1) (l .o) h is inside word some)))
+    let after-visit-operand = visit-operand-before-shared-slice-known7 c in
+    let at-loop = at-loop-before-visit-operand-arg2 (after-visit-operand .before) in
+    let at-start = start-before-loop at-loop in
+    let a = at-start .args in
+    let pre = at-start .pre in
+    walk-goes (pre .0) (pre .1 .1 .0) (a .settling) (a .x .0) (a .s .0) (x-low at-start) (line-at at-start) (at-loop .loop .inv) (after-visit-operand .visit-operand .ensures) (c .before .if2 .left)
 
 pub visit-leaners-spec : {M : Type 1} → statement M
 visit-leaners-spec =
