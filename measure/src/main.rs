@@ -120,11 +120,9 @@ fn rows_of(case: &Case, rounds: usize) {
 /// A batch of 64 changes and its undoing, half of each deletes and half inserts.
 fn row_of_64(case: &Case, rounds: usize) {
     let batches = case.changes(&case.spread(32), &case.absent(32));
-    let times = Loaded::new(case).batches(rounds, [&batches.there, &batches.back]);
-    row(
-        &format!("{}: batch of 64 changes", case.name),
-        middle(&times),
-    );
+    let [there, back] = Loaded::new(case).batches(rounds, [&batches.there, &batches.back]);
+    row(&format!("{}: batch of 64 changes", case.name), there);
+    row(&format!("{}: the same undone", case.name), back);
 }
 
 /// Batches that touch only what the first of eight blocks names, only what the last names, or nothing.

@@ -12,6 +12,22 @@ use borrow.Author.Needs.{needs}
 use Rattle.engine.proofs.index_and_turn.Statement.{statement}
 use Rattle.engine.proofs.index_and_turn.Tie as tie
 
+-- The points of the program: from what is known at a later one to what was known at an earlier one.
+abbrev start-before-operand : tie.After-operand → tie.Start
+start-before-operand c = c .before .before .before .before .before .before .before .before .before .before
+
+abbrev start-before-index-moves-arg : tie.After-index-moves-arg → tie.Start
+start-before-index-moves-arg c = start-before-operand (c .before .before .before)
+
+abbrev name-operands-before-index-moves : tie.After-index-moves → tie.After-name-operands
+name-operands-before-index-moves c = c .before .before .before
+
+abbrev start-before-turn-blocks-arg4 : tie.After-turn-blocks-arg4 → tie.Start
+start-before-turn-blocks-arg4 c = start-before-index-moves-arg (c .before .before .before .before .before .before .before .before)
+
+abbrev index-moves-before-bad : tie.After-bad → tie.After-index-moves
+index-moves-before-bad c = c .before .before .before .before .before .before .before .before
+
 cast-states : tie.Need-cast-states
 cast-states c = search needs
 
@@ -20,37 +36,43 @@ slice-aggregate-name-operands c = search needs
 
 name-operands-requires : tie.Need-name-operands-requires
 name-operands-requires c κs =
-    let d = c .before .before .before .before .before .before .before .before .before .before .pre .0 in
+    let d = start-before-operand c .pre .0 in
     let few = limits d .1 .1 .0 in
     let long = d .long-equations in
     (drawn-names d, (omega arith, λ i h. zeros-at 96 i))
 
 index-moves-requires : tie.Need-index-moves-requires
-index-moves-requires c κs = (drawn-headed (c .before .before .before .before .before .before .before .before .before .before .before .before .before .pre .0), c .before .before .before .before .before .before .before .before .before .before .before .before .before .pre .1 .1 .1 .0 .0)
+index-moves-requires c κs =
+    let at-start = start-before-index-moves-arg c in
+    (drawn-headed (at-start .pre .0), at-start .pre .1 .1 .1 .0 .0)
 
 slice-aggregate-turn-blocks : tie.Need-slice-aggregate-turn-blocks
 slice-aggregate-turn-blocks c = search needs
 
 array-borrow-prefix-bad : tie.Need-array-borrow-prefix-bad
 array-borrow-prefix-bad c =
-    let few = limits (c .before .before .before .before .before .before .before .before .before .before .before .before .before .before .before .before .before .before .before .before .before .pre .0) .0 .1 in
+    let few = limits (start-before-turn-blocks-arg4 c .pre .0) .0 .1 in
     omega arith
 
 slice-aggregate-turn-blocks-2 : tie.Need-slice-aggregate-turn-blocks-2
 slice-aggregate-turn-blocks-2 c =
-    let few = limits (c .before .before .before .before .before .before .before .before .before .before .before .before .before .before .before .before .before .before .before .before .before .before .pre .0) .0 .1 in
-    sym (length-take-le (c .before .before .before .before .before .before .before .before .before .before .before .before .before .before .before .before .before .before .before .before .before .before .args .sizes .states) (replicate 256 0) (omega arith))
+    let at-start = start-before-turn-blocks-arg4 (c .before) in
+    let few = limits (at-start .pre .0) .0 .1 in
+    sym (length-take-le (at-start .args .sizes .states) (replicate 256 0) (omega arith))
 
 turn-blocks-requires : tie.Need-turn-blocks-requires
 turn-blocks-requires c κs =
-    let a = c .before .before .before .before .before .before .before .before .before .before .before .before .before .before .before .before .before .before .before .before .before .before .args in
+    let after-index-moves = index-moves-before-bad c in
+    let after-name-operands = name-operands-before-index-moves after-index-moves in
+    let at-start = start-before-operand (after-name-operands .before) in
+    let a = at-start .args in
     let t = tableIn (a .sizes) (a .labels .now) (a .equations .now) (a .moves .now) in
-    let pre = c .before .before .before .before .before .before .before .before .before .before .before .before .before .before .before .before .before .before .before .before .before .before .pre in
+    let pre = at-start .pre in
     let room = pre .1 .1 .1 in
     let few = limits (pre .0) .0 .1 in (
       pre .0,
       (
-        ((indexed t (a .index .now) _ (drawn-headed (pre .0)) (room .0 .0) (room .0 .1) (c .before .before .before .before .before .before .before .before .index-moves .ensures), c .before .before .before .before .before .before .before .before .before .before .before .name-operands .ensures), pre .1 .0),
+        ((indexed t (a .index .now) _ (drawn-headed (pre .0)) (room .0 .0) (room .0 .1) (after-index-moves .index-moves .ensures), after-name-operands .name-operands .ensures), pre .1 .0),
         ((length-take-le (a .sizes .states) (replicate 256 0) (omega arith), room .1), pre .1 .1 .0),
       ),
     )
