@@ -16,7 +16,7 @@ use Rattle.lists.specs.TableLaws.{listed-is}
 use Rattle.lists.specs.Tests.{tell, not-not, and-is, and-left, and-true, eqb-in, eqb-out, eqb-no, ltb-is, ltb-no, leb-is}
 use Rattle.rules.specs.Model.{Equation}
 use Rattle.rules.specs.Session.{unword}
-use Rattle.rules.specs.Limits.{most-states, most-variables}
+use Rattle.rules.specs.Limits.{most-states, most-actions, most-variables}
 use Rattle.rules.specs.declared.Sizes.{Sizes}
 use Rattle.words.specs.Table.{Table, Drawn, ReadsAs}
 use Rattle.words.specs.Limits.{limits}
@@ -216,17 +216,17 @@ module _ (z : Sizes) (equations : List ℕ) where
         let i = s .inside in
         let o = s .owner in
         let f = n .few in
-        let row : y * z .states ≤ 32 * 256 = mul-le-mul {n₂ = 32} {m₂ = 256} (omega arith) (n .states) in
+        let row : y * z .states ≤ most-variables * most-states = mul-le-mul {n₂ = most-variables} {m₂ = most-states} (omega arith) (n .states) in
         let heads = heads-low (isStep (unword (getD equations y 0))) refl in
         let b = bit-low (isStep (unword (getD equations y 0))) in
         omega arith
       where
-        heads-low : (b : Bool) → isStep (unword (getD equations y 0)) ≡ b → cond b (unword (getD equations y 0) .first * z .states) 0 ≤ 16 * 256
+        heads-low : (b : Bool) → isStep (unword (getD equations y 0)) ≡ b → cond b (unword (getD equations y 0) .first * z .states) 0 ≤ most-actions * most-states
         heads-low true t =
             let i = s .inside in
             let o = s .owner in
             let a = n .actions y (omega arith) t in
-            mul-le-mul {n₂ = 16} {m₂ = 256} (omega arith) (n .states)
+            mul-le-mul {n₂ = most-actions} {m₂ = most-states} (omega arith) (n .states)
         heads-low false t = omega arith
 
     -- The slot is put in, or left out.

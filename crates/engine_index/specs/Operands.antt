@@ -61,6 +61,29 @@ slotWord z e y link =
     link + 256 * (1 + 2 * bit (isStep e) + 4 * easyBit e) + 67108864 * y + 4294967296 * (y * z .states)
     + 281474976710656 * cond (isStep e) (e .first * z .states) 0
 
+-- What a word holds: the link, whether it is of a diamond or a box and whether it is easy, 1,024 times the variable, the variable, where
+-- the variable's pairs begin, and where the heads of the action begin.
+abbrev pub linkIn : ℕ → ℕ
+linkIn o = o % 256
+
+abbrev pub stepIn : ℕ → Bool
+stepIn o = eqb (o / 512 % 2) 1
+
+abbrev pub easyIn : ℕ → Bool
+easyIn o = eqb (o / 1024 % 2) 1
+
+abbrev pub waitsIn : ℕ → ℕ
+waitsIn o = o / 65536 % 65536
+
+abbrev pub ownerIn : ℕ → ℕ
+ownerIn o = o / 67108864 % 64
+
+abbrev pub rowIn : ℕ → ℕ
+rowIn o = o / 4294967296 % 65536
+
+abbrev pub headsIn : ℕ → ℕ
+headsIn o = o / 281474976710656
+
 -- The link of the slot j: its own place where a slot before it names the same variable, else 0.
 abbrev pub linkOf : List ℕ → ℕ → ℕ
 linkOf equations j = cond (eqb (lastNamed equations (nameAt equations j) j) 0) 0 (most-variables + j)

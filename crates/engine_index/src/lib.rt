@@ -1,5 +1,7 @@
 // The indexes of an update, built once per call: the moves by action and target, and the operands by the variable that they name.
 use rules::Sizes;
+use rules::State;
+use rules::Variable;
 ghost use mathlib.Core.Path.{_≡_};
 ghost use mathlib.Core.Bool.{true};
 ghost use Prim.Native.Nat.{suc, _+_, _*_, _≤_, _<_};
@@ -9,7 +11,7 @@ ghost use Rattle.engine_index.specs.Chains.{link, linked};
 ghost use Rattle.engine_index.specs.Indexed.{keyOf, headsOf};
 ghost use Rattle.engine_index.specs.MovesIndexed.{Headed};
 ghost use Rattle.rules.specs.Limits.{most-states, most-actions, most-variables};
-ghost use Rattle.engine_index.specs.Operands.{isStep, slotWord, putFirst, Blank, NamedUpTo, Naming, Slot};
+ghost use Rattle.engine_index.specs.Operands.{isStep, slotWord, linkIn, stepIn, easyIn, waitsIn, ownerIn, rowIn, headsIn, putFirst, Blank, NamedUpTo, Naming, Slot};
 
 // How many heads the index of the moves has.
 pub fn heads_of(sizes: Sizes) -> usize
@@ -74,6 +76,56 @@ fn slot_word(sizes: Sizes, w: u32, y: usize) -> u64
         return word;
     }
     word + 512 + 281474976710656 * begins(sizes, e.first as u64)
+}
+
+// Where the next word of the chain stands; 0 where there is none.
+pub fn link_in(o: u64) -> usize
+    ensures { λ r. ⌜ (r ≡ linkIn o) × (r < 256) ⌝ }
+{
+    (o % 256) as usize
+}
+
+// Is the operand that of a diamond or a box?
+pub fn step_in(o: u64) -> bool
+    ensures { λ r. ⌜ r ≡ stepIn o ⌝ }
+{
+    o / 512 % 2 == 1
+}
+
+// Is its variable easy?
+pub fn easy_in(o: u64) -> bool
+    ensures { λ r. ⌜ r ≡ easyIn o ⌝ }
+{
+    o / 1024 % 2 == 1
+}
+
+// The variable in whose equation it stands.
+pub fn owner_in(o: u64) -> Variable
+    ensures { λ r. ⌜ r .0 ≡ ownerIn o ⌝ }
+{
+    Variable((o / 67108864 % 64) as u8)
+}
+
+// The place of that variable's pair at s.
+pub fn pair_in(o: u64, s: State) -> usize
+    ensures { λ r. ⌜ r ≡ rowIn o + s .0 ⌝ }
+{
+    (o / 4294967296 % 65536) as usize + s.0 as usize
+}
+
+// That pair as it waits.
+pub fn waiting_in(o: u64, s: State) -> u16
+    requires { ⌜ waitsIn o + s .0 < 65536 ⌝ }
+    ensures { λ r. ⌜ r ≡ waitsIn o + s .0 ⌝ }
+{
+    (o / 65536 % 65536) as u16 + s.0
+}
+
+// The head of the chain of the moves by its action into s.
+pub fn head_in(o: u64, s: State) -> usize
+    ensures { λ r. ⌜ r ≡ headsIn o + s .0 ⌝ }
+{
+    (o / 281474976710656) as usize + s.0 as usize
 }
 
 // The word comes first in the chain of x; the one that was first goes to the place of the slot.

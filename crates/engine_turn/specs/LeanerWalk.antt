@@ -3,12 +3,12 @@
 use mathlib.Core.Path.{_≡_, refl, sym, ap, _∙_, subst}
 use mathlib.Core.Bool.{Bool}
 use mathlib.Core.List.{List}
-use Prim.Native.Nat.{ℕ, suc, _*_, _/_, _%_, _-_, _<_}
+use Prim.Native.Nat.{ℕ, suc, _*_, _/_, _-_, _<_}
 use native.Mathlib.Omega.{arith}
 use lib.ListN.{length, getD}
-use Rattle.engine_index.specs.Operands.{nameAt, namesOf, lastNamed, wordBefore, Named}
+use Rattle.engine_index.specs.Operands.{nameAt, namesOf, lastNamed, wordBefore, linkIn, ownerIn, Named}
 use Rattle.engine_index.specs.OperandLaws.{name-at, word-before, word-some}
-use Rattle.engine_turn.specs.Scene.{Scene, Standing, sketch, Line, visitAll, pairsBy, leanersIn, ownerOf, OperandOf, Bounded, Room}
+use Rattle.engine_turn.specs.Scene.{Scene, Standing, sketch, Line, visitAll, pairsBy, leanersIn, OperandOf, Bounded, Room}
 use Rattle.engine_turn.specs.ChainVisits.{OnChain, chain-begins, chain-at, chain-room, chain-fits, chain-goes, chain-ends}
 use Rattle.engine_turn.specs.OperandWords.{slot-owner, slot-operand, slot-last, slot-inside, slot-before, slot-next, slot-falls}
 
@@ -69,27 +69,27 @@ module _ {c : Scene} (g : Standing c) {operand : List ℕ} (d : Named (sketch (c
     own : o ≡ wordBefore (c .sizes) (c .equations) (suc j)
     own = w .word ∙ ap (wordBefore (c .sizes) (c .equations)) up
 
-    owner : ownerOf o ≡ j / 2
+    owner : ownerIn o ≡ j / 2
     owner = slot-owner g d x j o low is inside own
 
     -- It is that of an operand, and there is room for the visits by it.
     pub walk-operand : OperandOf c o
     walk-operand = slot-operand g d x j o low is inside own
 
-    pub walk-bounded : Bounded (start .tail) (start .visits) (leanersIn (c .sizes) (c .equations) (c .moves) x s) → Bounded (v .tail) (v .visits) (pairsOn c s (ownerOf o))
+    pub walk-bounded : Bounded (start .tail) (start .visits) (leanersIn (c .sizes) (c .equations) (c .moves) x s) → Bounded (v .tail) (v .visits) (pairsOn c s (ownerIn o))
     unfolding leanersIn
     walk-bounded b =
         subst (λ (y : ℕ). Bounded (v .tail) (v .visits) (pairsOn c s y)) (sym owner)
         (chain-room (λ (w : ℕ). w) (namesOf (c .equations)) x (λ (j : ℕ). pairsOn c s (j / 2)) c ph (2 * length (c .equations)) start (w .place) j v (w .on) up b)
 
-    pub walk-room : Room c ph (leanersIn (c .sizes) (c .equations) (c .moves) x s) start → Room c ph (pairsOn c s (ownerOf o)) v
+    pub walk-room : Room c ph (leanersIn (c .sizes) (c .equations) (c .moves) x s) start → Room c ph (pairsOn c s (ownerIn o)) v
     unfolding leanersIn
     walk-room r =
         subst (λ (y : ℕ). Room c ph (pairsOn c s y) v) (sym owner)
         (chain-fits (λ (w : ℕ). w) (namesOf (c .equations)) x (λ (j : ℕ). pairsOn c s (j / 2)) c ph (2 * length (c .equations)) start (w .place) j v (w .on) up r)
 
     -- After them the walk is done where the link is 0, and else goes on at the word that the link leads to.
-    module _ {u : Line} (made : u ≡ visitAll c ph (pairsOn c s (ownerOf o)) v) where
+    module _ {u : Line} (made : u ≡ visitAll c ph (pairsOn c s (ownerIn o)) v) where
       abbrev last : ℕ
       last = lastNamed (c .equations) x j
 
@@ -104,22 +104,25 @@ module _ {c : Scene} (g : Standing c) {operand : List ℕ} (d : Named (sketch (c
       pub walk-queue : length (u .queue) ≡ length (start .queue)
       walk-queue = gone .long-queue
 
-      pub walk-ends : o % 256 ≡ 0 → u ≡ visitAll c ph (leanersIn (c .sizes) (c .equations) (c .moves) x s) start
+      pub walk-ends : (next : ℕ) → next ≡ linkIn o → next ≡ 0 → u ≡ visitAll c ph (leanersIn (c .sizes) (c .equations) (c .moves) x s) start
       unfolding leanersIn
-      walk-ends e =
+      walk-ends next is-next e =
           chain-ends (λ (w : ℕ). w) (namesOf (c .equations)) x (λ (j : ℕ). pairsOn c s (j / 2)) c ph (2 * length (c .equations)) start last u gone
-          (slot-last g d x j o low is inside own e)
+          (slot-last g d x j o low is inside own (sym is-next ∙ e))
 
-      pub walk-goes : (o % 256 ≡ 0 → ⊥) → AtWord c ph x s start (getD operand (o % 256) 0) u
-      walk-goes h = record {
+      pub walk-goes : (next : ℕ) → next ≡ linkIn o → (next ≡ 0 → ⊥) → AtWord c ph x s start (getD operand next 0) u
+      walk-goes next is-next h = record {
         place = last;
         on = gone;
-        some = slot-before g d x j o low is inside own h;
-        word = slot-next g d x j o low is inside own h;
+        some = slot-before g d x j o low is inside own (λ e. h (is-next ∙ e));
+        word = ap (λ (n : ℕ). getD operand n 0) is-next ∙ slot-next g d x j o low is inside own (λ e. h (is-next ∙ e));
       }
 
-    pub walk-inside : (o % 256 ≡ 0 → ⊥) → o % 256 < length operand
-    walk-inside h = slot-inside g d x j o low is inside own h
+    -- The link lies inside, and falls.
+    module _ (next : ℕ) (is-next : next ≡ linkIn o) (h : next ≡ 0 → ⊥) where
+      pub walk-inside : next < length operand
+      walk-inside = let k = slot-inside g d x j o low is inside own (λ e. h (is-next ∙ e)) in omega arith
 
-    pub walk-falls : (o % 256 ≡ 0 → ⊥) → getD operand (o % 256) 0 % 256 < o % 256
-    walk-falls h = slot-falls g d x j o low is inside own h
+      pub walk-falls : linkIn (getD operand next 0) < linkIn o
+      walk-falls =
+          subst (λ (n : ℕ). linkIn (getD operand n 0) < linkIn o) (sym is-next) (slot-falls g d x j o low is inside own (λ e. h (is-next ∙ e)))

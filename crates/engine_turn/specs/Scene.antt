@@ -16,7 +16,7 @@ use Rattle.rules.specs.declared.Sizes.{Sizes}
 use Rattle.words.specs.Table.{Table, tableIn, Drawn, pairIn, waitingOf, waiter}
 use Rattle.words.specs.Part.{ownMoves}
 use Rattle.engine_index.specs.Indexed.{keyOf}
-use Rattle.engine_index.specs.Operands.{isStep, easyBit, namesOf, slotWord}
+use Rattle.engine_index.specs.Operands.{isStep, easyBit, namesOf, slotWord, linkIn, waitsIn, ownerIn, rowIn}
 
 -- A table without labels.
 abbrev pub sketch : Sizes → List ℕ → List ℕ → Table
@@ -131,24 +131,14 @@ pub record Along (c : Scene) (step : Bool) (y s j : ℕ) : Type 0 where
   pub told : step ≡ isStep (equationOf c y)
   pub own : step ≡ true → (j < length (c .moves)) × ((source (getD (c .moves) j 0) ≡ s) × (action (getD (c .moves) j 0) ≡ equationOf c y .first))
 
--- What the word of an operand holds: its variable, 1,024 times the variable, and where the variable's pairs begin.
-abbrev pub ownerOf : ℕ → ℕ
-ownerOf o = o / 67108864 % 64
-
-abbrev pub waitsOf : ℕ → ℕ
-waitsOf o = o / 65536 % 65536
-
-abbrev pub rowOf : ℕ → ℕ
-rowOf o = o / 4294967296 % 65536
-
 -- What a visit takes from the word: its variable leans on others, the word holds the variable's places, and `asks` says whether the
 -- operands are to be asked, as those of an easy variable are while settling.
 pub record Leans (c : Scene) (ph asks : Bool) (o : ℕ) : Type 0 where
-  pub variable : ownerOf o < c .sizes .variables
-  pub uses : 4 ≤ equationOf c (ownerOf o) .operator
-  pub told : asks ≡ (ph && eqb (easyBit (equationOf c (ownerOf o))) 1)
-  pub row : rowOf o ≡ ownerOf o * c .sizes .states
-  pub waits : waitsOf o ≡ 1024 * ownerOf o
+  pub variable : ownerIn o < c .sizes .variables
+  pub uses : 4 ≤ equationOf c (ownerIn o) .operator
+  pub told : asks ≡ (ph && eqb (easyBit (equationOf c (ownerIn o))) 1)
+  pub row : rowIn o ≡ ownerIn o * c .sizes .states
+  pub waits : waitsIn o ≡ 1024 * ownerIn o
 
 -- y is a diamond or a box, and the head is that of the chain of the moves by its action into some state.
 pub record HeadOf (c : Scene) (y head : ℕ) : Type 0 where
@@ -159,9 +149,9 @@ pub record HeadOf (c : Scene) (y head : ℕ) : Type 0 where
 
 -- The word of an operand: it is that of a slot of the variable that it holds, which leans on others.
 pub record OperandOf (c : Scene) (o : ℕ) : Type 0 where
-  pub variable : ownerOf o < c .sizes .variables
-  pub uses : 4 ≤ equationOf c (ownerOf o) .operator
-  pub word : o ≡ slotWord (c .sizes) (equationOf c (ownerOf o)) (ownerOf o) (o % 256)
+  pub variable : ownerIn o < c .sizes .variables
+  pub uses : 4 ≤ equationOf c (ownerIn o) .operator
+  pub word : o ≡ slotWord (c .sizes) (equationOf c (ownerIn o)) (ownerIn o) (linkIn o)
 
 -- A run of visits of the pairs in a list stays inside numbers of 32 bits.
 abbrev pub Bounded : ℕ → ℕ → List ℕ → Type 0

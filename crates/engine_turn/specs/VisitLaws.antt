@@ -12,7 +12,8 @@ use Rattle.systems.specs.Machine.{free, nextMark}
 use Rattle.rules.specs.Moves.{target}
 use Rattle.words.specs.Table.{ReadsAs, pairIn, waitingOf}
 use Rattle.words.specs.Part.{ownMoves}
-use Rattle.engine_turn.specs.Scene.{Scene, equationOf, hasFrom, fails, asksFor, Line, lineOf, waited, passed, visitOne, visitAll, ownerOf, waitsOf, rowOf, Leaner, Leans, Room}
+use Rattle.engine_index.specs.Operands.{waitsIn, ownerIn, rowIn}
+use Rattle.engine_turn.specs.Scene.{Scene, equationOf, hasFrom, fails, asksFor, Line, lineOf, waited, passed, visitOne, visitAll, Leaner, Leans, Room}
 
 module _ (c : Scene) where
   -- What an easy join and an easy step ask, by the numbers read out of the variable's word.
@@ -30,19 +31,19 @@ module _ (c : Scene) where
   unfolding asksFor
   asks-not ph y s e = rw e refl
 
-  pub asks-by : (ph asks : Bool) (o s : ℕ) → Leans c ph asks o → hasFrom c (ownerOf o) s ≡ true → cond asks (fails c (ownerOf o) s) true ≡ asksFor c ph (ownerOf o) s
+  pub asks-by : (ph asks : Bool) (o s : ℕ) → Leans c ph asks o → hasFrom c (ownerIn o) s ≡ true → cond asks (fails c (ownerIn o) s) true ≡ asksFor c ph (ownerIn o) s
   unfolding asksFor
   asks-by ph asks o s l e = rw (l .told, e) refl
 
   -- The pair of the operand's variable at s, its place and how it waits, as the word says them.
   module _ {ph asks : Bool} {o : ℕ} (l : Leans c ph asks o) (s : ℕ) where
-    pub leaner-of : s < c .sizes .states → Leaner c (ownerOf o) s
+    pub leaner-of : s < c .sizes .states → Leaner c (ownerIn o) s
     leaner-of h = record { variable = l .variable; state = h; uses = l .uses }
 
-    pub pair-is : (p : ℕ) → p ≡ rowOf o + s → p ≡ pairIn (c .sizes) (ownerOf o) s
+    pub pair-is : (p : ℕ) → p ≡ rowIn o + s → p ≡ pairIn (c .sizes) (ownerIn o) s
     pair-is p e = let r = l .row in omega arith
 
-    pub waits-is : (w : ℕ) → w ≡ waitsOf o + s → w ≡ waitingOf (ownerOf o) s
+    pub waits-is : (w : ℕ) → w ≡ waitsIn o + s → w ≡ waitingOf (ownerIn o) s
     waits-is w e = let r = l .waits in omega arith
 
   -- The visit of the pair of y and s, by what code finds: the place p of the pair, its mark, whether that leaves it free, and whether

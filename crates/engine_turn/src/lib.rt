@@ -14,9 +14,9 @@ ghost use Rattle.laws.specs.ModelLeaners.{leanersOf};
 ghost use Rattle.words.specs.Table.{modelOf, waitingOf, waiter};
 ghost use Rattle.engine_rows.specs.Rooms.{Bits, Packed};
 ghost use Rattle.engine_index.specs.Indexed.{headsOf, Indexed};
-ghost use Rattle.engine_index.specs.Operands.{Named};
+ghost use Rattle.engine_index.specs.Operands.{ownerIn, Named};
 ghost use Rattle.engine_turn.specs.Turns.{Sketched, FromValue, roundOf, RoomFor, Turned};
-ghost use Rattle.engine_turn.specs.Scene.{sceneOf, Standing, fails, lineOf, visitAll, ownerOf, waitsOf, rowOf, Leaner, Along, Leans, HeadOf, OperandOf, Bounded, Room, sourcesIn, pairsBy, leanersIn, sketch};
+ghost use Rattle.engine_turn.specs.Scene.{sceneOf, Standing, fails, lineOf, visitAll, Leaner, Along, Leans, HeadOf, OperandOf, Bounded, Room, sourcesIn, pairsBy, leanersIn, sketch};
 
 // Where a run of visits stands: the end of the queue, and the number of visits so far.
 pub struct Spread {
@@ -69,35 +69,6 @@ fn easy_fails(
     !engine_own::leads_from(sizes, moves, values, from, Variable(e.second), j)
 }
 
-// What the word of an operand holds: its variable,
-fn owner_of(o: u64) -> Variable
-    ensures { λ r. ⌜ r .0 ≡ ownerOf o ⌝ }
-{
-    Variable((o / 67108864 % 64) as u8)
-}
-
-// the place of the variable's pair at s,
-fn pair_of(o: u64, s: State) -> usize
-    ensures { λ r. ⌜ r ≡ rowOf o + s .0 ⌝ }
-{
-    (o / 4294967296 % 65536) as usize + s.0 as usize
-}
-
-// that pair as it waits,
-fn waiting_of(o: u64, s: State) -> u16
-    requires { ⌜ waitsOf o + s .0 < 65536 ⌝ }
-    ensures { λ r. ⌜ r ≡ waitsOf o + s .0 ⌝ }
-{
-    (o / 65536 % 65536) as u16 + s.0
-}
-
-// and the head of the chain of the moves by its action into s.
-fn head_of(o: u64, s: State) -> usize
-    ensures { λ r. ⌜ r ≡ o / 281474976710656 + s .0 ⌝ }
-{
-    (o / 281474976710656) as usize + s.0 as usize
-}
-
 // Must the pair at s of the operand's variable, which has the value `from`, turn where one that it leans on has turned? Its operands
 // are looked at where that is asked.
 fn must_turn(
@@ -113,9 +84,9 @@ fn must_turn(
     j: usize,
 ) -> bool
     requires { ⌜ Standing (sceneOf sizes (now equations) (now moves) (now values) from) ⌝ }
-    requires { ⌜ Leaner (sceneOf sizes (now equations) (now moves) (now values) from) (ownerOf o) (s .0) ⌝ }
-    requires { ⌜ Along (sceneOf sizes (now equations) (now moves) (now values) from) step (ownerOf o) (s .0) j ⌝ }
-    ensures { λ r. ⌜ r ≡ cond asks (fails (sceneOf sizes (now (equations .entry)) (now (moves .entry)) (now (values .entry)) from) (ownerOf o) (s .0)) true ⌝ }
+    requires { ⌜ Leaner (sceneOf sizes (now equations) (now moves) (now values) from) (ownerIn o) (s .0) ⌝ }
+    requires { ⌜ Along (sceneOf sizes (now equations) (now moves) (now values) from) step (ownerIn o) (s .0) j ⌝ }
+    ensures { λ r. ⌜ r ≡ cond asks (fails (sceneOf sizes (now (equations .entry)) (now (moves .entry)) (now (values .entry)) from) (ownerIn o) (s .0)) true ⌝ }
 {
     if asks {
         return easy_fails(
@@ -125,7 +96,7 @@ fn must_turn(
             values,
             from,
             step,
-            owner_of(o),
+            engine_index::owner_in(o),
             s,
             j,
         );
@@ -154,21 +125,21 @@ fn visit(
     requires { ⌜ Standing (sceneOf sizes (now equations) (now moves) (now values) from) ⌝ }
     requires { ⌜ Leans (sceneOf sizes (now equations) (now moves) (now values) from) settling asks o × (s .0 < sizes .states) ⌝ }
     requires { ⌜ (length (now marks) ≡ pairsOf sizes) × ((at .tail < 4294967296) × (at .visits < 4294967296)) ⌝ }
-    requires { ⌜ Along (sceneOf sizes (now equations) (now moves) (now values) from) step (ownerOf o) (s .0) j ⌝ }
-    requires { ⌜ Room (sceneOf sizes (now equations) (now moves) (now values) from) settling (waitingOf (ownerOf o) (s .0) ∷ []) (lineOf (now marks) (now queue) (at .tail) (at .visits)) ⌝ }
+    requires { ⌜ Along (sceneOf sizes (now equations) (now moves) (now values) from) step (ownerIn o) (s .0) j ⌝ }
+    requires { ⌜ Room (sceneOf sizes (now equations) (now moves) (now values) from) settling (waitingOf (ownerIn o) (s .0) ∷ []) (lineOf (now marks) (now queue) (at .tail) (at .visits)) ⌝ }
     ensures { λ r. ⌜ lineOf (now (marks .exit)) (now (queue .exit)) (r .tail) (r .visits)
-        ≡ visitAll (sceneOf sizes (now (equations .entry)) (now (moves .entry)) (now (values .entry)) from) settling (waitingOf (ownerOf o) (s .0) ∷ [])
+        ≡ visitAll (sceneOf sizes (now (equations .entry)) (now (moves .entry)) (now (values .entry)) from) settling (waitingOf (ownerIn o) (s .0) ∷ [])
         (lineOf (now (marks .entry)) (now (queue .entry)) (at .tail) (at .visits)) ⌝ }
 {
     let tail = at.tail;
     let count = at.visits + 1;
-    let p = pair_of(o, s);
+    let p = engine_index::pair_in(o, s);
     if values[p] == from {
         let mark = marks[p];
         if is_free(settling, mark) {
             if must_turn(sizes, equations, moves, values, from, asks, step, o, s, j) {
                 marks[p] = next_mark(settling, mark);
-                queue[tail] = waiting_of(o, s);
+                queue[tail] = engine_index::waiting_in(o, s);
                 let end = tail + 1;
                 return Spread {
                     tail: end,
@@ -208,11 +179,11 @@ fn visit_sources(
 ) -> Spread
     requires { ⌜ Standing (sceneOf sizes (now equations) (now moves) (now values) from) ⌝ }
     requires { ⌜ Indexed (sketch sizes (now equations) (now moves)) (now index) ⌝ }
-    requires { ⌜ Leans (sceneOf sizes (now equations) (now moves) (now values) from) settling asks o × HeadOf (sceneOf sizes (now equations) (now moves) (now values) from) (ownerOf o) head ⌝ }
-    requires { ⌜ (head < headsOf sizes) × ((length (now marks) ≡ pairsOf sizes) × Bounded (at .tail) (at .visits) (sourcesIn sizes (now moves) (ownerOf o) head)) ⌝ }
-    requires { ⌜ Room (sceneOf sizes (now equations) (now moves) (now values) from) settling (sourcesIn sizes (now moves) (ownerOf o) head) (lineOf (now marks) (now queue) (at .tail) (at .visits)) ⌝ }
+    requires { ⌜ Leans (sceneOf sizes (now equations) (now moves) (now values) from) settling asks o × HeadOf (sceneOf sizes (now equations) (now moves) (now values) from) (ownerIn o) head ⌝ }
+    requires { ⌜ (head < headsOf sizes) × ((length (now marks) ≡ pairsOf sizes) × Bounded (at .tail) (at .visits) (sourcesIn sizes (now moves) (ownerIn o) head)) ⌝ }
+    requires { ⌜ Room (sceneOf sizes (now equations) (now moves) (now values) from) settling (sourcesIn sizes (now moves) (ownerIn o) head) (lineOf (now marks) (now queue) (at .tail) (at .visits)) ⌝ }
     ensures { λ r. ⌜ lineOf (now (marks .exit)) (now (queue .exit)) (r .tail) (r .visits)
-        ≡ visitAll (sceneOf sizes (now (equations .entry)) (now (moves .entry)) (now (values .entry)) from) settling (sourcesIn sizes (now (moves .entry)) (ownerOf o) head)
+        ≡ visitAll (sceneOf sizes (now (equations .entry)) (now (moves .entry)) (now (values .entry)) from) settling (sourcesIn sizes (now (moves .entry)) (ownerIn o) head)
         (lineOf (now (marks .entry)) (now (queue .entry)) (at .tail) (at .visits)) ⌝ }
 {
     let links = engine_index::heads_of(sizes);
@@ -260,14 +231,14 @@ fn visit_operand(
     requires { ⌜ Standing (sceneOf sizes (now equations) (now moves) (now values) from) ⌝ }
     requires { ⌜ Indexed (sketch sizes (now equations) (now moves)) (now index) ⌝ }
     requires { ⌜ OperandOf (sceneOf sizes (now equations) (now moves) (now values) from) o ⌝ }
-    requires { ⌜ (s .0 < sizes .states) × ((length (now marks) ≡ pairsOf sizes) × Bounded (at .tail) (at .visits) (pairsBy sizes (now equations) (now moves) (s .0) (ownerOf o))) ⌝ }
-    requires { ⌜ Room (sceneOf sizes (now equations) (now moves) (now values) from) settling (pairsBy sizes (now equations) (now moves) (s .0) (ownerOf o)) (lineOf (now marks) (now queue) (at .tail) (at .visits)) ⌝ }
+    requires { ⌜ (s .0 < sizes .states) × ((length (now marks) ≡ pairsOf sizes) × Bounded (at .tail) (at .visits) (pairsBy sizes (now equations) (now moves) (s .0) (ownerIn o))) ⌝ }
+    requires { ⌜ Room (sceneOf sizes (now equations) (now moves) (now values) from) settling (pairsBy sizes (now equations) (now moves) (s .0) (ownerIn o)) (lineOf (now marks) (now queue) (at .tail) (at .visits)) ⌝ }
     ensures { λ r. ⌜ lineOf (now (marks .exit)) (now (queue .exit)) (r .tail) (r .visits)
-        ≡ visitAll (sceneOf sizes (now (equations .entry)) (now (moves .entry)) (now (values .entry)) from) settling (pairsBy sizes (now (equations .entry)) (now (moves .entry)) (s .0) (ownerOf o))
+        ≡ visitAll (sceneOf sizes (now (equations .entry)) (now (moves .entry)) (now (values .entry)) from) settling (pairsBy sizes (now (equations .entry)) (now (moves .entry)) (s .0) (ownerIn o))
         (lineOf (now (marks .entry)) (now (queue .entry)) (at .tail) (at .visits)) ⌝ }
 {
-    let asks = settling & (o / 1024 % 2 == 1);
-    if o / 512 % 2 == 0 {
+    let asks = settling & engine_index::easy_in(o);
+    if !engine_index::step_in(o) {
         return visit(
             sizes,
             equations,
@@ -285,7 +256,7 @@ fn visit_operand(
             0,
         );
     }
-    let head = head_of(o, s);
+    let head = engine_index::head_in(o, s);
     visit_sources(
         sizes,
         equations,
@@ -349,7 +320,7 @@ fn visit_leaners(
             o,
             s,
         );
-        let next = (o % 256) as usize;
+        let next = engine_index::link_in(o);
         if next == 0 {
             return r;
         }

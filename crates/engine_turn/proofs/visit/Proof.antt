@@ -8,24 +8,25 @@ use lib.Dec.{eqb}
 use Rattle.lists.specs.Tests.{eqb-in, eqb-no}
 use Rattle.words.specs.Limits.{limits}
 use Rattle.engine_own.specs.Pairs.{pair-low}
-use Rattle.engine_turn.specs.Scene.{sceneOf, hasFrom, ownerOf, waitsOf}
+use Rattle.engine_index.specs.Operands.{waitsIn, ownerIn}
+use Rattle.engine_turn.specs.Scene.{sceneOf, hasFrom}
 use Rattle.engine_turn.specs.VisitLaws.{asks-not, asks-by, leaner-of, pair-is, waits-is, visit-shut, visit-stays, visit-waits, visit-room}
 use borrow.Author.Needs.{needs}
 use Rattle.engine_turn.proofs.visit.Statement.{statement}
 use Rattle.engine_turn.proofs.visit.Tie as tie
 
 -- The points of the program: from what is known at a later one to what was known at an earlier one.
-abbrev start-before-pair-of : tie.After-pair-of → tie.Start
-start-before-pair-of c = c .before .before .before .before .before .before .before
+abbrev start-before-pair-in : tie.After-pair-in → tie.Start
+start-before-pair-in c = c .before .before .before .before .before .before .before
 
-abbrev pair-of-before-then1 : tie.Then1 → tie.After-pair-of
-pair-of-before-then1 c = c .before .before
+abbrev pair-in-before-then1 : tie.Then1 → tie.After-pair-in
+pair-in-before-then1 c = c .before .before
 
 abbrev then1-before-is-free : tie.After-is-free → tie.Then1
 then1-before-is-free c = c .before .before
 
 abbrev start-before-then2 : tie.Then2 → tie.Start
-start-before-then2 c = start-before-pair-of (pair-of-before-then1 (then1-before-is-free (c .before)))
+start-before-then2 c = start-before-pair-in (pair-in-before-then1 (then1-before-is-free (c .before)))
 
 abbrev is-free-before-must-turn : tie.After-must-turn → tie.After-is-free
 is-free-before-must-turn c = c .before .before
@@ -39,42 +40,42 @@ then2-before-then3 c = c .before .before
 abbrev must-turn-before-next-mark : tie.After-next-mark → tie.After-must-turn
 must-turn-before-next-mark c = c .before .before
 
-abbrev pair-of-before-next-mark : tie.After-next-mark → tie.After-pair-of
-pair-of-before-next-mark c = pair-of-before-then1 (then1-before-must-turn (must-turn-before-next-mark c))
+abbrev pair-in-before-next-mark : tie.After-next-mark → tie.After-pair-in
+pair-in-before-next-mark c = pair-in-before-then1 (then1-before-must-turn (must-turn-before-next-mark c))
 
 abbrev start-before-next-mark : tie.After-next-mark → tie.Start
-start-before-next-mark c = start-before-pair-of (pair-of-before-next-mark c)
+start-before-next-mark c = start-before-pair-in (pair-in-before-next-mark c)
 
-abbrev then3-before-waiting-of : tie.After-waiting-of → tie.Then3
-then3-before-waiting-of c = c .before .before
+abbrev then3-before-waiting-in : tie.After-waiting-in → tie.Then3
+then3-before-waiting-in c = c .before .before
 
 add-count : tie.Need-add-count
 add-count c = search needs
 
-pair-of-requires : tie.Need-pair-of-requires
-pair-of-requires c κs = search needs
+pair-in-requires : tie.Need-pair-in-requires
+pair-in-requires c κs = search needs
 
 shared-slice-read-if1 : tie.Need-shared-slice-read-if1
 shared-slice-read-if1 c =
-    let after-pair-of = c .before in
-    let at-start = start-before-pair-of after-pair-of in
+    let after-pair-in = c .before in
+    let at-start = start-before-pair-in after-pair-in in
     let a = at-start .args in
     let pre = at-start .pre in
     let scene = sceneOf (a .sizes) (a .equations .now) (a .moves .now) (a .values .now) (a .from) in
-    let is = pair-is scene (pre .1 .0 .0) (a .s .0) (after-pair-of .pair-of .result) (after-pair-of .pair-of .ensures) in
-    let low = pair-low (a .sizes) (ownerOf (a .o)) (a .s .0) (pre .1 .0 .0 .variable) (pre .1 .0 .1) in
+    let is = pair-is scene (pre .1 .0 .0) (a .s .0) (after-pair-in .pair-in .result) (after-pair-in .pair-in .ensures) in
+    let low = pair-low (a .sizes) (ownerIn (a .o)) (a .s .0) (pre .1 .0 .0 .variable) (pre .1 .0 .1) in
     let n = pre .0 .long in
     omega arith
 
 slice-read-mark : tie.Need-slice-read-mark
 slice-read-mark c =
-    let after-pair-of = pair-of-before-then1 (c .before) in
-    let at-start = start-before-pair-of after-pair-of in
+    let after-pair-in = pair-in-before-then1 (c .before) in
+    let at-start = start-before-pair-in after-pair-in in
     let a = at-start .args in
     let pre = at-start .pre in
     let scene = sceneOf (a .sizes) (a .equations .now) (a .moves .now) (a .values .now) (a .from) in
-    let is = pair-is scene (pre .1 .0 .0) (a .s .0) (after-pair-of .pair-of .result) (after-pair-of .pair-of .ensures) in
-    let low = pair-low (a .sizes) (ownerOf (a .o)) (a .s .0) (pre .1 .0 .0 .variable) (pre .1 .0 .1) in
+    let is = pair-is scene (pre .1 .0 .0) (a .s .0) (after-pair-in .pair-in .result) (after-pair-in .pair-in .ensures) in
+    let low = pair-low (a .sizes) (ownerIn (a .o)) (a .s .0) (pre .1 .0 .0 .variable) (pre .1 .0 .1) in
     let n = pre .1 .1 .0 .0 in
     omega arith
 
@@ -96,18 +97,18 @@ next-mark-requires c κs =
 
 slice-write-marks : tie.Need-slice-write-marks
 slice-write-marks c =
-    let after-pair-of = pair-of-before-next-mark c in
-    let at-start = start-before-pair-of after-pair-of in
+    let after-pair-in = pair-in-before-next-mark c in
+    let at-start = start-before-pair-in after-pair-in in
     let a = at-start .args in
     let pre = at-start .pre in
     let scene = sceneOf (a .sizes) (a .equations .now) (a .moves .now) (a .values .now) (a .from) in
-    let is = pair-is scene (pre .1 .0 .0) (a .s .0) (after-pair-of .pair-of .result) (after-pair-of .pair-of .ensures) in
-    let low = pair-low (a .sizes) (ownerOf (a .o)) (a .s .0) (pre .1 .0 .0 .variable) (pre .1 .0 .1) in
+    let is = pair-is scene (pre .1 .0 .0) (a .s .0) (after-pair-in .pair-in .result) (after-pair-in .pair-in .ensures) in
+    let low = pair-low (a .sizes) (ownerIn (a .o)) (a .s .0) (pre .1 .0 .0 .variable) (pre .1 .0 .1) in
     let n = pre .1 .1 .0 .0 in
     omega arith
 
-waiting-of-requires : tie.Need-waiting-of-requires
-waiting-of-requires c κs =
+waiting-in-requires : tie.Need-waiting-in-requires
+waiting-in-requires c κs =
     let at-start = start-before-next-mark c in
     let a = at-start .args in
     let pre = at-start .pre in
@@ -115,7 +116,7 @@ waiting-of-requires c κs =
     let w = pre .1 .0 .0 .waits in
     let y = pre .1 .0 .0 .variable in
     let s = pre .1 .0 .1 in
-    let k : waitsOf (a .o) + a .s .0 < 65536 = omega arith in
+    let k : waitsIn (a .o) + a .s .0 < 65536 = omega arith in
     k
 
 mul-queue : tie.Need-mul-queue
@@ -123,21 +124,21 @@ mul-queue c = record { fits = omega (arith, start-before-next-mark (c .before) .
 
 slice-write-queue : tie.Need-slice-write-queue
 slice-write-queue c =
-    let in-then3 = then3-before-waiting-of c in
+    let in-then3 = then3-before-waiting-in c in
     let after-must-turn = in-then3 .before in
     let after-is-free = is-free-before-must-turn after-must-turn in
     let in-then1 = then1-before-is-free after-is-free in
-    let after-pair-of = pair-of-before-then1 in-then1 in
-    let at-start = start-before-pair-of after-pair-of in
+    let after-pair-in = pair-in-before-then1 in-then1 in
+    let at-start = start-before-pair-in after-pair-in in
     let a = at-start .args in
     let pre = at-start .pre in
     let scene = sceneOf (a .sizes) (a .equations .now) (a .moves .now) (a .values .now) (a .from) in
     let z = limits (pre .0 .drawn) in
     let s : a .s .0 < 1024 = omega (arith, pre .1 .0 .1) in
-    let is = pair-is scene (pre .1 .0 .0) (a .s .0) (after-pair-of .pair-of .result) (after-pair-of .pair-of .ensures) in
+    let is = pair-is scene (pre .1 .0 .0) (a .s .0) (after-pair-in .pair-in .result) (after-pair-in .pair-in .ensures) in
     let has = ap (λ (q : ℕ). eqb (getD (a .values .now) q 0) (a .from)) (sym is) ∙ eqb-in _ _ (in-then1 .if1 .taken) in
     let asked = after-must-turn .must-turn .ensures ∙ asks-by scene (a .settling) (a .asks) (a .o) (a .s .0) (pre .1 .0 .0) has in
-    visit-room scene (a .settling) (ownerOf (a .o)) (a .s .0) s (a .marks .now) (a .queue .now) (a .at .tail) (a .at .visits) (after-pair-of .pair-of .result) _ (after-is-free .is-free .result) is refl (after-is-free .is-free .ensures) (after-must-turn .before .if2 .taken)
+    visit-room scene (a .settling) (ownerIn (a .o)) (a .s .0) s (a .marks .now) (a .queue .now) (a .at .tail) (a .at .visits) (after-pair-in .pair-in .result) _ (after-is-free .is-free .result) is refl (after-is-free .is-free .ensures) (after-must-turn .before .if2 .taken)
     (after-must-turn .must-turn .result) asked (in-then3 .if3 .taken) (pre .1 .1 .1 .1)
 
 add-end : tie.Need-add-end
@@ -155,74 +156,74 @@ returns c =
     let after-must-turn = must-turn-before-next-mark after-next-mark in
     let after-is-free = is-free-before-must-turn after-must-turn in
     let in-then1 = then1-before-is-free after-is-free in
-    let after-pair-of = pair-of-before-then1 in-then1 in
-    let at-start = start-before-pair-of after-pair-of in
+    let after-pair-in = pair-in-before-then1 in-then1 in
+    let at-start = start-before-pair-in after-pair-in in
     let a = at-start .args in
     let pre = at-start .pre in
     let scene = sceneOf (a .sizes) (a .equations .now) (a .moves .now) (a .values .now) (a .from) in
     let z = limits (pre .0 .drawn) in
     let s : a .s .0 < 1024 = omega (arith, pre .1 .0 .1) in
-    let is = pair-is scene (pre .1 .0 .0) (a .s .0) (after-pair-of .pair-of .result) (after-pair-of .pair-of .ensures) in
+    let is = pair-is scene (pre .1 .0 .0) (a .s .0) (after-pair-in .pair-in .result) (after-pair-in .pair-in .ensures) in
     let has = ap (λ (q : ℕ). eqb (getD (a .values .now) q 0) (a .from)) (sym is) ∙ eqb-in _ _ (in-then1 .if1 .taken) in
     let asked = after-must-turn .must-turn .ensures ∙ asks-by scene (a .settling) (a .asks) (a .o) (a .s .0) (pre .1 .0 .0) has in
-    visit-waits scene (a .settling) (ownerOf (a .o)) (a .s .0) s (a .marks .now) (a .queue .now) (a .at .tail) (a .at .visits) (after-pair-of .pair-of .result) _ (after-is-free .is-free .result) is refl (after-is-free .is-free .ensures) (after-must-turn .before .if2 .taken)
-    (after-must-turn .must-turn .result) asked (after-next-mark .before .if3 .taken) (after-next-mark .next-mark .result) (c .waiting-of .result) _ (after-next-mark .next-mark .ensures) (waits-is scene (pre .1 .0 .0) (a .s .0) _ (c .waiting-of .ensures)) refl
+    visit-waits scene (a .settling) (ownerIn (a .o)) (a .s .0) s (a .marks .now) (a .queue .now) (a .at .tail) (a .at .visits) (after-pair-in .pair-in .result) _ (after-is-free .is-free .result) is refl (after-is-free .is-free .ensures) (after-must-turn .before .if2 .taken)
+    (after-must-turn .must-turn .result) asked (after-next-mark .before .if3 .taken) (after-next-mark .next-mark .result) (c .waiting-in .result) _ (after-next-mark .next-mark .ensures) (waits-is scene (pre .1 .0 .0) (a .s .0) _ (c .waiting-in .ensures)) refl
 
 returns-2 : tie.Need-returns-2
 returns-2 c =
     let after-must-turn = c .before in
     let in-then1 = then1-before-must-turn after-must-turn in
-    let after-pair-of = pair-of-before-then1 in-then1 in
-    let at-start = start-before-pair-of after-pair-of in
+    let after-pair-in = pair-in-before-then1 in-then1 in
+    let at-start = start-before-pair-in after-pair-in in
     let a = at-start .args in
     let pre = at-start .pre in
     let scene = sceneOf (a .sizes) (a .equations .now) (a .moves .now) (a .values .now) (a .from) in
     let z = limits (pre .0 .drawn) in
     let s : a .s .0 < 1024 = omega (arith, pre .1 .0 .1) in
-    let is = pair-is scene (pre .1 .0 .0) (a .s .0) (after-pair-of .pair-of .result) (after-pair-of .pair-of .ensures) in
+    let is = pair-is scene (pre .1 .0 .0) (a .s .0) (after-pair-in .pair-in .result) (after-pair-in .pair-in .ensures) in
     let has = ap (λ (q : ℕ). eqb (getD (a .values .now) q 0) (a .from)) (sym is) ∙ eqb-in _ _ (in-then1 .if1 .taken) in
     let asked = after-must-turn .must-turn .ensures ∙ asks-by scene (a .settling) (a .asks) (a .o) (a .s .0) (pre .1 .0 .0) has in
-    visit-stays scene (a .settling) (ownerOf (a .o)) (a .s .0) s (a .marks .now) (a .queue .now) (a .at .tail) (a .at .visits) (after-must-turn .must-turn .result) asked (c .if3 .left)
+    visit-stays scene (a .settling) (ownerIn (a .o)) (a .s .0) s (a .marks .now) (a .queue .now) (a .at .tail) (a .at .visits) (after-must-turn .must-turn .result) asked (c .if3 .left)
 
 returns-3 : tie.Need-returns-3
 returns-3 c =
     let after-is-free = c .before in
-    let after-pair-of = pair-of-before-then1 (then1-before-is-free after-is-free) in
-    let at-start = start-before-pair-of after-pair-of in
+    let after-pair-in = pair-in-before-then1 (then1-before-is-free after-is-free) in
+    let at-start = start-before-pair-in after-pair-in in
     let a = at-start .args in
     let pre = at-start .pre in
     let scene = sceneOf (a .sizes) (a .equations .now) (a .moves .now) (a .values .now) (a .from) in
     let z = limits (pre .0 .drawn) in
     let s : a .s .0 < 1024 = omega (arith, pre .1 .0 .1) in
-    let is = pair-is scene (pre .1 .0 .0) (a .s .0) (after-pair-of .pair-of .result) (after-pair-of .pair-of .ensures) in
-    visit-shut scene (a .settling) (ownerOf (a .o)) (a .s .0) s (a .marks .now) (a .queue .now) (a .at .tail) (a .at .visits) (after-pair-of .pair-of .result) _ (after-is-free .is-free .result) is refl (after-is-free .is-free .ensures) (c .if2 .left)
+    let is = pair-is scene (pre .1 .0 .0) (a .s .0) (after-pair-in .pair-in .result) (after-pair-in .pair-in .ensures) in
+    visit-shut scene (a .settling) (ownerIn (a .o)) (a .s .0) s (a .marks .now) (a .queue .now) (a .at .tail) (a .at .visits) (after-pair-in .pair-in .result) _ (after-is-free .is-free .result) is refl (after-is-free .is-free .ensures) (c .if2 .left)
 
 returns-4 : tie.Need-returns-4
 returns-4 c =
-    let after-pair-of = c .before .before in
-    let at-start = start-before-pair-of after-pair-of in
+    let after-pair-in = c .before .before in
+    let at-start = start-before-pair-in after-pair-in in
     let a = at-start .args in
     let pre = at-start .pre in
     let scene = sceneOf (a .sizes) (a .equations .now) (a .moves .now) (a .values .now) (a .from) in
     let z = limits (pre .0 .drawn) in
     let s : a .s .0 < 1024 = omega (arith, pre .1 .0 .1) in
-    let is = pair-is scene (pre .1 .0 .0) (a .s .0) (after-pair-of .pair-of .result) (after-pair-of .pair-of .ensures) in
-    let off : hasFrom scene (ownerOf (a .o)) (a .s .0) ≡ false = ap (λ (q : ℕ). eqb (getD (a .values .now) q 0) (a .from)) (sym is) ∙ eqb-no _ _ .1 (c .if1 .left) in
-    visit-stays scene (a .settling) (ownerOf (a .o)) (a .s .0) s (a .marks .now) (a .queue .now) (a .at .tail) (a .at .visits) false (asks-not scene (a .settling) (ownerOf (a .o)) (a .s .0) off) refl
+    let is = pair-is scene (pre .1 .0 .0) (a .s .0) (after-pair-in .pair-in .result) (after-pair-in .pair-in .ensures) in
+    let off : hasFrom scene (ownerIn (a .o)) (a .s .0) ≡ false = ap (λ (q : ℕ). eqb (getD (a .values .now) q 0) (a .from)) (sym is) ∙ eqb-no _ _ .1 (c .if1 .left) in
+    visit-stays scene (a .settling) (ownerIn (a .o)) (a .s .0) s (a .marks .now) (a .queue .now) (a .at .tail) (a .at .visits) false (asks-not scene (a .settling) (ownerIn (a .o)) (a .s .0) off) refl
 
 pub visit-spec : {M : Type 1} → statement M
 visit-spec =
     tie.close
     (tie.spec
     add-count
-    pair-of-requires
+    pair-in-requires
     shared-slice-read-if1
     slice-read-mark
     is-free-requires
     must-turn-requires
     next-mark-requires
     slice-write-marks
-    waiting-of-requires
+    waiting-in-requires
     mul-queue
     slice-write-queue
     add-end

@@ -1,9 +1,10 @@
 -- The chain of a variable, walked to its end. Assumes nothing.
 use mathlib.Core.Path.{_∙_}
-use Prim.Native.Nat.{_%_, _<_}
+use Prim.Native.Nat.{_<_}
 use native.Mathlib.Omega.{arith}
 use lib.ListN.{length}
 use Rattle.words.specs.Limits.{limits}
+use Rattle.engine_index.specs.Operands.{linkIn}
 use Rattle.engine_turn.specs.Scene.{Line, sceneOf, lineOf}
 use Rattle.engine_turn.specs.LeanerWalk.{AtWord, walk-begins, walk-none, walk-operand, walk-bounded, walk-room, walk-marks, walk-queue, walk-ends, walk-goes, walk-inside, walk-falls}
 use borrow.Author.Needs.{needs}
@@ -15,7 +16,7 @@ Inv-loop sizes equations moves index operand values marks₀ queue₀ settling f
     AtWord (sceneOf sizes equations moves values from) settling to (s .0) (lineOf marks₀ queue₀ (r₀ .tail) (r₀ .visits)) o (lineOf marks queue (r .tail) (r .visits))
 
 abbrev μ-loop : tie.MeasureT-loop
-μ-loop sizes equations moves index operand values marks₀ queue₀ settling from s to r₀ o₀ marks queue r o = o % 256
+μ-loop sizes equations moves index operand values marks₀ queue₀ settling from s to r₀ o₀ marks queue r o = linkIn o
 
 -- The variable is one of the equations', and the line with which the walk begins.
 x-low : (c : tie.Start Inv-loop μ-loop) → c .args .x .0 < length (c .args .equations .now)
@@ -31,14 +32,14 @@ start-before-loop c = c .before .before .before .before .before .before .before 
 abbrev at-loop-before-visit-operand-arg2 : tie.After-visit-operand-arg2 Inv-loop μ-loop → tie.At-loop Inv-loop μ-loop
 at-loop-before-visit-operand-arg2 c = c .before .before
 
-abbrev visit-operand-before-slice-known4 : tie.After-slice-known4 Inv-loop μ-loop → tie.After-visit-operand Inv-loop μ-loop
-visit-operand-before-slice-known4 c = c .before .before .before .before
+abbrev visit-operand-before-link-in : tie.After-link-in Inv-loop μ-loop → tie.After-visit-operand Inv-loop μ-loop
+visit-operand-before-link-in c = c .before .before .before .before .before
 
-abbrev visit-operand-before-shared-slice-known7 : tie.After-shared-slice-known7 Inv-loop μ-loop → tie.After-visit-operand Inv-loop μ-loop
-visit-operand-before-shared-slice-known7 c = visit-operand-before-slice-known4 (c .before .before)
+abbrev at-loop-before-link-in : tie.After-link-in Inv-loop μ-loop → tie.At-loop Inv-loop μ-loop
+at-loop-before-link-in c = at-loop-before-visit-operand-arg2 (visit-operand-before-link-in c .before)
 
-abbrev at-loop-before-shared-slice-known7 : tie.After-shared-slice-known7 Inv-loop μ-loop → tie.At-loop Inv-loop μ-loop
-at-loop-before-shared-slice-known7 c = at-loop-before-visit-operand-arg2 (visit-operand-before-shared-slice-known7 c .before)
+abbrev link-in-before-shared-slice-known7 : tie.After-shared-slice-known7 Inv-loop μ-loop → tie.After-link-in Inv-loop μ-loop
+link-in-before-shared-slice-known7 c = c .before .before
 
 cast-to : tie.Need-cast-to Inv-loop μ-loop
 cast-to c = search needs
@@ -77,9 +78,12 @@ visit-operand-requires c κs =
     let w = at-loop .loop .inv in
     (pre .0, (pre .1 .0, (walk-operand (pre .0) (pre .1 .1 .0) (a .settling) (a .x .0) (a .s .0) (x-low at-start) (line-at at-start) w, ((pre .1 .1 .1 .0 .1 .0, (w .on .long-marks ∙ pre .1 .1 .1 .0 .1 .1 .0, walk-bounded (pre .0) (pre .1 .1 .0) (a .settling) (a .x .0) (a .s .0) (x-low at-start) (line-at at-start) w (pre .1 .1 .1 .0 .1 .1 .1))), walk-room (pre .0) (pre .1 .1 .0) (a .settling) (a .x .0) (a .s .0) (x-low at-start) (line-at at-start) w (pre .1 .1 .1 .1)))))
 
+link-in-requires : tie.Need-link-in-requires Inv-loop μ-loop
+link-in-requires c κs = search needs
+
 same-length : tie.Need-same-length Inv-loop μ-loop
 same-length c =
-    let after-visit-operand = visit-operand-before-slice-known4 (c .before) in
+    let after-visit-operand = visit-operand-before-link-in (c .before) in
     let at-loop = at-loop-before-visit-operand-arg2 (after-visit-operand .before) in
     let at-start = start-before-loop at-loop in
     let a = at-start .args in
@@ -88,7 +92,7 @@ same-length c =
 
 same-length-2 : tie.Need-same-length-2 Inv-loop μ-loop
 same-length-2 c =
-    let after-visit-operand = visit-operand-before-slice-known4 (c .before) in
+    let after-visit-operand = visit-operand-before-link-in (c .before) in
     let at-loop = at-loop-before-visit-operand-arg2 (after-visit-operand .before) in
     let at-start = start-before-loop at-loop in
     let a = at-start .args in
@@ -97,40 +101,44 @@ same-length-2 c =
 
 returns-2 : tie.Need-returns-2 Inv-loop μ-loop
 returns-2 c =
-    let after-visit-operand = visit-operand-before-slice-known4 (c .before) in
+    let after-link-in = c .before in
+    let after-visit-operand = visit-operand-before-link-in after-link-in in
     let at-loop = at-loop-before-visit-operand-arg2 (after-visit-operand .before) in
     let at-start = start-before-loop at-loop in
     let a = at-start .args in
     let pre = at-start .pre in
-    walk-ends (pre .0) (pre .1 .1 .0) (a .settling) (a .x .0) (a .s .0) (x-low at-start) (line-at at-start) (at-loop .loop .inv) (after-visit-operand .visit-operand .ensures) (c .if2 .taken)
+    walk-ends (pre .0) (pre .1 .1 .0) (a .settling) (a .x .0) (a .s .0) (x-low at-start) (line-at at-start) (at-loop .loop .inv) (after-visit-operand .visit-operand .ensures) (after-link-in .link-in .result) (after-link-in .link-in .ensures .0) (c .if2 .taken)
 
 mul-o-2 : tie.Need-mul-o-2 Inv-loop μ-loop
-mul-o-2 c = omega arith
+mul-o-2 c = omega (arith, c .before .link-in .ensures .1)
 
 shared-slice-read-o-2 : tie.Need-shared-slice-read-o-2 Inv-loop μ-loop
 shared-slice-read-o-2 c =
-    let at-loop = at-loop-before-shared-slice-known7 c in
+    let after-link-in = link-in-before-shared-slice-known7 c in
+    let at-loop = at-loop-before-link-in after-link-in in
     let at-start = start-before-loop at-loop in
     let a = at-start .args in
     let pre = at-start .pre in
-    walk-inside (pre .0) (pre .1 .1 .0) (a .settling) (a .x .0) (a .s .0) (x-low at-start) (line-at at-start) (at-loop .loop .inv) (c .before .if2 .left)
+    walk-inside (pre .0) (pre .1 .1 .0) (a .settling) (a .x .0) (a .s .0) (x-low at-start) (line-at at-start) (at-loop .loop .inv) (after-link-in .link-in .result) (after-link-in .link-in .ensures .0) (c .before .if2 .left)
 
 loop-less : tie.Need-loop-less Inv-loop μ-loop
 loop-less c =
-    let at-loop = at-loop-before-shared-slice-known7 c in
+    let after-link-in = link-in-before-shared-slice-known7 c in
+    let at-loop = at-loop-before-link-in after-link-in in
     let at-start = start-before-loop at-loop in
     let a = at-start .args in
     let pre = at-start .pre in
-    walk-falls (pre .0) (pre .1 .1 .0) (a .settling) (a .x .0) (a .s .0) (x-low at-start) (line-at at-start) (at-loop .loop .inv) (c .before .if2 .left)
+    walk-falls (pre .0) (pre .1 .1 .0) (a .settling) (a .x .0) (a .s .0) (x-low at-start) (line-at at-start) (at-loop .loop .inv) (after-link-in .link-in .result) (after-link-in .link-in .ensures .0) (c .before .if2 .left)
 
 loop-again : tie.Need-loop-again Inv-loop μ-loop
 loop-again c =
-    let after-visit-operand = visit-operand-before-shared-slice-known7 c in
+    let after-link-in = link-in-before-shared-slice-known7 c in
+    let after-visit-operand = visit-operand-before-link-in after-link-in in
     let at-loop = at-loop-before-visit-operand-arg2 (after-visit-operand .before) in
     let at-start = start-before-loop at-loop in
     let a = at-start .args in
     let pre = at-start .pre in
-    walk-goes (pre .0) (pre .1 .1 .0) (a .settling) (a .x .0) (a .s .0) (x-low at-start) (line-at at-start) (at-loop .loop .inv) (after-visit-operand .visit-operand .ensures) (c .before .if2 .left)
+    walk-goes (pre .0) (pre .1 .1 .0) (a .settling) (a .x .0) (a .s .0) (x-low at-start) (line-at at-start) (at-loop .loop .inv) (after-visit-operand .visit-operand .ensures) (after-link-in .link-in .result) (after-link-in .link-in .ensures .0) (c .before .if2 .left)
 
 pub visit-leaners-spec : {M : Type 1} → statement M
 visit-leaners-spec =
@@ -144,6 +152,7 @@ visit-leaners-spec =
     returns
     loop-holds
     visit-operand-requires
+    link-in-requires
     same-length
     same-length-2
     returns-2

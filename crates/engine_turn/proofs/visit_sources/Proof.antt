@@ -8,7 +8,8 @@ use lib.ListN.{length, getD}
 use Rattle.words.specs.Limits.{limits}
 use Rattle.words.specs.Table.{waitingOf}
 use Rattle.engine_index.specs.Indexed.{keyOf}
-use Rattle.engine_turn.specs.Scene.{sceneOf, lineOf, visitAll, sourceOf, ownerOf, Along, Room}
+use Rattle.engine_index.specs.Operands.{ownerIn}
+use Rattle.engine_turn.specs.Scene.{sceneOf, lineOf, visitAll, sourceOf, Along, Room}
 use Rattle.engine_turn.specs.Inside.{source-inside, along-chain}
 use Rattle.engine_turn.specs.ChainVisits.{OnChain, falls, chain-begins, chain-at, chain-room, chain-fits, chain-goes, chain-ends, head-at, link-at}
 use borrow.Author.Needs.{needs}
@@ -17,7 +18,7 @@ use Rattle.engine_turn.proofs.visit_sources.Tie as tie
 
 abbrev Inv-loop : tie.InvT-loop
 Inv-loop sizes equations moves index values marks₀ queue₀ settling from asks o head links s₀ k₀ marks queue s k =
-    OnChain (sceneOf sizes equations moves values from) settling (keyOf sizes) moves (length moves) head (sourceOf moves (ownerOf o))
+    OnChain (sceneOf sizes equations moves values from) settling (keyOf sizes) moves (length moves) head (sourceOf moves (ownerIn o))
     (lineOf marks₀ queue₀ (s₀ .tail) (s₀ .visits)) k (lineOf marks queue (s .tail) (s .visits))
 
 abbrev μ-loop : tie.MeasureT-loop
@@ -65,7 +66,7 @@ loop-holds c =
     let a = at-start .args in
     let scene = sceneOf (a .sizes) (a .equations .now) (a .moves .now) (a .values .now) (a .from) in
     let v = lineOf (a .marks .now) (a .queue .now) (a .at .tail) (a .at .visits) in
-    chain-begins (keyOf (a .sizes)) (a .moves .now) (a .head) (sourceOf (a .moves .now) (ownerOf (a .o))) scene (a .settling) (length (a .moves .now)) v (c .place-in-half .result) (c .place-in-half .ensures .0 ∙ head-at (at-start .pre .1 .0) (a .head) (at-start .pre .1 .1 .1 .0 .0))
+    chain-begins (keyOf (a .sizes)) (a .moves .now) (a .head) (sourceOf (a .moves .now) (ownerIn (a .o))) scene (a .settling) (length (a .moves .now)) v (c .place-in-half .result) (c .place-in-half .ensures .0 ∙ head-at (at-start .pre .1 .0) (a .head) (at-start .pre .1 .1 .1 .0 .0))
 
 sub-j : tie.Need-sub-j Inv-loop μ-loop
 sub-j c = search needs
@@ -102,11 +103,11 @@ visit-requires c κs =
     let e = after-source-of .source-of .ensures in
     let h = source-inside (at-start .pre .0) (l .k - 1) (omega (arith, l .inv .below, in-loop .loop-test .taken)) in
     let i : after-source-of .source-of .result .0 < a .sizes .states = omega arith in
-    let b = chain-room (keyOf (a .sizes)) (a .moves .now) (a .head) (sourceOf (a .moves .now) (ownerOf (a .o))) scene (a .settling) (length (a .moves .now)) v (l .k) (l .k - 1) (lineOf (l .marks) (l .queue) (l .s .tail) (l .s .visits)) (l .inv) up (at-start .pre .1 .1 .1 .0 .1 .1) in
-    let at = chain-at (keyOf (a .sizes)) (a .moves .now) (a .head) (sourceOf (a .moves .now) (ownerOf (a .o))) scene (a .settling) (length (a .moves .now)) v (l .k) (l .k - 1) (lineOf (l .marks) (l .queue) (l .s .tail) (l .s .visits)) (l .inv) up in
-    let along = subst (λ (n : ℕ). Along scene true (ownerOf (a .o)) n (l .k - 1)) (sym e) (along-chain (at-start .pre .0) (ownerOf (a .o)) (a .head) (l .k - 1) (at-start .pre .1 .1 .0 .1) (omega (arith, l .inv .below, in-loop .loop-test .taken)) at) in
-    let fits = chain-fits (keyOf (a .sizes)) (a .moves .now) (a .head) (sourceOf (a .moves .now) (ownerOf (a .o))) scene (a .settling) (length (a .moves .now)) v (l .k) (l .k - 1) (lineOf (l .marks) (l .queue) (l .s .tail) (l .s .visits)) (l .inv) up (at-start .pre .1 .1 .1 .1) in
-    let room = subst (λ (n : ℕ). Room scene (a .settling) (waitingOf (ownerOf (a .o)) n ∷ []) (lineOf (l .marks) (l .queue) (l .s .tail) (l .s .visits))) (sym e) fits in
+    let b = chain-room (keyOf (a .sizes)) (a .moves .now) (a .head) (sourceOf (a .moves .now) (ownerIn (a .o))) scene (a .settling) (length (a .moves .now)) v (l .k) (l .k - 1) (lineOf (l .marks) (l .queue) (l .s .tail) (l .s .visits)) (l .inv) up (at-start .pre .1 .1 .1 .0 .1 .1) in
+    let at = chain-at (keyOf (a .sizes)) (a .moves .now) (a .head) (sourceOf (a .moves .now) (ownerIn (a .o))) scene (a .settling) (length (a .moves .now)) v (l .k) (l .k - 1) (lineOf (l .marks) (l .queue) (l .s .tail) (l .s .visits)) (l .inv) up in
+    let along = subst (λ (n : ℕ). Along scene true (ownerIn (a .o)) n (l .k - 1)) (sym e) (along-chain (at-start .pre .0) (ownerIn (a .o)) (a .head) (l .k - 1) (at-start .pre .1 .1 .0 .1) (omega (arith, l .inv .below, in-loop .loop-test .taken)) at) in
+    let fits = chain-fits (keyOf (a .sizes)) (a .moves .now) (a .head) (sourceOf (a .moves .now) (ownerIn (a .o))) scene (a .settling) (length (a .moves .now)) v (l .k) (l .k - 1) (lineOf (l .marks) (l .queue) (l .s .tail) (l .s .visits)) (l .inv) up (at-start .pre .1 .1 .1 .1) in
+    let room = subst (λ (n : ℕ). Room scene (a .settling) (waitingOf (ownerIn (a .o)) n ∷ []) (lineOf (l .marks) (l .queue) (l .s .tail) (l .s .visits))) (sym e) fits in
     (at-start .pre .0, ((s, i), ((l .inv .long-marks ∙ at-start .pre .1 .1 .1 .0 .1 .0, (omega (arith, b .0), omega (arith, b .1))), (along, room))))
 
 add-place-in-half : tie.Need-add-place-in-half Inv-loop μ-loop
@@ -151,7 +152,7 @@ loop-less c =
     let l = in-loop .before .loop in
     let up : l .k ≡ suc (l .k - 1) = omega (arith, in-loop .loop-test .taken) in
     let next = c .place-in-half2 .ensures .0 ∙ ap (λ (n : ℕ). getD (a .index .now) (n + (l .k - 1)) 0) (after-heads-of .heads-of .ensures .0) ∙ link-at (at-start .pre .1 .0) (l .k - 1) (omega (arith, in-loop .loop-test .taken, l .inv .below)) in
-    falls (keyOf (a .sizes)) (a .moves .now) (a .head) (sourceOf (a .moves .now) (ownerOf (a .o))) (l .k) (l .k - 1) (c .place-in-half2 .result) _ up next
+    falls (keyOf (a .sizes)) (a .moves .now) (a .head) (sourceOf (a .moves .now) (ownerIn (a .o))) (l .k) (l .k - 1) (c .place-in-half2 .result) _ up next
 
 loop-again : tie.Need-loop-again Inv-loop μ-loop
 loop-again c =
@@ -166,8 +167,8 @@ loop-again c =
     let l = in-loop .before .loop in
     let up : l .k ≡ suc (l .k - 1) = omega (arith, in-loop .loop-test .taken) in
     let next = c .place-in-half2 .ensures .0 ∙ ap (λ (n : ℕ). getD (a .index .now) (n + (l .k - 1)) 0) (after-heads-of .heads-of .ensures .0) ∙ link-at (at-start .pre .1 .0) (l .k - 1) (omega (arith, in-loop .loop-test .taken, l .inv .below)) in
-    let e = after-visit .visit .ensures ∙ ap (λ (n : ℕ). visitAll scene (a .settling) (waitingOf (ownerOf (a .o)) n ∷ []) (lineOf (l .marks) (l .queue) (l .s .tail) (l .s .visits))) (after-source-of .source-of .ensures) in
-    chain-goes (keyOf (a .sizes)) (a .moves .now) (a .head) (sourceOf (a .moves .now) (ownerOf (a .o))) scene (a .settling) (length (a .moves .now)) v (l .k) (l .k - 1) (lineOf (l .marks) (l .queue) (l .s .tail) (l .s .visits)) _ (c .place-in-half2 .result) (l .inv) up e next
+    let e = after-visit .visit .ensures ∙ ap (λ (n : ℕ). visitAll scene (a .settling) (waitingOf (ownerIn (a .o)) n ∷ []) (lineOf (l .marks) (l .queue) (l .s .tail) (l .s .visits))) (after-source-of .source-of .ensures) in
+    chain-goes (keyOf (a .sizes)) (a .moves .now) (a .head) (sourceOf (a .moves .now) (ownerIn (a .o))) scene (a .settling) (length (a .moves .now)) v (l .k) (l .k - 1) (lineOf (l .marks) (l .queue) (l .s .tail) (l .s .visits)) _ (c .place-in-half2 .result) (l .inv) up e next
 
 same-length : tie.Need-same-length Inv-loop μ-loop
 same-length c =
@@ -184,7 +185,7 @@ returns c =
     let scene = sceneOf (a .sizes) (a .equations .now) (a .moves .now) (a .values .now) (a .from) in
     let v = lineOf (a .marks .now) (a .queue .now) (a .at .tail) (a .at .visits) in
     let l = c .before .loop in
-    chain-ends (keyOf (a .sizes)) (a .moves .now) (a .head) (sourceOf (a .moves .now) (ownerOf (a .o))) scene (a .settling) (length (a .moves .now)) v (l .k) (lineOf (l .marks) (l .queue) (l .s .tail) (l .s .visits)) (l .inv) (omega (arith, c .loop-test .left))
+    chain-ends (keyOf (a .sizes)) (a .moves .now) (a .head) (sourceOf (a .moves .now) (ownerIn (a .o))) scene (a .settling) (length (a .moves .now)) v (l .k) (lineOf (l .marks) (l .queue) (l .s .tail) (l .s .visits)) (l .inv) (omega (arith, c .loop-test .left))
 
 pub visit-sources-spec : {M : Type 1} → statement M
 visit-sources-spec =
