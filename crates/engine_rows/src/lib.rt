@@ -116,7 +116,8 @@ fn queue_some(
     top
 }
 
-// The same; where none of these places is bad they are passed over.
+// The same; where none of these places is bad they are passed over. Of a whole stretch the compiler is told how long it is, and lays its
+// places out one after another.
 fn queue_part(
     bad: &[u8],
     y: Variable,
@@ -131,10 +132,13 @@ fn queue_part(
     requires { ⌜ tail + length (hits (badAt (now bad)) from (end - from)) < length (now queue) ⌝ }
     ensures { λ r. ⌜ Queued (y .0) (badAt (now (bad .entry))) (now (queue .entry)) tail from (end - from) r (now (queue .exit)) ⌝ }
 {
-    if any_bad(bad, from, end) {
-        return queue_some(bad, y, from, end, queue, tail);
+    if !any_bad(bad, from, end) {
+        return tail;
     }
-    tail
+    if end - from == TESTED_AT_ONCE {
+        return queue_some(bad, y, from, from + TESTED_AT_ONCE, queue, tail);
+    }
+    queue_some(bad, y, from, end, queue, tail)
 }
 
 // The pairs of the row of y whose places are bad wait, in order. Answers where the queue ends then.
