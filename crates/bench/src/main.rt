@@ -1,4 +1,4 @@
 // The program, on the example that document 01 prints.
 fn main() {
-    streams::check_input();
+    program_streams::check_input();
 }

@@ -12,7 +12,7 @@ use Rattle.rules.specs.Values.{state, variable}
 use Rattle.rules.specs.Calls.{Left, load, batch, write, ask}
 use Rattle.rules.specs.declared.Session.{Session}
 use Rattle.rules.specs.declared.Report.{Report}
-use Rattle.numbers.specs.Numbers.{sessionIn, packed, told, sessionAfter, movedTo, reportAfter}
+use Rattle.boundary_numbers.specs.Numbers.{sessionIn, packed, told, sessionAfter, movedTo, reportAfter}
 
 -- What a load leaves: its answer, the room of the session, the rooms lent.
 pub record LoadLeft : Type 0 where

@@ -17,10 +17,10 @@ use Rattle.rules.specs.declared.Loaded.{Loaded}
 use Rattle.rules.specs.declared.Updated.{Updated}
 use Rattle.rules.specs.declared.Written.{Written}
 use Rattle.rules.specs.declared.Asked.{Asked}
-use Rattle.loads.specs.LoadLaws.{loaded}
-use Rattle.calls.specs.BatchLaws.{updated}
-use Rattle.calls.specs.WriteLaws.{wrote}
-use Rattle.numbers.specs.Numbers.{sessionIn, sessionAfter, movedTo, reportAfter, told}
+use Rattle.call_load.specs.LoadLaws.{loaded}
+use Rattle.call_batch.specs.BatchLaws.{updated}
+use Rattle.call_write.specs.WriteLaws.{wrote}
+use Rattle.boundary_numbers.specs.Numbers.{sessionIn, sessionAfter, movedTo, reportAfter, told}
 use Rattle.boundary.specs.Boundary.{loadedTo, loadLeft, loadCall, batchedTo, batchLeft, batchCall, wroteTo, writeLeft, writeCall, askCall}
 
 -- A question about one pair.

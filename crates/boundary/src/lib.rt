@@ -34,8 +34,8 @@ pub extern "C" fn huepaxochi_load(
     if session.len() < SESSION {
         return SHORT;
     }
-    let found = loads::load(bytes, labels, equations, values, marks, moves, index, queue);
-    numbers::keep_loaded(found, session)
+    let found = call_load::load(bytes, labels, equations, values, marks, moves, index, queue);
+    boundary_numbers::keep_loaded(found, session)
 }
 
 // A batch of changes applied to the session lent; what it came to goes into the room of the report.
@@ -58,8 +58,8 @@ pub extern "C" fn huepaxochi_batch(
     if (session.len() < SESSION) | (report.len() < REPORT) {
         return SHORT;
     }
-    let before = numbers::session_of(session);
-    let found = updates::batch(
+    let before = boundary_numbers::session_of(session);
+    let found = call_batch::batch(
         before,
         bytes,
         labels,
@@ -70,7 +70,7 @@ pub extern "C" fn huepaxochi_batch(
         index,
         queue,
     );
-    numbers::keep_updated(found, session, report)
+    boundary_numbers::keep_updated(found, session, report)
 }
 
 // The model that the session holds, written into the front of the output.
@@ -90,9 +90,9 @@ pub extern "C" fn huepaxochi_write(
     if session.len() < SESSION {
         return SHORT;
     }
-    let held = numbers::session_of(session);
-    let found = writes::write(held, labels, equations, values, marks, moves, out);
-    numbers::tell_written(found)
+    let held = boundary_numbers::session_of(session);
+    let found = call_write::write(held, labels, equations, values, marks, moves, out);
+    boundary_numbers::tell_written(found)
 }
 
 // The value of one pair.
@@ -103,11 +103,11 @@ pub extern "C" fn huepaxochi_ask(session: &[u32], values: &[u8], state: u16, var
     if session.len() < SESSION {
         return SHORT;
     }
-    let asked = calls::ask(
-        numbers::session_of(session),
+    let asked = call_ask::ask(
+        boundary_numbers::session_of(session),
         values,
         State(state),
         Variable(variable),
     );
-    numbers::tell_asked(asked)
+    boundary_numbers::tell_asked(asked)
 }

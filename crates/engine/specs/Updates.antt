@@ -15,23 +15,23 @@ use Rattle.lists.specs.Sums.{bit-le, sum-ext}
 use Rattle.lists.specs.Smallest.{at, table}
 use Rattle.lists.specs.TableLaws.{table-at, table-past, listed-is, listed-length, listed-same, bit-back}
 use Rattle.lists.specs.Tests.{tell}
-use Rattle.systems.specs.System as S
-use Rattle.systems.specs.Marks.{shiftOf, settleOf}
-use Rattle.systems.specs.Machine.{own}
-use Rattle.systems.specs.LoadSolves.{load-solve}
+use Rattle.systems.specs.solution.System as S
+use Rattle.systems.specs.moving.Marks.{shiftOf, settleOf}
+use Rattle.systems.specs.machine.Machine.{own}
+use Rattle.systems.specs.machine.LoadSolves.{load-solve}
 use Rattle.rules.specs.Model.{Model, blocksOf}
 use Rattle.rules.specs.Rooms.{pairsOf, indexNeeds}
 use Rattle.rules.specs.Batch.{Change, edited}
 use Rattle.rules.specs.Values.{Values, leanings, greatestIn, greatest, solve}
 use Rattle.rules.specs.Update.{changed, Turned, turnAll, markOf, visitsOn, trues, netOf}
 use Rattle.rules.specs.Calls.{valueAt, bits, marksOf}
-use Rattle.laws.specs.Edits.{Judged}
-use Rattle.laws.specs.ModelSystem.{frame, block-past, Sound, pairs-full, model-fits}
-use Rattle.laws.specs.Named.{variable-block}
-use Rattle.laws.specs.OneKind.{greatest-out}
-use Rattle.laws.specs.Accepted.{values-held}
-use Rattle.laws.specs.ValuesSolve.{solve-same}
-use Rattle.laws.specs.UpdateMoves.{update-values, update-shifted, update-settled, visits-agree}
+use Rattle.laws.specs.moves.Edits.{Judged}
+use Rattle.laws.specs.model.ModelSystem.{frame, block-past, Sound, pairs-full, model-fits}
+use Rattle.laws.specs.chains.Named.{variable-block}
+use Rattle.laws.specs.chains.OneKind.{greatest-out}
+use Rattle.laws.specs.session.Accepted.{values-held}
+use Rattle.laws.specs.demands.ValuesSolve.{solve-same}
+use Rattle.laws.specs.model.UpdateMoves.{update-values, update-shifted, update-settled, visits-agree}
 use native.Mathlib.Nat.{mul-comm}
 use Rattle.rules.specs.Limits.{most-moves}
 use Rattle.rules.specs.declared.Sizes.{Sizes}

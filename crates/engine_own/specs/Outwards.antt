@@ -9,7 +9,7 @@ use native.Mathlib.Omega.{arith}
 use lib.ListN.{length, getD}
 use lib.Dec.{eqb}
 use Rattle.lists.specs.Tests.{tell, ltb-in, ltb-no, eqb-is, eqb-in, eqb-no}
-use Rattle.table.specs.Ascending.{ascends}
+use Rattle.moves.specs.Ascending.{ascends}
 use Rattle.engine_own.specs.Looks.{someOwn, says, saysAt, saysBefore}
 use Rattle.engine_own.specs.Places.{begins, ends, ends-inside, stands-in, stands-out, any-at, any-none}
 

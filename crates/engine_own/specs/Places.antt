@@ -13,8 +13,8 @@ use Rattle.lists.specs.Lists.{any}
 use Rattle.lists.specs.Counts.{count-le}
 use Rattle.lists.specs.Tests.{tell}
 use Rattle.rules.specs.Moves.{pack, source, action}
-use Rattle.table.specs.Ascending.{ascends, below, leading-below}
-use Rattle.table.specs.Searching.{leads, follows}
+use Rattle.moves.specs.Ascending.{ascends, below, leading-below}
+use Rattle.moves.specs.Searching.{leads, follows}
 use Rattle.words.specs.SliceWalks.{any-hit, any-pass, any-end}
 
 -- The first number of the part of the move q.

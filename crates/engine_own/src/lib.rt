@@ -10,7 +10,7 @@ ghost use lib.Dec.{eqb};
 ghost use Rattle.lists.specs.Lists.{any};
 ghost use Rattle.rules.specs.Moves.{source, action, target};
 ghost use Rattle.rules.specs.Rooms.{pairsOf};
-ghost use Rattle.table.specs.Ascending.{ascends};
+ghost use Rattle.moves.specs.Ascending.{ascends};
 ghost use Rattle.words.specs.Table.{pairIn};
 ghost use Rattle.words.specs.Part.{ownMoves};
 ghost use Rattle.engine_own.specs.Looks.{Targets, reaches, says, saysAt, saysBefore};

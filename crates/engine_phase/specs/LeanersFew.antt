@@ -13,7 +13,7 @@ use Rattle.rules.specs.Values.{Term, constant, proposition, join, step, pair, s
 use Rattle.rules.specs.declared.State.{State}
 use Rattle.rules.specs.declared.Action.{Action}
 use Rattle.rules.specs.declared.Variable.{Variable}
-use Rattle.laws.specs.ModelLeaners.{sources, leanersVia, leanersOn, leanersTo, leanersOf}
+use Rattle.laws.specs.model.ModelLeaners.{sources, leanersVia, leanersOn, leanersTo, leanersOf}
 
 one-at-most : (b : Bool) (r : ℕ) → length (cond b (r ∷ []) []) ≤ 1
 one-at-most true r = omega arith

@@ -11,7 +11,7 @@ use lib.Seq.{getD-set-same, getD-set-other}
 use lib.Dec.{eqb}
 use Rattle.lists.specs.Lists.{bit}
 use Rattle.lists.specs.Sums.{bit-le, sum-le, sum-ext, sum-ones}
-use Rattle.systems.specs.ListMachine.{turned}
+use Rattle.systems.specs.lists.ListMachine.{turned}
 use Rattle.rules.specs.Rooms.{pairsOf}
 use Rattle.rules.specs.Update.{trues}
 use Rattle.rules.specs.Calls.{valueAt}

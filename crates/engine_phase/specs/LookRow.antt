@@ -7,16 +7,16 @@ use native.Mathlib.Omega.{arith}
 use lib.ListN.{length, getD, length-map}
 use lib.Dec.{eqb}
 use Rattle.lists.specs.Lists.{bit, is}
-use Rattle.systems.specs.Machine.{asks}
-use Rattle.systems.specs.ListMachine.{valOf, marksIn, Job}
-use Rattle.systems.specs.Rows.{hits}
+use Rattle.systems.specs.machine.Machine.{asks}
+use Rattle.systems.specs.lists.ListMachine.{valOf, marksIn, Job}
+use Rattle.systems.specs.lists.Rows.{hits}
 use Rattle.rules.specs.Model.{blocksOf}
 use Rattle.rules.specs.Rooms.{pairsOf}
 use Rattle.rules.specs.Batch.{Change}
 use Rattle.rules.specs.Values.{leanings}
 use Rattle.rules.specs.Calls.{valueAt}
-use Rattle.laws.specs.ModelSystem.{frame}
-use Rattle.laws.specs.LookTest.{lookTest}
+use Rattle.laws.specs.model.ModelSystem.{frame}
+use Rattle.laws.specs.model.LookTest.{lookTest}
 use Rattle.words.specs.Table.{Table, modelOf, Drawn, wordAt, ownIn, pairIn}
 use Rattle.engine_rows.specs.Rooms.{Bits, Packed, Tells, Told}
 use Rattle.engine_phase.specs.Course.{On, on-vals, on-bits, on-marks, on-small, on-told, on-hits}

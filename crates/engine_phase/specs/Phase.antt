@@ -12,20 +12,20 @@ use lib.Seq.{set-getD}
 use lib.Dec.{ltb}
 use Rattle.lists.specs.Lists.{bit}
 use Rattle.lists.specs.Tests.{tell, ltb-out, ltb-no}
-use Rattle.systems.specs.Machine.{own, free, nextMark, asks}
-use Rattle.systems.specs.ListMachine.{valOf, turned, marksIn, between, Pile, spreadL, Job}
-use Rattle.systems.specs.ListUnits.{spread-kept}
-use Rattle.systems.specs.Places.{nextPhase}
-use Rattle.systems.specs.Rows.{hits, rowMarks}
+use Rattle.systems.specs.machine.Machine.{own, free, nextMark, asks}
+use Rattle.systems.specs.lists.ListMachine.{valOf, turned, marksIn, between, Pile, spreadL, Job}
+use Rattle.systems.specs.lists.ListUnits.{spread-kept}
+use Rattle.systems.specs.lists.Places.{nextPhase}
+use Rattle.systems.specs.lists.Rows.{hits, rowMarks}
 use Rattle.rules.specs.Model.{blocksOf}
 use Rattle.rules.specs.Rooms.{pairsOf}
 use Rattle.rules.specs.Batch.{Change}
 use Rattle.rules.specs.declared.Sizes.{Sizes}
 use Rattle.rules.specs.Calls.{valueAt}
 use Rattle.rules.specs.Values.{leanings}
-use Rattle.laws.specs.ModelSystem.{frame}
-use Rattle.laws.specs.ModelLeaners.{leanersOf}
-use Rattle.laws.specs.LookTest.{lookTest}
+use Rattle.laws.specs.model.ModelSystem.{frame}
+use Rattle.laws.specs.model.ModelLeaners.{leanersOf}
+use Rattle.laws.specs.model.LookTest.{lookTest}
 use Rattle.words.specs.Table.{Table, modelOf, Drawn, wordAt, ownIn, waiter}
 use Rattle.words.specs.EquationWords.{own-word}
 use Rattle.words.specs.Limits.{limits, pairs-few}

@@ -10,12 +10,12 @@ use lib.Seq.{length-take-le}
 use lib.Dec.{eqb}
 use Rattle.lists.specs.Lists.{is, bit, listed}
 use Rattle.lists.specs.TableLaws.{listed-is, listed-length, bit-back}
-use Rattle.systems.specs.Machine.{nextMark}
-use Rattle.systems.specs.ListMachine.{between}
-use Rattle.systems.specs.Rows.{hits, rowMarks}
+use Rattle.systems.specs.machine.Machine.{nextMark}
+use Rattle.systems.specs.lists.ListMachine.{between}
+use Rattle.systems.specs.lists.Rows.{hits, rowMarks}
 use Rattle.rules.specs.Calls.{valueAt}
 use Rattle.rules.specs.declared.Sizes.{Sizes}
-use Rattle.laws.specs.ModelLeaners.{map-append}
+use Rattle.laws.specs.model.ModelLeaners.{map-append}
 use Rattle.words.specs.Table.{waiter, waitingOf}
 use Rattle.engine_rows.specs.Rooms.{Bits, Packed, hitsIn}
 use Rattle.engine_rows.specs.Filled.{listed-bits}

@@ -5,14 +5,14 @@ use mathlib.Core.List.{List}
 use Prim.Native.Nat.{ℕ, suc, _+_, _-_, _/_, _%_, _≤_, _<_}
 use native.Mathlib.Omega.{arith}
 use lib.ListN.{length, getD, length-map}
-use Rattle.systems.specs.Machine.{free, nextMark}
-use Rattle.systems.specs.ListMachine.{Job}
-use Rattle.systems.specs.ListUnits.{spread-kept}
+use Rattle.systems.specs.machine.Machine.{free, nextMark}
+use Rattle.systems.specs.lists.ListMachine.{Job}
+use Rattle.systems.specs.lists.ListUnits.{spread-kept}
 use Rattle.rules.specs.Model.{blocksOf}
 use Rattle.rules.specs.Rooms.{pairsOf}
 use Rattle.rules.specs.Batch.{Change}
 use Rattle.rules.specs.declared.Sizes.{Sizes}
-use Rattle.laws.specs.ModelLeaners.{leanersOf}
+use Rattle.laws.specs.model.ModelLeaners.{leanersOf}
 use Rattle.words.specs.Table.{tableIn, modelOf, Drawn, waiter}
 use Rattle.engine_own.specs.Pairs.{pair-low}
 use Rattle.engine_rows.specs.Rooms.{Bits, Packed, pileIn}

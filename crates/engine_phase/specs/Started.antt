@@ -6,26 +6,26 @@ use Prim.Native.Nat.{ℕ, _+_, _*_, _≤_, _<_}
 use native.Mathlib.Omega.{arith}
 use lib.ListN.{length, getD}
 use Rattle.lists.specs.Sets.{size-le}
-use Rattle.systems.specs.System.{Fits}
-use Rattle.systems.specs.Marks.{shiftOf, settleOf}
-use Rattle.systems.specs.Machine.{Finds}
-use Rattle.systems.specs.Phases.{Update}
-use Rattle.systems.specs.MachineMoves.{unitCount, unit-count}
-use Rattle.systems.specs.ListMachine.{valOf, Job, Agrees}
-use Rattle.systems.specs.ListCourse.{Underway}
-use Rattle.systems.specs.ListsMove.{MovesL, way-most, way-moves}
+use Rattle.systems.specs.solution.System.{Fits}
+use Rattle.systems.specs.moving.Marks.{shiftOf, settleOf}
+use Rattle.systems.specs.machine.Machine.{Finds}
+use Rattle.systems.specs.machine.Phases.{Update}
+use Rattle.systems.specs.machine.MachineMoves.{unitCount, unit-count}
+use Rattle.systems.specs.lists.ListMachine.{valOf, Job, Agrees}
+use Rattle.systems.specs.lists.ListCourse.{Underway}
+use Rattle.systems.specs.lists.ListsMove.{MovesL, way-most, way-moves}
 use Rattle.rules.specs.Model.{Model, blocksOf}
 use Rattle.rules.specs.Rooms.{pairsOf}
 use Rattle.rules.specs.Batch.{Change, edited}
 use Rattle.rules.specs.Values.{leanings}
 use Rattle.rules.specs.Update.{changed, turnAll}
 use Rattle.rules.specs.Calls.{valueAt}
-use Rattle.laws.specs.Edits.{Judged}
-use Rattle.laws.specs.ModelSystem.{frame, Sound, pairs-full, model-fits}
-use Rattle.laws.specs.ModelLeaners.{leanersOf, model-finds}
-use Rattle.laws.specs.UpdateMoves.{fits-old}
-use Rattle.laws.specs.LookTest.{lookTest, look-agrees}
-use Rattle.laws.specs.MachineRules.{Answers, moves-answer}
+use Rattle.laws.specs.moves.Edits.{Judged}
+use Rattle.laws.specs.model.ModelSystem.{frame, Sound, pairs-full, model-fits}
+use Rattle.laws.specs.model.ModelLeaners.{leanersOf, model-finds}
+use Rattle.laws.specs.model.UpdateMoves.{fits-old}
+use Rattle.laws.specs.model.LookTest.{lookTest, look-agrees}
+use Rattle.laws.specs.model.MachineRules.{Answers, moves-answer}
 
 -- The model with other moves.
 abbrev pub withMoves : List ℕ → Model → Model

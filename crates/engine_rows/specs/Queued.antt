@@ -15,13 +15,13 @@ use Rattle.lists.specs.Lists.{listed, someBelow}
 use Rattle.lists.specs.TableLaws.{listed-is, listed-length}
 use Rattle.lists.specs.Ranges.{some-no}
 use Rattle.lists.specs.Tests.{tell, eqb-is, eqb-no}
-use Rattle.systems.specs.Machine.{nextMark}
-use Rattle.systems.specs.ListMachine.{between}
-use Rattle.systems.specs.Fair.{between-split}
-use Rattle.systems.specs.Rows.{hits, rowMarks}
-use Rattle.systems.specs.RowLaws.{row-marks-long, row-marks-past, row-marks-before, row-marks-at}
+use Rattle.systems.specs.machine.Machine.{nextMark}
+use Rattle.systems.specs.lists.ListMachine.{between}
+use Rattle.systems.specs.slices.Fair.{between-split}
+use Rattle.systems.specs.lists.Rows.{hits, rowMarks}
+use Rattle.systems.specs.lists.RowLaws.{row-marks-long, row-marks-past, row-marks-before, row-marks-at}
 use Rattle.rules.specs.declared.Sizes.{Sizes}
-use Rattle.laws.specs.ModelLeaners.{map-append}
+use Rattle.laws.specs.model.ModelLeaners.{map-append}
 use Rattle.words.specs.Table.{pairIn, waitingOf, waiter}
 use Rattle.engine_rows.specs.Rooms.{Packed}
 use Rattle.engine_rows.specs.RowLoops.{markAt, Queued}

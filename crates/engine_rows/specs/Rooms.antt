@@ -6,14 +6,14 @@ use Prim.Native.Nat.{ℕ, _+_, _/_, _%_, _≤_, _<_}
 use lib.ListN.{length, getD}
 use lib.Dec.{eqb}
 use Rattle.lists.specs.Lists.{is}
-use Rattle.systems.specs.Machine.{past}
-use Rattle.systems.specs.MarkTurns.{flip, odd}
-use Rattle.systems.specs.ListMachine.{marksIn, Pile}
-use Rattle.systems.specs.Rows.{hits}
+use Rattle.systems.specs.machine.Machine.{past}
+use Rattle.systems.specs.moving.MarkTurns.{flip, odd}
+use Rattle.systems.specs.lists.ListMachine.{marksIn, Pile}
+use Rattle.systems.specs.lists.Rows.{hits}
 use Rattle.rules.specs.Values.{blockOf}
 use Rattle.rules.specs.Calls.{valueAt}
 use Rattle.rules.specs.declared.Sizes.{Sizes}
-use Rattle.laws.specs.ModelSystem.{frame}
+use Rattle.laws.specs.model.ModelSystem.{frame}
 use Rattle.words.specs.Table.{Table, modelOf, wordAt, waiter}
 
 -- Each entry is 0 or 1.

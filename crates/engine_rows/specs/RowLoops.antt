@@ -5,8 +5,8 @@ use mathlib.Core.List.{List, _++_, map}
 use Prim.Native.Nat.{ℕ, _+_}
 use lib.ListN.{length, getD, take}
 use lib.Dec.{eqb}
-use Rattle.systems.specs.Machine.{nextMark}
-use Rattle.systems.specs.Rows.{hits}
+use Rattle.systems.specs.machine.Machine.{nextMark}
+use Rattle.systems.specs.lists.Rows.{hits}
 use Rattle.words.specs.Table.{waitingOf}
 
 -- Must the pair at the state s turn: has it the value `from`, and is its place bad?

@@ -8,8 +8,8 @@ ghost use Prim.Native.Nat.{ℕ, _+_, _-_, _*_, _≤_, _<_};
 ghost use lib.ListN.{length, getD, take, drop, replicate};
 ghost use lib.Dec.{eqb};
 ghost use Rattle.lists.specs.Lists.{bit, listed, someBelow};
-ghost use Rattle.systems.specs.Machine.{nextMark};
-ghost use Rattle.systems.specs.Rows.{hits};
+ghost use Rattle.systems.specs.machine.Machine.{nextMark};
+ghost use Rattle.systems.specs.lists.Rows.{hits};
 ghost use Rattle.rules.specs.Limits.{most-states, most-variables};
 ghost use Rattle.words.specs.Table.{waitingOf};
 ghost use Rattle.engine_rows.specs.Rooms.{Bits, hitsIn};
@@ -153,7 +153,7 @@ pub fn row_queue(bad: &[u8], y: Variable, queue: &mut [u16], tail: usize) -> usi
     let mut top = tail;
     let mut s: usize = 0;
     while s < n {
-        let end = s + table::least(n - s, TESTED_AT_ONCE);
+        let end = s + moves::least(n - s, TESTED_AT_ONCE);
         top = queue_part(bad, y, s, end, queue, top);
         s = end;
     }

@@ -17,7 +17,7 @@ use Rattle.rules.specs.Moves.{target}
 use Rattle.rules.specs.Model.{operandsOk, wellFormed}
 use Rattle.rules.specs.Calls.{valueAt}
 use Rattle.rules.specs.Values.{state, holds, own, targets, gives}
-use Rattle.laws.specs.Walks.{small}
+use Rattle.laws.specs.bytes.Walks.{small}
 use Rattle.words.specs.Table.{Table, modelOf, Drawn, ReadsAs, wordAt, ownIn, pairIn, leadsTo}
 use Rattle.words.specs.Part.{ownMoves}
 use Rattle.words.specs.Limits.{move-inside}

@@ -6,12 +6,12 @@ use Prim.Native.Nat.{ℕ, _-_, _<_}
 use lib.ListN.{length, getD}
 use lib.Dec.{eqb}
 use Rattle.lists.specs.Lists.{is, any}
-use Rattle.systems.specs.Machine.{asks}
+use Rattle.systems.specs.machine.Machine.{asks}
 use Rattle.rules.specs.Moves.{target}
 use Rattle.rules.specs.Values.{state, own, gives, leanings}
 use Rattle.rules.specs.Rooms.{pairsOf}
 use Rattle.rules.specs.Calls.{valueAt}
-use Rattle.laws.specs.ModelSystem.{frame}
+use Rattle.laws.specs.model.ModelSystem.{frame}
 use Rattle.words.specs.Table.{Table, modelOf, Drawn, ReadsAs, wordAt, ownIn, pairIn}
 use Rattle.engine_index.specs.Indexed.{Indexed}
 use Rattle.engine_rows.specs.Rooms.{Bits}

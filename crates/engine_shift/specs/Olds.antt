@@ -9,13 +9,13 @@ use lib.ListN.{getD}
 use lib.Dec.{eqb, ltb}
 use Rattle.lists.specs.Lists.{is}
 use Rattle.lists.specs.Tests.{tell, ltb-out, ltb-no}
-use Rattle.systems.specs.Machine.{past}
-use Rattle.systems.specs.MarkTurns.{flip, odd}
-use Rattle.systems.specs.ListMachine.{marksIn}
+use Rattle.systems.specs.machine.Machine.{past}
+use Rattle.systems.specs.moving.MarkTurns.{flip, odd}
+use Rattle.systems.specs.lists.ListMachine.{marksIn}
 use Rattle.rules.specs.Calls.{valueAt}
 use Rattle.rules.specs.Values.{Values, blockOf}
 use Rattle.rules.specs.Update.{went}
-use Rattle.laws.specs.ModelSystem.{frame}
+use Rattle.laws.specs.model.ModelSystem.{frame}
 use Rattle.words.specs.Table.{Table, modelOf, wordAt}
 use Rattle.engine_rows.specs.Rooms.{Bits, Told}
 use Rattle.engine_shift.specs.Seeds.{oddAt, goneTo, wasNot}

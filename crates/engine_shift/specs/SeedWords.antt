@@ -10,8 +10,8 @@ use lib.Dec.{eqb, ltb}
 use Rattle.lists.specs.Lists.{is, any}
 use Rattle.lists.specs.Sets.{none}
 use Rattle.lists.specs.Tests.{tests, tell, and-no, or-false, eqb-same, ltb-is, ltb-no}
-use Rattle.systems.specs.Machine as machine
-use Rattle.systems.specs.ListMachine.{marksIn}
+use Rattle.systems.specs.machine.Machine as machine
+use Rattle.systems.specs.lists.ListMachine.{marksIn}
 use Rattle.rules.specs.Moves.{source, action, target}
 use Rattle.rules.specs.Model.{Model}
 use Rattle.rules.specs.Batch.{Change, changesOk, inserts, deletes}
@@ -20,8 +20,8 @@ use Rattle.rules.specs.Values.{Values, Term, constant, step, state, stateOf, va
 use Rattle.rules.specs.Update.{gains, loses, went, shifts}
 use Rattle.rules.specs.declared.State.{State}
 use Rattle.rules.specs.declared.Action.{Action}
-use Rattle.laws.specs.ModelSystem.{frame, leanings-at}
-use Rattle.laws.specs.LookTest.{lookTest}
+use Rattle.laws.specs.model.ModelSystem.{frame, leanings-at}
+use Rattle.laws.specs.model.LookTest.{lookTest}
 use Rattle.words.specs.Table.{Table, modelOf, Drawn, ReadsAs, wordAt, ownIn, pairIn, changesOf}
 use Rattle.words.specs.EquationWords.{drawn-sound, block-word, own-word, pair-inside, state-of}
 use Rattle.words.specs.GivesWords.{two, term-read, operator-below, join-names, step-names}

@@ -8,13 +8,13 @@ use native.Mathlib.Omega.{arith}
 use lib.ListN.{length, getD}
 use lib.Dec.{eqb}
 use Rattle.lists.specs.Lists.{is}
-use Rattle.systems.specs.ListMachine.{marksIn}
+use Rattle.systems.specs.lists.ListMachine.{marksIn}
 use Rattle.rules.specs.Rooms.{pairsOf}
 use Rattle.rules.specs.Batch.{changesOk}
 use Rattle.rules.specs.Session.{unword}
 use Rattle.rules.specs.Calls.{valueAt}
 use Rattle.rules.specs.declared.Sizes.{Sizes}
-use Rattle.laws.specs.LookTest.{lookTest}
+use Rattle.laws.specs.model.LookTest.{lookTest}
 use Rattle.words.specs.Table.{Table, modelOf, Drawn, ReadsAs, wordAt, ownIn, pairIn, changesOf}
 use Rattle.words.specs.EquationWords.{drawn-sound}
 use Rattle.words.specs.GivesWords.{join-names, step-names}

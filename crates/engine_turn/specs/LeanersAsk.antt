@@ -9,14 +9,14 @@ use lib.ListN.{getD}
 use lib.Dec.{eqb, ltb}
 use Rattle.lists.specs.Lists.{is, bit, any}
 use Rattle.lists.specs.Tests.{_∈_, tell, not-not, and-true, eqb-out, eqb-no, ltb-is, ltb-no}
-use Rattle.systems.specs.Machine.{own}
-use Rattle.systems.specs.HardPairs.{hard-asks}
+use Rattle.systems.specs.machine.Machine.{own}
+use Rattle.systems.specs.machine.HardPairs.{hard-asks}
 use Rattle.rules.specs.Moves.{target}
 use Rattle.rules.specs.Model.{Equation}
 use Rattle.rules.specs.Calls.{valueAt}
 use Rattle.rules.specs.Values.{terms, constant, stateOf, leanings, gives}
 use Rattle.rules.specs.declared.State.{State}
-use Rattle.laws.specs.ModelSystem.{kindBy, frame}
+use Rattle.laws.specs.model.ModelSystem.{kindBy, frame}
 use Rattle.words.specs.Table.{Table, modelOf, Drawn, ReadsAs, wordAt, ownIn, pairIn, leadsTo}
 use Rattle.words.specs.EquationWords.{own-word}
 use Rattle.words.specs.GivesWords.{term-read, operator-below, gives-join, gives-step}

@@ -16,7 +16,7 @@ use Rattle.rules.specs.Moves.{source, action, target}
 use Rattle.rules.specs.Model.{Equation}
 use Rattle.rules.specs.Values.{pair, state, variable, terms, termOf, constant}
 use Rattle.rules.specs.declared.Sizes.{Sizes}
-use Rattle.laws.specs.ModelLeaners.{sources, leanersVia, leanersOn, leanersTo, leanersOf, map-append}
+use Rattle.laws.specs.model.ModelLeaners.{sources, leanersVia, leanersOn, leanersTo, leanersOf, map-append}
 use Rattle.words.specs.Table.{Table, modelOf, Drawn, wordAt, pairIn, waitingOf, waiter}
 use Rattle.words.specs.EquationWords.{formula-word, variable-of, state-of}
 use Rattle.words.specs.Limits.{limits, move-inside}

@@ -6,7 +6,7 @@ use native.Mathlib.Omega.{arith}
 use lib.Dec.{ltb}
 use mir.Val.{boolByte}
 use Rattle.lists.specs.Tests.{ltb-is, ltb-no, eqb-no}
-use Rattle.systems.specs.Machine.{free, nextMark}
+use Rattle.systems.specs.machine.Machine.{free, nextMark}
 
 -- The byte of the phase is 0 or 1.
 pub phase-small : (ph : Bool) → boolByte ph ≤ 1

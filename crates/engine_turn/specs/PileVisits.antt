@@ -10,8 +10,8 @@ use native.Mathlib.Omega.{arith}
 use lib.ListN.{length, getD, set, length-set, length-map, List·getD-eq-default}
 use lib.Seq.{getD-set-same, getD-set-other}
 use Rattle.lists.specs.Tests.{_∈_}
-use Rattle.systems.specs.Machine.{free, nextMark}
-use Rattle.systems.specs.ListMachine.{Pile, waitL, pushL, spreadL}
+use Rattle.systems.specs.machine.Machine.{free, nextMark}
+use Rattle.systems.specs.lists.ListMachine.{Pile, waitL, pushL, spreadL}
 use Rattle.rules.specs.Model.{Model}
 use Rattle.words.specs.Table.{waiter}
 use Rattle.engine_rows.specs.Rooms.{Packed, pileIn}

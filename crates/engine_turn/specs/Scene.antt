@@ -7,7 +7,7 @@ use Prim.Native.Nat.{ℕ, zero, suc, _+_, _*_, _/_, _%_, _≤_, _<_}
 use lib.ListN.{length, getD, set}
 use lib.Dec.{eqb, ltb}
 use Rattle.lists.specs.Lists.{any}
-use Rattle.systems.specs.Machine.{free, nextMark}
+use Rattle.systems.specs.machine.Machine.{free, nextMark}
 use Rattle.rules.specs.Moves.{source, action, target}
 use Rattle.rules.specs.Model.{Equation}
 use Rattle.rules.specs.Rooms.{pairsOf}

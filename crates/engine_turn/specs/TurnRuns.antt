@@ -10,17 +10,17 @@ use lib.Seq.{getD-set-same, getD-set-other}
 use lib.Dec.{eqb}
 use Rattle.lists.specs.Lists.{bit}
 use Rattle.lists.specs.Tests.{_∈_}
-use Rattle.systems.specs.Leaners.{found-out}
-use Rattle.systems.specs.Machine.{free, nextMark}
-use Rattle.systems.specs.ListMachine.{turned}
-use Rattle.systems.specs.ListUnits.{spread-kept}
+use Rattle.systems.specs.machine.Leaners.{found-out}
+use Rattle.systems.specs.machine.Machine.{free, nextMark}
+use Rattle.systems.specs.lists.ListMachine.{turned}
+use Rattle.systems.specs.lists.ListUnits.{spread-kept}
 use Rattle.rules.specs.Rooms.{pairsOf}
 use Rattle.rules.specs.Calls.{valueAt}
 use Rattle.rules.specs.Values.{leanings, Term, constant, proposition, join, step, state, variable, termOf, equationAt}
 use Rattle.rules.specs.Model.{Model}
 use Rattle.rules.specs.declared.Sizes.{Sizes}
-use Rattle.laws.specs.ModelSystem.{frame, pairs-full}
-use Rattle.laws.specs.ModelLeaners.{leanersVia, leanersTo, leanersOf, model-finds}
+use Rattle.laws.specs.model.ModelSystem.{frame, pairs-full}
+use Rattle.laws.specs.model.ModelLeaners.{leanersVia, leanersTo, leanersOf, model-finds}
 use Rattle.words.specs.Table.{Table, tableIn, modelOf, Drawn, wordAt, ownIn, pairIn, waiter}
 use Rattle.words.specs.EquationWords.{drawn-sound, own-word, pair-inside}
 use Rattle.engine_rows.specs.Rooms.{Bits, Packed, pileIn}

@@ -4,14 +4,14 @@ use mathlib.Core.Bool.{Bool, not, cond}
 use mathlib.Core.List.{List}
 use Prim.Native.Nat.{ℕ, suc, _+_, _/_, _≤_}
 use lib.ListN.{length, getD, set}
-use Rattle.systems.specs.Machine.{free, nextMark, asks}
-use Rattle.systems.specs.ListMachine.{Pile, spreadL, turned}
+use Rattle.systems.specs.machine.Machine.{free, nextMark, asks}
+use Rattle.systems.specs.lists.ListMachine.{Pile, spreadL, turned}
 use Rattle.rules.specs.Model.{Model}
 use Rattle.rules.specs.Values.{leanings}
 use Rattle.rules.specs.Calls.{valueAt}
 use Rattle.rules.specs.declared.Sizes.{Sizes}
-use Rattle.laws.specs.ModelSystem.{frame}
-use Rattle.laws.specs.ModelLeaners.{leanersOf}
+use Rattle.laws.specs.model.ModelSystem.{frame}
+use Rattle.laws.specs.model.ModelLeaners.{leanersOf}
 use Rattle.words.specs.Table.{Table, tableIn, modelOf, Drawn, ownIn, waiter}
 use Rattle.engine_rows.specs.Rooms.{Packed, pileIn}
 

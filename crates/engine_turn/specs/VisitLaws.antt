@@ -8,7 +8,7 @@ use native.Mathlib.Omega.{arith}
 use lib.ListN.{length, getD, set, length-set}
 use Rattle.lists.specs.Lists.{any}
 use Rattle.lists.specs.Tests.{and-in, and-no, ltb-in, ltb-no}
-use Rattle.systems.specs.Machine.{free, nextMark}
+use Rattle.systems.specs.machine.Machine.{free, nextMark}
 use Rattle.rules.specs.Moves.{target}
 use Rattle.words.specs.Table.{ReadsAs, pairIn, waitingOf}
 use Rattle.words.specs.Part.{ownMoves}

@@ -16,16 +16,16 @@ use mir.Val.{boolByte}
 use Rattle.lists.specs.Lists.{bit, listed, fill}
 use Rattle.lists.specs.TableLaws.{listed-is, listed-length, listed-same}
 use Rattle.lists.specs.Entries.{zeros-at}
-use Rattle.systems.specs.Machine.{own}
+use Rattle.systems.specs.machine.Machine.{own}
 use Rattle.rules.specs.Rooms.{pairsOf}
 use Rattle.rules.specs.Calls.{bits, valueAt}
 use Rattle.rules.specs.Session.{unword}
 use Rattle.rules.specs.Update.{trues, netOf}
 use Rattle.rules.specs.Values.{Values}
 use Rattle.rules.specs.declared.Sizes.{Sizes}
-use Rattle.laws.specs.ModelSystem.{frame}
-use Rattle.laws.specs.SessionHolds.{fill-length}
-use Rattle.laws.specs.Accepted.{filled-at}
+use Rattle.laws.specs.model.ModelSystem.{frame}
+use Rattle.laws.specs.session.SessionHolds.{fill-length}
+use Rattle.laws.specs.session.Accepted.{filled-at}
 use Rattle.words.specs.Lent.{tableOf, Drawn, kindIn, own-kind}
 
 -- A list of numbers, so many longer, and one longer.

@@ -206,3 +206,15 @@ all-at f (r ∷ l) q h e =
       | inl t ↦ rw (eqb-is q r .0 t) (k .0)
       | inr t ↦ all-at f l q (k .1) (or-other (eqb q r) (elem q l) e t)
     ]
+
+-- Where the denial held, the test failed.
+pub failed : {r x : Bool} → r ≡ x → not r ≡ true → x ≡ false
+failed {r} e t = sym e ∙ sym (not-not r) ∙ ap not t
+
+-- Where the denial did not, the test was passed.
+pub passed : {r x : Bool} → r ≡ x → not r ≡ false → x ≡ true
+passed {r} e t = sym e ∙ sym (not-not r) ∙ ap not t
+
+-- A number over the most is not at most that.
+pub leb-no : (m n : ℕ) → n < m → leb m n ≡ false
+leb-no m n h = no-way (leb m n) (λ e. let k = leb-is m n .0 e in omega arith)

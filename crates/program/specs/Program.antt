@@ -8,8 +8,8 @@ use Rattle.rules.specs.Records.{Outcome, refused, accepted}
 use Rattle.rules.specs.Rooms.{Rooms}
 use Rattle.rules.specs.declared.Report.{Report}
 use Rattle.rules.specs.declared.Session.{Session}
-use Rattle.cuts.specs.Cut.{cut, allPieces}
-use Rattle.answers.specs.AnswerLines.{loadPrints, batchPrints}
+use Rattle.program_cut.specs.Cut.{cut, allPieces}
+use Rattle.program_answers.specs.AnswerLines.{loadPrints, batchPrints}
 
 -- The rooms of the program's session: as long as the limits ask, and all 0 before the model is loaded.
 unfoldable pub freshRooms : Rooms

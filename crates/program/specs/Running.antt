@@ -8,11 +8,11 @@ use lib.Seq.{drop-drop, take-all}
 use Rattle.rules.specs.Calls.{batch}
 use Rattle.rules.specs.Rooms.{Rooms}
 use Rattle.rules.specs.declared.Session.{Session}
-use Rattle.writer.specs.Spelled.{Wrote}
-use Rattle.writer.specs.SpelledLaws.{wrote-more, wrote-none}
-use Rattle.cuts.specs.Cut.{cut}
-use Rattle.cuts.specs.CutLaws.{cut-most, cut-more}
-use Rattle.answers.specs.AnswerLines.{batchPrints}
+use Rattle.model_write.specs.Spelled.{Wrote}
+use Rattle.model_write.specs.SpelledLaws.{wrote-more, wrote-none}
+use Rattle.program_cut.specs.Cut.{cut}
+use Rattle.program_cut.specs.CutLaws.{cut-most, cut-more}
+use Rattle.program_answers.specs.AnswerLines.{batchPrints}
 use Rattle.program.specs.Program.{sessionAfter}
 use Rattle.program.specs.Steps.{batchesFrom, Stepped, batches-more, batches-none}
 use Rattle.program.specs.declared.Went.{Went}

@@ -19,12 +19,12 @@ use Rattle.rules.specs.Session.{held, countsOk, sessionDemands}
 use Rattle.rules.specs.Calls.{asked, andThen, loadBy, load, judged, batchBy, batch}
 use Rattle.rules.specs.declared.Session.{Session}
 use Rattle.rules.specs.declared.Sizes.{Sizes}
-use Rattle.laws.specs.RecordLaws.{AreBytes}
-use Rattle.laws.specs.Refusals.{numbers, paper, Told, load-told, batch-told}
-use Rattle.laws.specs.BatchReads.{read-batch-spelling}
-use Rattle.laws.specs.ReadSpells.{read-spelling}
-use Rattle.lines.specs.Lengths.{refused-few}
-use Rattle.answers.specs.AnswerLines.{loadPrints, batchPrints}
+use Rattle.laws.specs.bytes.RecordLaws.{AreBytes}
+use Rattle.laws.specs.demands.Refusals.{numbers, paper, Told, load-told, batch-told}
+use Rattle.laws.specs.bytes.BatchReads.{read-batch-spelling}
+use Rattle.laws.specs.bytes.ReadSpells.{read-spelling}
+use Rattle.program_lines.specs.Lengths.{refused-few}
+use Rattle.program_answers.specs.AnswerLines.{loadPrints, batchPrints}
 
 -- No place of the records lies past n.
 abbrev Within : ℕ → Parts → Type 0

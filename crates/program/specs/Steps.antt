@@ -15,12 +15,12 @@ use Rattle.rules.specs.Rooms.{Rooms}
 use Rattle.rules.specs.declared.Report.{Report}
 use Rattle.rules.specs.declared.Session.{Session}
 use Rattle.rules.specs.declared.Updated.{Updated}
-use Rattle.laws.specs.RecordLaws.{AreBytes}
-use Rattle.calls.specs.BatchLaws.{updated}
-use Rattle.writer.specs.Spelled.{Wrote}
-use Rattle.cuts.specs.Cut.{cut, allPieces}
-use Rattle.cuts.specs.CutLaws.{cut-most, cut-more, pieces-more, pieces-none}
-use Rattle.answers.specs.AnswerLines.{batchPrints}
+use Rattle.laws.specs.bytes.RecordLaws.{AreBytes}
+use Rattle.call_batch.specs.BatchLaws.{updated}
+use Rattle.model_write.specs.Spelled.{Wrote}
+use Rattle.program_cut.specs.Cut.{cut, allPieces}
+use Rattle.program_cut.specs.CutLaws.{cut-most, cut-more, pieces-more, pieces-none}
+use Rattle.program_answers.specs.AnswerLines.{batchPrints}
 use Rattle.program.specs.Program.{sessionAfter, batchesPrint}
 use Rattle.program.specs.ShortLines.{short-batch-line}
 use Rattle.program.specs.declared.Went.{Went}

@@ -19,13 +19,13 @@ use Rattle.rules.specs.declared.Loaded.{Loaded}
 use Rattle.rules.specs.declared.Loaded.the-variants as L
 use Rattle.rules.specs.declared.Refusal.{Refusal}
 use Rattle.rules.specs.declared.Session.{Session}
-use Rattle.laws.specs.RecordLaws.{AreBytes}
-use Rattle.loads.specs.LoadLaws.{loaded}
-use Rattle.writer.specs.Spelled.{Wrote}
-use Rattle.writer.specs.SpelledLaws.{wrote-more, wrote-fills}
-use Rattle.cuts.specs.Cut.{cut}
-use Rattle.cuts.specs.CutLaws.{cut-most}
-use Rattle.answers.specs.AnswerLines.{loadPrints}
+use Rattle.laws.specs.bytes.RecordLaws.{AreBytes}
+use Rattle.call_load.specs.LoadLaws.{loaded}
+use Rattle.model_write.specs.Spelled.{Wrote}
+use Rattle.model_write.specs.SpelledLaws.{wrote-more, wrote-fills}
+use Rattle.program_cut.specs.Cut.{cut}
+use Rattle.program_cut.specs.CutLaws.{cut-most}
+use Rattle.program_answers.specs.AnswerLines.{loadPrints}
 use Rattle.program.specs.Program.{freshRooms, afterLoad, printedIn, printed}
 use Rattle.program.specs.ShortLines.{short-load-line}
 use Rattle.program.specs.Steps.{batchesFrom, bytes-take}

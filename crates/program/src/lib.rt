@@ -6,7 +6,7 @@ ghost use Rattle.io.specs.Counts.{Counts};
 ghost use Rattle.lists.specs.Lists.{fill};
 ghost use Rattle.rules.specs.Answers.{updatedSays};
 ghost use Rattle.rules.specs.Rooms.{roomsWith};
-ghost use Rattle.writer.specs.Spelled.{Wrote};
+ghost use Rattle.model_write.specs.Spelled.{Wrote};
 ghost use Rattle.program.specs.Program.{sessionAfter, printedIn, printed};
 ghost use Rattle.program.specs.Steps.{Stepped, batchesFrom};
 use rules::Loaded;
@@ -49,8 +49,8 @@ fn step(
         (now (rest .entry)) (now (out .entry)) at r
         (roomsWith (now (labels .entry)) (now (equations .entry)) (now (values .exit)) (now (marks .exit)) (now (moves .exit)) (now (index .exit)) (now (queue .exit))) (now (out .exit)) ⌝ }
 {
-    let taken = cuts::first_part(rest);
-    let said = updates::batch(
+    let taken = program_cut::first_part(rest);
+    let said = call_batch::batch(
         session,
         &rest[..taken],
         labels,
@@ -61,7 +61,7 @@ fn step(
         index,
         queue,
     );
-    let next = answers::put_update(out, at, said, values);
+    let next = program_answers::put_update(out, at, said, values);
     let after = session_after(session, said);
     Went {
         session: after,
@@ -131,8 +131,8 @@ fn run_in(
         (roomsWith (now (labels .entry)) (now (equations .entry)) (now (values .entry)) (now (marks .entry)) (now (moves .entry)) (now (index .entry)) (now (queue .entry)))
         (now (input .entry))) (now (out .exit)) r × (r ≤ 16 + 16 * length (now (input .entry))) ⌝ }
 {
-    let end = cuts::first_part(input);
-    let said = loads::load(
+    let end = program_cut::first_part(input);
+    let said = call_load::load(
         &input[..end],
         labels,
         equations,
@@ -142,7 +142,7 @@ fn run_in(
         index,
         queue,
     );
-    let at = answers::put_load(out, 0, said, values);
+    let at = program_answers::put_load(out, 0, said, values);
     match said {
         Loaded::Refused(_why, _place) => at,
         Loaded::Accepted(session) => print_batches(

@@ -4,11 +4,11 @@ use mathlib.Core.Bool.{Bool, true, false, not, _&&_}
 use mathlib.Core.List.{List}
 use Prim.Native.Nat.{ℕ, _<_}
 use Rattle.lists.specs.Lists.{is}
-use Rattle.systems.specs.System.{eval}
-use Rattle.systems.specs.Machine as machine
+use Rattle.systems.specs.solution.System.{eval}
+use Rattle.systems.specs.machine.Machine as machine
 use Rattle.rules.specs.Calls.{valueAt}
 use Rattle.rules.specs.Values.{leanings, gives}
-use Rattle.laws.specs.ModelSystem.{frame, gives-eval}
+use Rattle.laws.specs.model.ModelSystem.{frame, gives-eval}
 use Rattle.words.specs.Table.{Table, modelOf, Drawn, ownIn, pairIn}
 use Rattle.words.specs.EquationWords.{own-word, pair-inside}
 

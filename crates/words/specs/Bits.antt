@@ -7,7 +7,7 @@ use native.Mathlib.Omega.{arith}
 use lib.Dec.{eqb}
 use mir.Val.{boolByte}
 use Rattle.lists.specs.Lists.{bit}
-use Rattle.systems.specs.Machine.{pastOf}
+use Rattle.systems.specs.machine.Machine.{pastOf}
 
 -- A word has no bit from 32 on.
 pub no-bit : (w q : ℕ) → w < 4294967296 → 32 ≤ q → eqb (w / 2 ^ q % 2) 1 ≡ false

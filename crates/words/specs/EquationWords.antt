@@ -8,14 +8,14 @@ use native.Mathlib.Omega.{arith}
 use lib.ListN.{length, getD, List·getD-map}
 use lib.Arith.{digits-div, digits-mod}
 use lib.Dec.{eqb}
-use Rattle.systems.specs.Machine.{own}
+use Rattle.systems.specs.machine.Machine.{own}
 use Rattle.rules.specs.Model.{Equation}
 use Rattle.rules.specs.Rooms.{pairsOf}
 use Rattle.rules.specs.Session.{unword}
 use Rattle.rules.specs.Values.{variable, blockOf, greatestIn, greatest}
 use Rattle.rules.specs.Values as values
-use Rattle.laws.specs.OneKind.{greatest-is}
-use Rattle.laws.specs.ModelSystem.{frame, block-at, Sound, sound}
+use Rattle.laws.specs.chains.OneKind.{greatest-is}
+use Rattle.laws.specs.model.ModelSystem.{frame, block-at, Sound, sound}
 use Rattle.words.specs.Table.{Table, modelOf, Drawn, wordAt, ownIn, pairIn}
 
 module _ {t : Table} (d : Drawn t) where

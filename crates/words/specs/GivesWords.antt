@@ -15,7 +15,7 @@ use Rattle.rules.specs.Calls.{valueAt}
 use Rattle.rules.specs.Values.{Values, constant, state, variable, terms, termOf, equationAt, termAt, holds, targets, givesBy, gives}
 use Rattle.rules.specs.declared.Sizes.{Sizes}
 use Rattle.rules.specs.declared.State.{State}
-use Rattle.laws.specs.Walks.{small}
+use Rattle.laws.specs.bytes.Walks.{small}
 use Rattle.words.specs.Table.{Table, modelOf, Drawn, ReadsAs, wordAt, pairIn, leadsTo}
 use Rattle.words.specs.Part.{ownMoves, part-targets}
 use Rattle.words.specs.EquationWords.{formula-word, drawn-sound, variable-of, state-of}

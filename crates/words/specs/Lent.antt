@@ -9,13 +9,13 @@ use native.Mathlib.Omega.{arith}
 use lib.ListN.{length, getD, take}
 use lib.Seq.{length-take-le, getD-take}
 use lib.Dec.{eqb}
-use Rattle.systems.specs.Machine.{own}
+use Rattle.systems.specs.machine.Machine.{own}
 use Rattle.rules.specs.Limits.{most-states, most-variables}
 use Rattle.rules.specs.Model.{Model, WellFormed}
 use Rattle.rules.specs.Rooms.{pairsOf}
 use Rattle.rules.specs.Session.{unword}
 use Rattle.rules.specs.declared.Sizes.{Sizes}
-use Rattle.laws.specs.ModelSystem.{frame, Sound, sound}
+use Rattle.laws.specs.model.ModelSystem.{frame, Sound, sound}
 use Rattle.words.specs.Table as T
 use Rattle.words.specs.Table.{Table, tableIn, pairIn}
 use Rattle.words.specs.EquationWords.{own-word}

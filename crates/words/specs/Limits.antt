@@ -12,9 +12,9 @@ use Rattle.rules.specs.Moves.{source, action, target}
 use Rattle.rules.specs.Model.{Equation, moveOk, movesOk, wellFormed}
 use Rattle.rules.specs.Rooms.{pairsOf}
 use Rattle.rules.specs.declared.Sizes.{Sizes}
-use Rattle.laws.specs.Walks.{small}
-use Rattle.laws.specs.FewBlocks.{blocks-few}
-use Rattle.laws.specs.Named.{variable-block}
+use Rattle.laws.specs.bytes.Walks.{small}
+use Rattle.laws.specs.chains.FewBlocks.{blocks-few}
+use Rattle.laws.specs.chains.Named.{variable-block}
 use Rattle.words.specs.Table.{Table, modelOf, Drawn, wordAt}
 use Rattle.words.specs.EquationWords.{formula-word, drawn-sound}
 

@@ -13,9 +13,9 @@ use Rattle.rules.specs.Moves.{pack, target}
 use Rattle.rules.specs.Model.{movesOk}
 use Rattle.rules.specs.Values.{state, targets}
 use Rattle.rules.specs.declared.Sizes.{Sizes}
-use Rattle.table.specs.Ascending.{below}
-use Rattle.table.specs.OwnMoves.{partOf, within, model-targets}
-use Rattle.table.specs.declared.Part.{Part}
+use Rattle.moves.specs.Ascending.{below}
+use Rattle.moves.specs.OwnMoves.{partOf, within, model-targets}
+use Rattle.moves.specs.declared.Part.{Part}
 
 -- The moves of the state with the action.
 abbrev pub ownMoves : ℕ → ℕ → List ℕ → List ℕ

@@ -5,7 +5,7 @@ use Prim.Native.Nat.{ℕ, _+_, _-_, _≤_, _<_}
 use native.Mathlib.Omega.{arith}
 use lib.ListN.{length}
 use Rattle.lists.specs.Tests.{not-not}
-use Rattle.systems.specs.Rows.{hits}
+use Rattle.systems.specs.lists.Rows.{hits}
 use Rattle.engine_rows.specs.RowLoops.{badAt, Queued}
 use Rattle.engine_rows.specs.Queued.{queued-over}
 use borrow.Author.Needs.{needs}

@@ -5,7 +5,7 @@ use Prim.Native.Nat.{ℕ, _-_, _≤_}
 use native.Mathlib.Omega.{arith}
 use lib.ListN.{length, getD}
 use lib.Dec.{eqb}
-use Rattle.systems.specs.Machine.{nextMark}
+use Rattle.systems.specs.machine.Machine.{nextMark}
 use Rattle.engine_rows.specs.RowLoops.{markAt}
 use Rattle.engine_rows.specs.Filled.{Filled, filled-none, filled-more, filled-all}
 use borrow.Author.Needs.{needs}

@@ -6,7 +6,7 @@ use native.Mathlib.Omega.{arith}
 use Rattle.lists.specs.Lists.{any}
 use Rattle.lists.specs.Tests.{not-out, not-not}
 use Rattle.rules.specs.Moves.{target}
-use Rattle.table.specs.Ascending.{moves-ascend}
+use Rattle.moves.specs.Ascending.{moves-ascend}
 use Rattle.words.specs.EquationWords.{drawn-sound}
 use Rattle.words.specs.Part.{ownMoves}
 use Rattle.engine_turn.specs.Scene.{sceneOf, hasFrom}

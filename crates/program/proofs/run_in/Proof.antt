@@ -3,8 +3,8 @@ use mathlib.Core.Path.{_∙_}
 -- The whole run: the model's part, and then the batches. Assumes nothing.
 use native.Mathlib.Omega.{arith}
 use Rattle.rules.specs.Rooms.{roomsWith}
-use Rattle.laws.specs.RecordLaws.{are-bytes}
-use Rattle.cuts.specs.CutLaws.{cut-most}
+use Rattle.laws.specs.bytes.RecordLaws.{are-bytes}
+use Rattle.program_cut.specs.CutLaws.{cut-most}
 use Rattle.program.specs.Steps.{part-within}
 use Rattle.program.specs.Whole.{short-load, refused-run, accepted-run}
 use borrow.Author.Needs.{needs}

@@ -2,7 +2,7 @@
 use mathlib.Core.Path.{refl}
 use native.Mathlib.Omega.{arith}
 use Rattle.rules.specs.Rooms.{roomsWith}
-use Rattle.laws.specs.RecordLaws.{are-bytes}
+use Rattle.laws.specs.bytes.RecordLaws.{are-bytes}
 use Rattle.program.specs.Steps.{part-within, stepped}
 use borrow.Author.Needs.{needs}
 use Rattle.program.proofs.step.Statement.{statement}

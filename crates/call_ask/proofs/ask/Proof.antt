@@ -1,0 +1,62 @@
+-- Each way out is what the demands come to there. Assumes nothing.
+use Rattle.lists.specs.Tests.{failed, passed}
+use Rattle.call_ask.specs.AskLaws.{ask-sizes, ask-room, ask-number, ask-byte, ask-good}
+use native.Mathlib.Omega.{arith}
+use borrow.Author.Needs.{needs}
+use Rattle.call_ask.proofs.ask.Statement.{statement}
+use Rattle.call_ask.proofs.ask.Tie as tie
+
+sizes-ok-requires : tie.Need-sizes-ok-requires
+sizes-ok-requires c κs = search needs
+
+returns : tie.Need-returns
+returns c =
+    let a = c .before .before .before .before .args in
+    ask-sizes (a .session) (a .values .now) (a .here) (a .x) (failed (c .before .sizes-ok .ensures) (c .if1 .taken))
+
+pairs-of-requires : tie.Need-pairs-of-requires
+pairs-of-requires c κs = search needs
+
+returns-2 : tie.Need-returns-2
+returns-2 c =
+    let a = c .before .before .before .before .before .before .args in
+    ask-room (a .session) (a .values .now) (a .here) (a .x) (passed (c .before .before .before .sizes-ok .ensures) (c .before .before .if1 .left)) (omega arith)
+
+numbers-ok-requires : tie.Need-numbers-ok-requires
+numbers-ok-requires c κs = search needs
+
+returns-3 : tie.Need-returns-3
+returns-3 c =
+    let a = c .before .before .before .before .before .before .before .before .args in
+    ask-number (a .session) (a .values .now) (a .here) (a .x) (passed (c .before .before .before .before .before .sizes-ok .ensures) (c .before .before .before .before .if1 .left)) (omega arith) (failed (c .before .numbers-ok .ensures) (c .if3 .taken))
+
+pair-of-requires : tie.Need-pair-of-requires
+pair-of-requires c κs = search needs
+
+byte-at-requires : tie.Need-byte-at-requires
+byte-at-requires c κs = search needs
+
+returns-4 : tie.Need-returns-4
+returns-4 c =
+    let a = c .before .before .before .before .before .before .before .before .before .before .before .args in
+    ask-byte (a .session) (a .values .now) (a .here) (a .x) (passed (c .before .before .before .before .before .before .before .before .sizes-ok .ensures) (c .before .before .before .before .before .before .before .if1 .left)) (omega arith) (passed (c .before .before .before .before .numbers-ok .ensures) (c .before .before .before .if3 .left)) (c .before .byte-at .result) (rw (c .before .before .pair-of .ensures) at (c .before .byte-at .ensures)) (c .if4 .taken)
+
+returns-5 : tie.Need-returns-5
+returns-5 c =
+    let a = c .before .before .before .before .before .before .before .before .before .before .before .args in
+    ask-good (a .session) (a .values .now) (a .here) (a .x) (passed (c .before .before .before .before .before .before .before .before .sizes-ok .ensures) (c .before .before .before .before .before .before .before .if1 .left)) (omega arith) (passed (c .before .before .before .before .numbers-ok .ensures) (c .before .before .before .if3 .left)) (c .before .byte-at .result) (rw (c .before .before .pair-of .ensures) at (c .before .byte-at .ensures)) (c .if4 .left)
+
+pub ask-spec : {M : Type 1} → statement M
+ask-spec =
+    tie.close
+    (tie.spec
+    sizes-ok-requires
+    returns
+    pairs-of-requires
+    returns-2
+    numbers-ok-requires
+    returns-3
+    pair-of-requires
+    byte-at-requires
+    returns-4
+    returns-5)

@@ -1,0 +1,4 @@
+pub mod BatchLaws
+pub mod Reads
+pub mod Moving
+pub mod Reports

@@ -1,0 +1,60 @@
+// The call that loads a model: read and judged, stored in the rooms lent, and its values found.
+ghost use mathlib.Core.Path.{_≡_};
+ghost use Rattle.rules.specs.Rooms.{roomsWith};
+ghost use Rattle.rules.specs.Calls.{load};
+ghost use Rattle.rules.specs.Answers.{loadedSays};
+ghost use Rattle.call_load.specs.LoadLaws.{loaded};
+use model_judge::ReadModel;
+use rules::Loaded;
+use rules::Session;
+
+// A model loaded: refused where the reading refuses it, with the rooms left as they were; else its session, with the values
+// found and the marks and the rooms to work in cleared.
+pub fn load(
+    bytes: &[u8],
+    labels: &mut [u32],
+    equations: &mut [u32],
+    values: &mut [u8],
+    marks: &mut [u8],
+    moves: &mut [u32],
+    index: &mut [u16],
+    queue: &mut [u16],
+) -> Loaded
+    ensures { λ r. ⌜ loaded (loadedSays r) (roomsWith (now (labels .exit)) (now (equations .exit)) (now (values .exit)) (now (marks .exit)) (now (moves .exit)) (now (index .exit)) (now (queue .exit)))
+        ≡ load (roomsWith (now (labels .entry)) (now (equations .entry)) (now (values .entry)) (now (marks .entry)) (now (moves .entry)) (now (index .entry)) (now (queue .entry))) (now (bytes .entry)) ⌝ }
+{
+    let found = model_store::read_model(
+        bytes,
+        values.len(),
+        marks.len(),
+        index.len(),
+        queue.len(),
+        labels,
+        equations,
+        moves,
+    );
+    match found {
+        ReadModel::Refused(why, at) => Loaded::Refused(why, at),
+        ReadModel::Good(sizes, live, count) => {
+            let n = count as usize;
+            engine::load_values(
+                sizes,
+                labels,
+                equations,
+                moves,
+                n,
+                values,
+                marks,
+                index,
+                queue,
+            );
+            let stamp = moves::stamp_of(moves, n);
+            Loaded::Accepted(Session {
+                sizes: sizes,
+                live: live,
+                moves: count,
+                stamp: stamp,
+            })
+        }
+    }
+}

@@ -1,0 +1,7 @@
+pub mod ChainLaws
+pub mod Components
+pub mod ComponentCount
+pub mod Placed
+pub mod OneKind
+pub mod Named
+pub mod FewBlocks

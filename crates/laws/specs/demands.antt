@@ -1,0 +1,9 @@
+pub mod ValuesSolve
+pub mod LoadSolves
+pub mod AskSolves
+pub mod BatchAccepts
+pub mod BatchEdits
+pub mod BatchTurns
+pub mod BatchReload
+pub mod Refusals
+pub mod OneOutcome

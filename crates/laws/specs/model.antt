@@ -1,0 +1,9 @@
+pub mod ModelSystem
+pub mod Seeds
+pub mod UpdateMoves
+pub mod ModelLeaners
+pub mod LookTest
+pub mod MachineRules
+pub mod ModelRows
+pub mod LiveApart
+pub mod Rewritten

@@ -1,0 +1,3 @@
+pub mod SignsRefused
+pub mod FivePlace
+pub mod SixteenPlace

@@ -1,0 +1,3 @@
+pub mod SessionHolds
+pub mod Accepted
+pub mod BatchSolved

@@ -1,0 +1,55 @@
+-- `model_judge::before_blocks` meets its contract. Assumes nothing.
+use borrow.Author.Needs.{needs}
+use Rattle.model_judge.specs.Plain.{plain}
+use Rattle.model_judge.specs.Progress.{sofarOf}
+use Rattle.model_judge.specs.Due.{label-or-block}
+use Rattle.model_judge.proofs.before_blocks.Statement.{statement}
+use Rattle.model_judge.proofs.before_blocks.Tie as tie
+
+enum-known-rec : tie.Need-enum-known-rec
+enum-known-rec c = search needs
+
+on-label-requires : tie.Need-on-label-requires
+on-label-requires c κs = search needs
+
+enum-known-rec-2 : tie.Need-enum-known-rec-2
+enum-known-rec-2 c = search needs
+
+on-block-requires : tie.Need-on-block-requires
+on-block-requires c κs = search needs
+
+enum-told : tie.Need-enum-told
+enum-told c = search needs
+
+on-live-requires : tie.Need-on-live-requires
+on-live-requires c κs = search needs
+
+returns : tie.Need-returns
+unfolding plain
+returns c l = rw (c .before .before .rec .given .1) (c .on-label .ensures)
+
+returns-2 : tie.Need-returns-2
+unfolding plain
+returns-2 c l = rw (c .before .before .rec2 .given .1) (c .on-block .ensures)
+
+returns-3 : tie.Need-returns-3
+unfolding plain
+returns-3 c l = rw (c .before .enum-told .given .1) (c .on-live .ensures)
+
+returns-4 : tie.Need-returns-4
+returns-4 c l = label-or-block l (sofarOf (c .before .args .x)) (c .before .args .rec) (c .before .pre .0) (c .before .pre .1 .0) (c .before .pre .1 .1) (c .match .keys4)
+
+pub before-blocks-spec : {M : Type 1} → statement M
+before-blocks-spec =
+    tie.close
+    (tie.spec
+    enum-known-rec
+    on-label-requires
+    enum-known-rec-2
+    on-block-requires
+    enum-told
+    on-live-requires
+    returns
+    returns-2
+    returns-3
+    returns-4)

@@ -1,0 +1,71 @@
+-- `model_store::put_equations` meets its contract. Assumes nothing.
+use mathlib.Core.Path.{_≡_, refl}
+use Prim.Native.Nat.{_-_, _≤_}
+use native.Mathlib.Omega.{arith}
+use lib.ListN.{length, length-set}
+use borrow.Author.Needs.{needs}
+use Rattle.model_store.specs.Stored.{EquationsPut, none, more}
+use Rattle.model_store.proofs.put_equations.Statement.{statement}
+use Rattle.model_store.proofs.put_equations.Tie as tie
+
+abbrev Inv-loop : tie.InvT-loop
+Inv-loop bytes equations₀ x at z end y₀ equations y =
+    (y .at ≤ length bytes) × (y .due ≤ x .blocks .due) × (length equations ≡ length equations₀) × EquationsPut bytes x at equations₀ y equations
+
+abbrev μ-loop : tie.MeasureT-loop
+μ-loop bytes equations₀ x at z end y₀ equations y = length bytes - y .at
+
+add-end : tie.Need-add-end Inv-loop μ-loop
+add-end c = search needs
+
+cast-end : tie.Need-cast-end Inv-loop μ-loop
+cast-end c = search needs
+
+loop-holds : tie.Need-loop-holds Inv-loop μ-loop
+loop-holds c = (omega arith, omega arith, refl, none)
+
+good-equation-requires : tie.Need-good-equation-requires Inv-loop μ-loop
+good-equation-requires c κs = c .loop .inv .0
+
+put-equation-at-requires : tie.Need-put-equation-at-requires Inv-loop μ-loop
+put-equation-at-requires c κs = let at-good = c .before .before in
+    let at-loop = at-good .before in
+    let g = at-good .good-equation .ensures (c .before .if1 .taken) in
+    (at-loop .before .before .before .before .before .pre .kept, g .due, at-loop .loop .inv .1, g .inside-bytes)
+
+loop-less : tie.Need-loop-less Inv-loop μ-loop
+loop-less c = let at-put = c .before .before in
+    let at-if = at-put .before .before in
+    let g = at-if .before .good-equation .ensures (at-if .if1 .taken) .inside-bytes in
+    rw (at-put .put-equation-at .ensures .0) (omega arith)
+
+loop-again : tie.Need-loop-again Inv-loop μ-loop
+loop-again c = let at-put = c .before .before in
+    let at-if = at-put .before .before in
+    let at-loop = at-if .before .before in
+    let inv = at-loop .loop .inv in
+    let g = at-if .before .good-equation .ensures (at-if .if1 .taken) in
+    let h = inv .1 in
+    rw (at-put .put-equation-at .ensures .0, at-put .put-equation-at .ensures .1) (g .inside-bytes, omega arith, simp length-set (inv .2), more _ _ (inv .3) g)
+
+same-length : tie.Need-same-length Inv-loop μ-loop
+same-length c = c .before .before .loop .inv .2
+
+returns : tie.Need-returns Inv-loop μ-loop
+returns c = c .before .before .loop .inv .3
+
+pub put-equations-spec : {M : Type 1} → statement M
+put-equations-spec =
+    tie.close
+    (tie.spec
+    Inv-loop
+    μ-loop
+    add-end
+    cast-end
+    loop-holds
+    good-equation-requires
+    put-equation-at-requires
+    loop-less
+    loop-again
+    same-length
+    returns)

@@ -1,0 +1,54 @@
+-- `model_store::put_turn` meets its contract. Assumes nothing.
+use mathlib.Core.Path.{refl}
+use borrow.Author.Needs.{needs}
+use Rattle.model_store.proofs.put_turn.Statement.{statement}
+use Rattle.model_store.proofs.put_turn.Tie as tie
+
+enum-known-t : tie.Need-enum-known-t
+enum-known-t c = search needs
+
+enum-told : tie.Need-enum-told
+enum-told c = search needs
+
+returns : tie.Need-returns
+returns c = rw (c .enum-told .given .1) refl
+
+enum-known-u : tie.Need-enum-known-u
+enum-known-u c = search needs
+
+enum-told-2 : tie.Need-enum-told-2
+enum-told-2 c = search needs
+
+returns-2 : tie.Need-returns-2
+returns-2 c = rw (c .before .before .before .t .given .1, c .enum-told2 .given .1) refl
+
+put-record-requires : tie.Need-put-record-requires
+put-record-requires c κs = rw (c .before .before .before .before .before .before .before .t .given .1) at (c .before .before .before .before .before .before .before .before .before .before .before .before .pre)
+
+same-length : tie.Need-same-length
+same-length c = search needs
+
+same-length-2 : tie.Need-same-length-2
+same-length-2 c = search needs
+
+same-length-3 : tie.Need-same-length-3
+same-length-3 c = search needs
+
+returns-3 : tie.Need-returns-3
+returns-3 c = rw (c .before .before .before .before .before .before .before .before .before .before .before .before .before .before .t .given .1, c .before .before .before .before .before .before .before .before .before .before .before .u .given .1) (c .before .before .before .before .before .before .put-record .ensures)
+
+pub put-turn-spec : {M : Type 1} → statement M
+put-turn-spec =
+    tie.close
+    (tie.spec
+    enum-known-t
+    enum-told
+    returns
+    enum-known-u
+    enum-told-2
+    returns-2
+    put-record-requires
+    same-length
+    same-length-2
+    same-length-3
+    returns-3)

@@ -1,0 +1,156 @@
+-- What a model leaves in the rooms for labels, equations and moves. Definitions only.
+use mathlib.Core.Path.{_≡_}
+use mathlib.Core.Bool.{cond}
+use mathlib.Core.List.{List, [], _∷_, map}
+use Prim.Native.Nat.{ℕ, zero, suc, _+_, _-_, _≤_, _<_}
+use lib.ListN.{length, getD, set, replicate}
+use lib.Seq.{sets}
+use Rattle.lists.specs.Lists.{fill}
+use Rattle.rules.specs.Load.{Sofar, inside, started, equationOf, signedOf, readModel}
+use Rattle.rules.specs.Rooms.{Lengths}
+use Rattle.bytes_read.specs.Places.{le16, le32, moveAt, recordAt}
+use Rattle.bytes_read.specs.declared.Read.{Read}
+use Rattle.model_runs.specs.Runs.{packed, GoodLabel, withLabel, GoodEquation, withEquation}
+use Rattle.model_runs.specs.declared.LabelRun.{LabelRun}
+use Rattle.model_runs.specs.declared.EquationRun.{EquationRun}
+use Rattle.model_judge.specs.Going.{placeOf, InsideTurn, left}
+use Rattle.model_judge.specs.Passing.{blockEnd, equationRun}
+use Rattle.model_judge.specs.Plain.{readPlain}
+use Rattle.model_judge.specs.Progress.{sofarOf}
+use Rattle.model_judge.specs.Turning.{readOn, readSays, summary}
+use Rattle.model_judge.specs.declared.Progress.{Progress}
+use Rattle.model_judge.specs.declared.OneTurn.{OneTurn}
+use Rattle.model_judge.specs.declared.OneTurn.the-variants as T
+use Rattle.model_judge.specs.declared.ReadModel.{ReadModel}
+use Rattle.rules.specs.Model.{Model, signed, placed}
+use Rattle.rules.specs.Moves.{pack, wrap}
+use Rattle.rules.specs.Records.{Outcome, refused, accepted}
+use Rattle.rules.specs.Session.{word}
+use Rattle.rules.specs.declared.Record.{Record}
+use Rattle.rules.specs.declared.Sizes.{Sizes}
+use Rattle.model_chains.specs.Stored.{held}
+use Rattle.rules.specs.declared.Record.the-variants as R
+
+-- The three rooms that a reading fills.
+pub record Stored : Type 0 where
+  pub labels : List ℕ
+  pub equations : List ℕ
+  pub moves : List ℕ
+
+abbrev pub three : List ℕ → List ℕ → List ℕ → Stored
+three labels equations moves = record { labels = labels; equations = equations; moves = moves }
+
+-- What one record does to them: a label with zeros for the states before it, zeros for the states after the last label,
+-- an equation, a move. An equation with a sign is stored without its component.
+unfoldable pub putRooms : Sofar → Record → Stored → Stored
+putRooms x (R.Sizes z) t = t
+putRooms x (R.Label s v) t =
+    record { labels = set (sets (t .labels) (x .labels) (replicate (s .0 - x .labels) 0)) (s .0) v; equations = t .equations; moves = t .moves }
+putRooms x (R.Block k n) t =
+    record { labels = sets (t .labels) (x .labels) (replicate (x .sizes .states - x .labels) 0); equations = t .equations; moves = t .moves }
+putRooms x (R.Equation o a b) t =
+    record { labels = t .labels; equations = set (t .equations) (x .blocks .equations) (word (equationOf x o a b)); moves = t .moves }
+putRooms x (R.Move m) t =
+    record { labels = t .labels; equations = t .equations; moves = set (t .moves) (x .moves .count) (wrap (pack (m .source .0) (m .action .0) (m .target .0))) }
+putRooms x R.End t = t
+putRooms x (R.Stamp n) t = t
+putRooms x (R.Insert m) t = t
+putRooms x (R.Delete m) t = t
+putRooms x R.Live t = t
+putRooms x (R.Signed k o a b) t =
+    record {
+      labels = sets (t .labels) (x .labels) (replicate (x .sizes .states - x .labels) 0);
+      equations = set (t .equations) (x .blocks .equations) (word (signedOf k o a b));
+      moves = t .moves;
+    }
+
+-- What the record of a turn does to them, after what the turn before it had read.
+abbrev pub putTurn : OneTurn → OneTurn → Stored → Stored
+putTurn (T.Stop a) u t = t
+putTurn (T.Go r x n) (T.Stop a) t = t
+putTurn (T.Go r x n) (T.Go q y k) t = putRooms (sofarOf x) q t
+
+-- What is still to come, written from where the reading stands on.
+unfoldable pub laid : Sofar → Model → Stored → Stored
+laid x m t =
+    record {
+      labels = sets (t .labels) (x .labels) (m .labels);
+      equations = sets (t .equations) (x .blocks .equations) (map word (m .equations));
+      moves = sets (t .moves) (x .moves .count) (m .moves);
+    }
+
+-- Equations with signs and their components; equations in blocks as they are.
+unfoldable pub withComponents : Sizes → List ℕ → List ℕ
+withComponents z ws = cond (signed z) (fill (map word (placed (held (z .variables) ws))) ws) ws
+
+-- The rooms after a reading: unchanged where it refused, with the model in front where it accepted.
+abbrev pub storedBy : Outcome Model → Stored → Stored
+storedBy (refused n p) t = t
+storedBy (accepted m) t =
+    record { labels = fill (m .labels) (t .labels); equations = fill (map word (m .equations)) (t .equations); moves = fill (m .moves) (t .moves) }
+
+-- The lengths of the rooms: the three, those for values and marks, and those to work in.
+abbrev pub lengthsWith : ℕ → ℕ → ℕ → ℕ → Stored → Lengths
+lengthsWith values marks index queue t = record {
+  labels = length (t .labels);
+  equations = length (t .equations);
+  values = values;
+  marks = marks;
+  moves = length (t .moves);
+  index = index;
+  queue = queue;
+}
+
+-- A reading into rooms t that answers r and leaves u: it says what the rules' reading comes to, and stores the model.
+pub record ReadInto (s : List ℕ) (values marks index queue : ℕ) (t : Stored) (r : ReadModel) (u : Stored) : Type 0 where
+  pub says : readSays r ≡ summary (readModel (lengthsWith values marks index queue t) s)
+  pub stores : u ≡ storedBy (readModel (lengthsWith values marks index queue t) s) t
+
+-- Where the reading stands: if the whole is accepted, so is the rest, and storing the rest gives the whole.
+abbrev pub Here : Lengths → List ℕ → Stored → Sofar → ℕ → Stored → Type 0
+Here l s t₀ x at t =
+    (m : Model) → readPlain l s ≡ accepted m → (n : Model) × (readOn l s (inside x) at ≡ accepted n) × (laid x n t ≡ laid (started (m .sizes)) m t₀)
+
+-- Between two turns: what was stored so far, and where the reading is over, the whole.
+abbrev pub Holds : Lengths → List ℕ → Stored → OneTurn → Stored → Type 0
+Holds l s t₀ (T.Stop a) t = (m : Model) → readPlain l s ≡ accepted m → t ≡ laid (started (m .sizes)) m t₀
+Holds l s t₀ (T.Go r x n) t = Here l s t₀ (sofarOf x) n t
+
+pub record Storing (l : Lengths) (s : List ℕ) (t₀ : Stored) (u : OneTurn) (t : Stored) : Type 0 where
+  pub going : InsideTurn s u
+  pub holds : Holds l s t₀ u t
+
+-- What one turn that stores is handed: what was read at the place of the turn before.
+abbrev pub StoresAt : List ℕ → Read → OneTurn → Type 0
+StoresAt s read t = InsideTurn s t × (read ≡ recordAt s (placeOf t))
+
+-- What it does: from what was stored so far to what is stored with it, nearer to the end.
+abbrev pub Stores : Lengths → List ℕ → OneTurn → Stored → OneTurn → Stored → Type 0
+Stores l s t h u k = (t₀ : Stored) → Storing l s t₀ t h → (placeOf t ≡ 0 → ⊥) → Storing l s t₀ u k × (left s u < left s t)
+
+-- What is stored beside the turns: from a turn and rooms to another turn and other rooms, no further from the end.
+abbrev pub RunStored : List ℕ → OneTurn → Stored → OneTurn → Stored → Type 0
+RunStored s u h v k = (l : Lengths) (t₀ : Stored) → Storing l s t₀ u h → Storing l s t₀ v k × (left s v ≤ left s u)
+
+-- The label that stands next, after zeros for the states before it that have none.
+abbrev pub labelPut : List ℕ → LabelRun → List ℕ → List ℕ
+labelPut s x ls = set (sets ls (x .labels) (replicate (le16 s (x .at + 1) - x .labels) 0)) (le16 s (x .at + 1)) (le32 s (x .at + 3))
+
+-- From one place to another there are good labels and nothing else, and each is put into the room.
+pub data LabelsPut (s : List ℕ) (z : Sizes) (x : LabelRun) (ls : List ℕ) : LabelRun → List ℕ → Type 0 where
+  none : LabelsPut s z x ls x ls
+  more : (y : LabelRun) (ms : List ℕ) → LabelsPut s z x ls y ms → GoodLabel s z y → LabelsPut s z x ls (withLabel s y) (labelPut s y ms)
+
+-- The equation of the block that stands next.
+abbrev pub equationPut : List ℕ → Progress → EquationRun → List ℕ → List ℕ
+equationPut s x y es = set es (blockEnd x - y .due) (word (equationOf (sofarOf x) (getD s (y .at + 1) 0) (getD s (y .at + 2) 0) (getD s (y .at + 3) 0)))
+
+-- From one place to another there are good equations of the block and nothing else, and each is put into the room.
+pub data EquationsPut (s : List ℕ) (x : Progress) (n : ℕ) (es : List ℕ) : EquationRun → List ℕ → Type 0 where
+  none : EquationsPut s x n es (equationRun x n) es
+  more : (y : EquationRun) (fs : List ℕ) → EquationsPut s x n es y fs → GoodEquation s (x .sizes) (blockEnd x) y → EquationsPut s x n es (withEquation y) (equationPut s x y fs)
+
+-- The numbers of so many moves that stand from a place on.
+abbrev pub movesFrom : List ℕ → ℕ → ℕ → List ℕ
+movesFrom s p zero = []
+movesFrom s p (suc k) = wrap (packed (moveAt s (p + 1))) ∷ movesFrom s (p + 6) k

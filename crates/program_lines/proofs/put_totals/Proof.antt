@@ -1,0 +1,63 @@
+-- `program_lines::put_totals` meets its contract. Assumes nothing.
+use mathlib.Core.List.{_++_}
+use Rattle.program_lines.specs.Lines.{decimal, true-text, of-text, stamp-text, feed-text, totals}
+use Rattle.model_write.specs.SpelledLaws.{wrote-more}
+use borrow.Author.Needs.{needs}
+use Rattle.program_lines.proofs.put_totals.Statement.{statement}
+use Rattle.program_lines.proofs.put_totals.Tie as tie
+
+slice-aggregate-put-number : tie.Need-slice-aggregate-put-number
+slice-aggregate-put-number c = search needs
+
+put-number-requires : tie.Need-put-number-requires
+put-number-requires c κs = search needs
+
+slice-aggregate-put-number-2 : tie.Need-slice-aggregate-put-number-2
+slice-aggregate-put-number-2 c = search needs
+
+put-number-requires-2 : tie.Need-put-number-requires-2
+put-number-requires-2 c κs = search needs
+
+slice-aggregate-put-number-3 : tie.Need-slice-aggregate-put-number-3
+slice-aggregate-put-number-3 c = search needs
+
+put-number-requires-3 : tie.Need-put-number-requires-3
+put-number-requires-3 c κs = search needs
+
+slice-aggregate-put-text : tie.Need-slice-aggregate-put-text
+slice-aggregate-put-text c = search needs
+
+put-text-requires : tie.Need-put-text-requires
+put-text-requires c κs = search needs
+
+same-length : tie.Need-same-length
+same-length c = search needs
+
+returns : tie.Need-returns
+unfolding totals
+returns c =
+    let a = c .before .before .before .before .before .before .before .before .before .before .before .before .before .before .before .before .before .before .before .before .before .args in
+    let t = true-text ++ decimal (a .t) in
+    let n = of-text ++ decimal (a .n) in
+    let s = stamp-text ++ decimal (a .stamp) in
+    let x = c .before .before .before .before .before .before .before .before .before .before .before .before .before .before .before .before .before .put-number in
+    let y = c .before .before .before .before .before .before .before .before .before .before .before .before .put-number2 in
+    let z = c .before .before .before .before .before .before .before .put-number3 in
+    wrote-more t (n ++ (s ++ feed-text)) (a .out .now) (x .last .0) _ (a .at) (x .result) _ (x .ensures .0)
+    (wrote-more n (s ++ feed-text) (x .last .0) (y .last .0) _ (x .result) (y .result) _ (y .ensures .0)
+    (wrote-more s feed-text (y .last .0) (z .last .0) _ (y .result) (z .result) _ (z .ensures .0) (c .before .before .put-text .ensures)))
+
+pub put-totals-spec : {M : Type 1} → statement M
+put-totals-spec =
+    tie.close
+    (tie.spec
+    slice-aggregate-put-number
+    put-number-requires
+    slice-aggregate-put-number-2
+    put-number-requires-2
+    slice-aggregate-put-number-3
+    put-number-requires-3
+    slice-aggregate-put-text
+    put-text-requires
+    same-length
+    returns)

@@ -1,0 +1,52 @@
+-- `session_check::each_sign_ok` meets its contract. Assumes nothing.
+use mathlib.Core.Path.{_≡_, refl}
+use Prim.Native.Nat.{_-_, _≤_}
+use native.Mathlib.Omega.{arith}
+use borrow.Author.Needs.{needs}
+use Rattle.session_check.specs.SignedWords.{eachSign, each-next}
+use Rattle.session_check.proofs.each_sign_ok.Statement.{statement}
+use Rattle.session_check.proofs.each_sign_ok.Tie as tie
+
+abbrev Inv-loop : tie.InvT-loop
+Inv-loop sizes equations n x₀ ok₀ x ok = (x ≤ n) × (ok ≡ eachSign sizes equations x)
+
+abbrev μ-loop : tie.MeasureT-loop
+μ-loop sizes equations n x₀ ok₀ x ok = n - x
+
+loop-holds : tie.Need-loop-holds Inv-loop μ-loop
+unfolding eachSign
+loop-holds c = (omega arith, refl)
+
+word-at-requires : tie.Need-word-at-requires Inv-loop μ-loop
+word-at-requires c κs = search needs
+
+sign-ok-requires : tie.Need-sign-ok-requires Inv-loop μ-loop
+sign-ok-requires c κs = search needs
+
+add-x : tie.Need-add-x Inv-loop μ-loop
+add-x c = search needs
+
+loop-less : tie.Need-loop-less Inv-loop μ-loop
+loop-less c = search needs
+
+loop-again : tie.Need-loop-again Inv-loop μ-loop
+loop-again c = (omega arith, each-next _ _ _ _ _ _ (c .before .before .before .loop .inv .1) (c .before .word-at .ensures) (c .sign-ok .ensures))
+
+returns : tie.Need-returns Inv-loop μ-loop
+returns c =
+    let e : c .before .loop .x ≡ c .before .before .before .args .n = omega arith in
+    rw e at (c .before .loop .inv .1)
+
+pub each-sign-ok-spec : {M : Type 1} → statement M
+each-sign-ok-spec =
+    tie.close
+    (tie.spec
+    Inv-loop
+    μ-loop
+    loop-holds
+    word-at-requires
+    sign-ok-requires
+    add-x
+    loop-less
+    loop-again
+    returns)

@@ -1,0 +1,23 @@
+-- To be in range and to ascend is all that is asked of the moves. Assumes nothing.
+use mathlib.Core.Path.{sym, ap₂, _∙_}
+use mathlib.Core.Bool.{Bool, _&&_}
+use lib.ListN.{take}
+use Rattle.session_check.specs.MoveWalk.{moves-split}
+use borrow.Author.Needs.{needs}
+use Rattle.session_check.proofs.moves_ok.Statement.{statement}
+use Rattle.session_check.proofs.moves_ok.Tie as tie
+
+moves-in-range-requires : tie.Need-moves-in-range-requires
+moves-in-range-requires c κs = search needs
+
+moves-ascend-requires : tie.Need-moves-ascend-requires
+moves-ascend-requires c κs = search needs
+
+returns : tie.Need-returns
+returns c =
+    let a = c .before .before .before .args in
+    ap₂ (λ (x y : Bool). x && y) (c .before .moves-in-range .ensures) (c .moves-ascend .ensures)
+    ∙ sym (moves-split (a .sizes) 0 (take (a .n) (a .moves .now)))
+
+pub moves-ok-spec : {M : Type 1} → statement M
+moves-ok-spec = tie.close (tie.spec moves-in-range-requires moves-ascend-requires returns)
