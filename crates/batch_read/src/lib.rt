@@ -38,7 +38,7 @@ pub struct ChangeRun {
 fn coded(m: Move, insert: u8) -> u32
     ensures { λ r. ⌜ r ≡ wrap (2 * pack (m .source .0) (m .action .0) (m .target .0) + insert) ⌝ }
 {
-    ((2 * limits::packed(m) + insert as u64) % 4294967296) as u32
+    ((2 * words::packed(m) + insert as u64) % 4294967296) as u32
 }
 
 // A change after n others: not the 65th, and in range.

@@ -6,7 +6,7 @@ use native.Mathlib.Nat.{add-zero}
 use native.Mathlib.Omega.{arith}
 use lib.ListN.{length}
 use lib.Seq.{sets}
-use Rattle.rules.specs.Model.{Equation}
+use Rattle.rules.specs.declared.Equation.{Equation}
 use Rattle.rules.specs.Records.{Rec, writes}
 
 -- The record of the label v of state s.

@@ -32,7 +32,7 @@ pub fn ask(session: Session, values: &[u8], here: State, x: Variable) -> Asked
     if !numbers_ok(sizes, here, x) {
         return Asked::Refused(Refusal::BadNumber, 0);
     }
-    let v = rooms::byte_at(values, limits::pair_of(sizes, here, x));
+    let v = rooms::byte_at(values, words::pair_of(sizes, here, x));
     if 1 < v {
         return Asked::Refused(Refusal::NotAModel, 0);
     }

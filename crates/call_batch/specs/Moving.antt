@@ -29,7 +29,7 @@ use Rattle.session_judge.specs.Checks.{checkOf, checkedSays}
 use Rattle.session_judge.specs.Passed.{Fits, passed-work, passed-fits, passed-holds, passed-moves}
 use Rattle.session_judge.specs.declared.Checked.{Checked}
 use Rattle.session_judge.specs.declared.Checked.the-variants as Found
-use Rattle.words.specs.Lent.{tableOf, Drawn}
+use Rattle.engine_table.specs.Lent.{tableOf, Drawn}
 use Rattle.batch_judge.specs.Fits.{Held}
 use Rattle.engine_phase.specs.Started.{Started, withMoves}
 

@@ -29,7 +29,7 @@ use Rattle.batch_judge.specs.declared.Verdict.{Verdict}
 use Rattle.batch_judge.specs.declared.Verdict.the-variants as Found
 use Rattle.batch_apply.specs.Kept.{Kept, appliedTo}
 use Rattle.call_batch.specs.BatchLaws.{updated}
-use Rattle.words.specs.Lent.{tableOf}
+use Rattle.engine_table.specs.Lent.{tableOf}
 use Rattle.engine_values.specs.Differences.{mag-sub}
 use Rattle.engine.specs.Updates.{Leaves}
 use Rattle.call_batch.specs.Moving.{Able, made, made-table}

@@ -29,7 +29,7 @@ use Rattle.model_judge.specs.Turning.{Summary, summary}
 use Rattle.model_judge.specs.declared.ReadModel.{ReadModel}
 use Rattle.model_judge.specs.declared.ReadModel.the-variants as M
 use Rattle.model_store.specs.Stored.{Stored, three, storedBy, ReadInto}
-use Rattle.words.specs.Lent.{tableOf, Drawn}
+use Rattle.engine_table.specs.Lent.{tableOf, Drawn}
 
 -- The call left this answer and these rooms.
 abbrev pub loaded : Outcome Session → Rooms → Left Session Rooms

@@ -35,8 +35,8 @@ use Rattle.laws.specs.model.UpdateMoves.{update-values, update-shifted, update-
 use native.Mathlib.Nat.{mul-comm}
 use Rattle.rules.specs.Limits.{most-moves}
 use Rattle.rules.specs.declared.Sizes.{Sizes}
-use Rattle.words.specs.Lent.{Drawn, drawn-cut}
-use Rattle.words.specs.Limits.{limits}
+use Rattle.engine_table.specs.Lent.{Drawn, drawn-cut}
+use Rattle.engine_table.specs.Limits.{limits}
 use Rattle.engine_index.specs.Indexed.{headsOf}
 use Rattle.engine_values.specs.Starts.{part-changed, net-counted}
 use Rattle.engine_values.specs.Differences.{sub-same}

@@ -4,7 +4,7 @@ use Prim.Native.Nat.{ℕ, _+_, _*_, _≤_}
 use lib.ListN.{length}
 use Rattle.rules.specs.Moves.{action, target}
 use Rattle.rules.specs.declared.Sizes.{Sizes}
-use Rattle.words.specs.Table.{Table}
+use Rattle.engine_table.specs.Table.{Table}
 use Rattle.engine_index.specs.ChainLaws.{Chained}
 
 -- The number by which a move is chained: its target, among those of its action.

@@ -14,13 +14,13 @@ use lib.Dec.{eqb, ltb, leb}
 use Rattle.lists.specs.Lists.{bit}
 use Rattle.lists.specs.TableLaws.{listed-is}
 use Rattle.lists.specs.Tests.{tell, not-not, and-is, and-left, and-true, eqb-in, eqb-out, eqb-no, ltb-is, ltb-no, leb-is}
-use Rattle.rules.specs.Model.{Equation}
+use Rattle.rules.specs.declared.Equation.{Equation}
 use Rattle.rules.specs.Session.{unword}
 use Rattle.rules.specs.Limits.{most-states, most-actions, most-variables}
 use Rattle.rules.specs.declared.Sizes.{Sizes}
-use Rattle.words.specs.Table.{Table, Drawn, ReadsAs}
-use Rattle.words.specs.Limits.{limits}
-use Rattle.words.specs.GivesWords.{join-names, step-names}
+use Rattle.engine_table.specs.Table.{Table, Drawn, ReadsAs}
+use Rattle.engine_table.specs.Limits.{limits}
+use Rattle.engine_table.specs.GivesWords.{join-names, step-names}
 use Rattle.engine_index.specs.Chains.{lastTo}
 use Rattle.engine_index.specs.Operands.{operandAt, ofSlot, isSlot, nameAt, namesOf, lastNamed, isStep, easyBit, slotWord, linkOf, wordBefore, putFirst, Blank, NamedUpTo, Naming, Slot}
 

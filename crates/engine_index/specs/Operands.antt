@@ -11,10 +11,10 @@ use lib.ListN.{length, getD, set}
 use lib.Dec.{eqb, ltb, leb}
 use Rattle.lists.specs.Lists.{bit, listed}
 use Rattle.rules.specs.Limits.{most-states, most-actions, most-variables}
-use Rattle.rules.specs.Model.{Equation}
+use Rattle.rules.specs.declared.Equation.{Equation}
 use Rattle.rules.specs.Session.{unword}
 use Rattle.rules.specs.declared.Sizes.{Sizes}
-use Rattle.words.specs.Table.{Table}
+use Rattle.engine_table.specs.Table.{Table}
 use Rattle.engine_index.specs.Chains.{lastTo}
 
 -- The operand of an equation for its slot b, 1 or 0, and whether the equation has it.

@@ -7,7 +7,7 @@ use native.Mathlib.Omega.{arith}
 use lib.Dec.{eqb}
 use Rattle.lists.specs.Lists.{bit}
 use Rattle.rules.specs.Limits.{most-states, most-variables}
-use Rattle.rules.specs.Model.{Equation}
+use Rattle.rules.specs.declared.Equation.{Equation}
 use Rattle.rules.specs.declared.Sizes.{Sizes}
 use Rattle.engine_index.specs.Operands.{isStep, easyBit, slotWord, linkIn, stepIn, easyIn, waitsIn, ownerIn, rowIn, headsIn}
 use Rattle.engine_index.specs.OperandLaws.{bit-low}

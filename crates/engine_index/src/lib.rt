@@ -24,7 +24,7 @@ pub fn heads_of(sizes: Sizes) -> usize
 fn key_of(sizes: Sizes, m: u32) -> usize
     ensures { λ r. ⌜ r ≡ keyOf sizes m ⌝ }
 {
-    (m % 65536 / 1024) as usize * sizes.states as usize + (m % 1024) as usize
+    words::action_of(m).0 as usize * sizes.states as usize + words::target_of(m).0 as usize
 }
 
 // Puts the move at j at the head of its chain.

@@ -8,8 +8,9 @@ use lib.Dec.{eqb, ltb}
 use Rattle.lists.specs.Lists.{any}
 use Rattle.rules.specs.Moves.{source, action, target}
 use Rattle.rules.specs.declared.Sizes.{Sizes}
-use Rattle.words.specs.Table.{pairIn}
-use Rattle.words.specs.Part.{ownMoves}
+use Rattle.words.specs.Words.{ownOf}
+use Rattle.engine_table.specs.Table.{pairIn}
+use Rattle.engine_table.specs.Part.{ownMoves}
 
 -- Each move leads to a state.
 abbrev pub Targets : Sizes → List ℕ → Type 0
@@ -25,7 +26,7 @@ someOwn f moves j = any f (ownMoves (source (getD moves j 0)) (action (getD move
 
 -- What a move says: 0 if it is not of the part, 1 if it is and does not pass the test, 2 if it does.
 unfoldable pub says : (ℕ → Bool) → ℕ → ℕ → ℕ
-says f part q = cond (eqb (q / 1024) part) (cond (f q) 2 1) 0
+says f part q = cond (eqb (ownOf q) part) (cond (f q) 2 1) 0
 
 -- What the move at a place says; 0 past the last.
 unfoldable pub saysAt : (ℕ → Bool) → List ℕ → ℕ → ℕ → ℕ

@@ -12,6 +12,7 @@ use Rattle.lists.specs.Tests.{tell, ltb-in, ltb-no, eqb-is, eqb-in, eqb-no}
 use Rattle.moves.specs.Ascending.{ascends}
 use Rattle.engine_own.specs.Looks.{someOwn, says, saysAt, saysBefore}
 use Rattle.engine_own.specs.Places.{begins, ends, ends-inside, stands-in, stands-out, any-at, any-none}
+use Rattle.words.specs.Words.{ownOf}
 
 -- What an answer tells: that a side is over, that one more is passed, or that one is found.
 data Told (over passed found : Type 0) (r : ℕ) : Type 0 where
@@ -39,10 +40,10 @@ told-over (hits e x) h = absurd (omega arith)
 
 -- What a move says.
 says-told : (f : ℕ → Bool) (part q : ℕ)
-    → Told (q / 1024 ≡ part → ⊥) ((q / 1024 ≡ part) × (f q ≡ false)) ((q / 1024 ≡ part) × (f q ≡ true)) (says f part q)
+    → Told (ownOf q ≡ part → ⊥) ((ownOf q ≡ part) × (f q ≡ false)) ((ownOf q ≡ part) × (f q ≡ true)) (says f part q)
 unfolding says
 says-told f part q =
-    elim (tell true (eqb (q / 1024) part)) [
+    elim (tell true (eqb (ownOf q) part)) [
       | inl t ↦ elim (tell true (f q)) [
         | inl u ↦ hits (rw (t, u) refl) (eqb-is _ _ .0 t, u)
         | inr u ↦ goes (rw (t, u) refl) (eqb-is _ _ .0 t, u)
@@ -60,18 +61,18 @@ FromBelow f l j low r = Told (low ≤ begins (getD l j 0) l) ((0 < low) × (f (g
 
 module _ (f : ℕ → Bool) (l : List ℕ) (up : ascends 0 l ≡ true) (j : ℕ) (here : j < length l) where
   -- A move of the part that passes the test is found.
-  found-at : (i : ℕ) → i < length l → getD l i 0 / 1024 ≡ getD l j 0 / 1024 → f (getD l i 0) ≡ true → someOwn f l j ≡ true
+  found-at : (i : ℕ) → i < length l → ownOf (getD l i 0) ≡ ownOf (getD l j 0) → f (getD l i 0) ≡ true → someOwn f l j ≡ true
   found-at i h e t =
       let s = stands-in l up (getD l j 0) i h e in
       any-at f l (ends (getD l j 0) l) (ends-inside (getD l j 0) l) (begins (getD l j 0) l) i (s .0) (s .1) t
 
   -- Where the move at high is not of the part, the part ends there or before, since the move at j is of it.
-  from-above : (high : ℕ) → j ≤ high → FromAbove f l j high (saysAt f l (getD l j 0 / 1024) high)
+  from-above : (high : ℕ) → j ≤ high → FromAbove f l j high (saysAt f l (ownOf (getD l j 0)) high)
   unfolding saysAt
   from-above high a =
       elim (decLt high (length l)) [
         | no h ↦ let e = ends-inside (getD l j 0) l in stops (rw (ltb-no high (length l) .1 (omega arith)) refl) (omega arith)
-        | yes h ↦ rw (ltb-in high (length l) h) (elim (says-told f (getD l j 0 / 1024) (getD l high 0)) [
+        | yes h ↦ rw (ltb-in high (length l) h) (elim (says-told f (ownOf (getD l j 0)) (getD l high 0)) [
           | stops e n ↦ stops e (elim (stands-out l up (getD l j 0) high h n) [
             | inl k ↦ let s = stands-in l up (getD l j 0) j here refl in absurd (omega arith)
             | inr k ↦ k
@@ -82,12 +83,12 @@ module _ (f : ℕ → Bool) (l : List ℕ) (up : ascends 0 l ≡ true) (j : ℕ)
       ]
 
   -- Where the move before low is not of the part, the part begins at low or after it.
-  from-below : (low : ℕ) → low ≤ j → FromBelow f l j low (saysBefore f l (getD l j 0 / 1024) low)
+  from-below : (low : ℕ) → low ≤ j → FromBelow f l j low (saysBefore f l (ownOf (getD l j 0)) low)
   unfolding saysBefore
   from-below low a =
       elim (decLt 0 low) [
         | no h ↦ stops (rw (eqb-in low 0 (omega arith)) refl) (omega arith)
-        | yes h ↦ rw (eqb-no low 0 .1 (λ e. omega arith)) (elim (says-told f (getD l j 0 / 1024) (getD l (low - 1) 0)) [
+        | yes h ↦ rw (eqb-no low 0 .1 (λ e. omega arith)) (elim (says-told f (ownOf (getD l j 0)) (getD l (low - 1) 0)) [
           | stops e n ↦ stops e (elim (stands-out l up (getD l j 0) (low - 1) (omega arith) n) [
             | inl k ↦ omega arith
             | inr k ↦ let s = stands-in l up (getD l j 0) j here refl in absurd (omega arith)
@@ -126,23 +127,23 @@ passed-none f l j h =
 
 module _ {f : ℕ → Bool} {l : List ℕ} {j low high : ℕ} (up : ascends 0 l ≡ true) (p : Passed f l j low high) where
   -- What the answer from above tells.
-  told-above : {above : ℕ} → above ≡ saysAt f l (getD l j 0 / 1024) high → FromAbove f l j high above
+  told-above : {above : ℕ} → above ≡ saysAt f l (ownOf (getD l j 0)) high → FromAbove f l j high above
   told-above a = rw a (from-above f l up j (p .here) high (p .over))
 
   -- What the answer from below tells.
-  told-below : {below : ℕ} → below ≡ saysBefore f l (getD l j 0 / 1024) low → FromBelow f l j low below
+  told-below : {below : ℕ} → below ≡ saysBefore f l (ownOf (getD l j 0)) low → FromBelow f l j low below
   told-below b = rw b (from-below f l up j (p .here) low (p .under))
 
   -- Where the answer from above is 2, one passes the test.
-  pub found-above : {above : ℕ} → above ≡ saysAt f l (getD l j 0 / 1024) high → above ≡ 2 → someOwn f l j ≡ true
+  pub found-above : {above : ℕ} → above ≡ saysAt f l (ownOf (getD l j 0)) high → above ≡ 2 → someOwn f l j ≡ true
   found-above a = told-found (told-above a)
 
   -- The same of the answer from below.
-  pub found-below : {below : ℕ} → below ≡ saysBefore f l (getD l j 0 / 1024) low → below ≡ 2 → someOwn f l j ≡ true
+  pub found-below : {below : ℕ} → below ≡ saysBefore f l (ownOf (getD l j 0)) low → below ≡ 2 → someOwn f l j ≡ true
   found-below b = told-found (told-below b)
 
 module _ {f : ℕ → Bool} {l : List ℕ} {j low high above below : ℕ} (up : ascends 0 l ≡ true) (p : Passed f l j low high)
-    (a : above ≡ saysAt f l (getD l j 0 / 1024) high) (b : below ≡ saysBefore f l (getD l j 0 / 1024) low)
+    (a : above ≡ saysAt f l (ownOf (getD l j 0)) high) (b : below ≡ saysBefore f l (ownOf (getD l j 0)) low)
     (h : above ≡ 2 → ⊥) (k : below ≡ 2 → ⊥) where
   -- Where neither finds one, each is at most 1.
   pub answers-low : (above ≤ 1) × (below ≤ 1)

@@ -10,7 +10,7 @@ use lib.ListN.{getD}
 use Rattle.rules.specs.Moves.{target}
 use Rattle.rules.specs.Rooms.{pairsOf}
 use Rattle.rules.specs.declared.Sizes.{Sizes}
-use Rattle.words.specs.Table.{pairIn}
+use Rattle.engine_table.specs.Table.{pairIn}
 use Rattle.engine_own.specs.Looks.{reaches}
 
 -- The pair of a variable and a state is a pair.

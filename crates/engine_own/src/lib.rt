@@ -11,8 +11,8 @@ ghost use Rattle.lists.specs.Lists.{any};
 ghost use Rattle.rules.specs.Moves.{source, action, target};
 ghost use Rattle.rules.specs.Rooms.{pairsOf};
 ghost use Rattle.moves.specs.Ascending.{ascends};
-ghost use Rattle.words.specs.Table.{pairIn};
-ghost use Rattle.words.specs.Part.{ownMoves};
+ghost use Rattle.engine_table.specs.Table.{pairIn};
+ghost use Rattle.engine_table.specs.Part.{ownMoves};
 ghost use Rattle.engine_own.specs.Looks.{Targets, reaches, says, saysAt, saysBefore};
 
 // Has the pair of x and s the value `from`?
@@ -20,7 +20,7 @@ pub fn has(sizes: Sizes, values: &[u8], from: u8, x: Variable, s: State) -> bool
     requires { ⌜ (x .0 < sizes .variables) × ((s .0 < sizes .states) × (length (now values) ≡ pairsOf sizes)) ⌝ }
     ensures { λ r. ⌜ r ≡ eqb (getD (now (values .entry)) (pairIn sizes (x .0) (s .0)) 0) from ⌝ }
 {
-    let p = limits::pair_of(sizes, s, x);
+    let p = words::pair_of(sizes, s, x);
     values[p] == from
 }
 
@@ -30,7 +30,7 @@ fn tell(sizes: Sizes, values: &[u8], from: u8, x: Variable, part: u32, m: u32) -
     requires { ⌜ (x .0 < sizes .variables) × ((target m < sizes .states) × (length (now values) ≡ pairsOf sizes)) ⌝ }
     ensures { λ r. ⌜ r ≡ says (reaches sizes (now (values .entry)) from (x .0)) part m ⌝ }
 {
-    if m / 1024 != part {
+    if words::own_of(m) != part {
         return 0;
     }
     if has(sizes, values, from, x, words::target_of(m)) {
@@ -98,7 +98,7 @@ pub fn leads_from(
     ensures { λ r. ⌜ r ≡ any (λ q. eqb (getD (now (values .entry)) (pairIn sizes (x .0) (target q)) 0) from)
         (ownMoves (source (getD (now (moves .entry)) j 0)) (action (getD (now (moves .entry)) j 0)) (now (moves .entry))) ⌝ }
 {
-    let part = moves[j] / 1024;
+    let part = words::own_of(moves[j]);
     let mut low = j;
     let mut high = j;
     loop {

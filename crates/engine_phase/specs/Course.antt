@@ -32,9 +32,9 @@ use Rattle.laws.specs.model.LookTest.{lookTest}
 use Rattle.laws.specs.model.MachineRules.{Answers}
 use Rattle.rules.specs.Update.{turnAll}
 use Rattle.rules.specs.Calls.{valueAt}
-use Rattle.words.specs.Table.{Table, modelOf, Drawn, wordAt, pairIn}
-use Rattle.words.specs.EquationWords.{block-word, pair-inside}
-use Rattle.words.specs.Limits.{limits, pairs-few}
+use Rattle.engine_table.specs.Table.{Table, modelOf, Drawn, wordAt, pairIn}
+use Rattle.engine_table.specs.EquationWords.{block-word, pair-inside}
+use Rattle.engine_table.specs.Limits.{limits, pairs-few}
 use Rattle.engine_rows.specs.Rooms.{Bits, Told}
 use Rattle.engine_phase.specs.Started.{Started, wayOf, way-finds, way-agrees, way-few, way-answers}
 use Rattle.engine_phase.specs.LeanersFew.{most-leaners, leaners-few}

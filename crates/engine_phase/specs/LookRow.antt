@@ -17,7 +17,7 @@ use Rattle.rules.specs.Values.{leanings}
 use Rattle.rules.specs.Calls.{valueAt}
 use Rattle.laws.specs.model.ModelSystem.{frame}
 use Rattle.laws.specs.model.LookTest.{lookTest}
-use Rattle.words.specs.Table.{Table, modelOf, Drawn, wordAt, ownIn, pairIn}
+use Rattle.engine_table.specs.Table.{Table, modelOf, Drawn, wordAt, ownIn, pairIn}
 use Rattle.engine_rows.specs.Rooms.{Bits, Packed, Tells, Told}
 use Rattle.engine_phase.specs.Course.{On, on-vals, on-bits, on-marks, on-small, on-told, on-hits}
 use Rattle.engine_phase.specs.Phase.{Somewhere, Leads, jobIn, RowLeft, row-none, leads-row}

@@ -10,7 +10,7 @@ use lib.ListN.{length, getD}
 use Rattle.rules.specs.Model.{blocksOf}
 use Rattle.rules.specs.Batch.{Change}
 use Rattle.rules.specs.Session.{unword}
-use Rattle.words.specs.Table.{Table, modelOf, Drawn, wordAt}
+use Rattle.engine_table.specs.Table.{Table, modelOf, Drawn, wordAt}
 use Rattle.engine_phase.specs.Course.{On}
 use Rattle.engine_phase.specs.Phase.{Leads, jobIn, leads-pass}
 

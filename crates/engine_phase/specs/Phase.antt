@@ -23,12 +23,13 @@ use Rattle.rules.specs.Batch.{Change}
 use Rattle.rules.specs.declared.Sizes.{Sizes}
 use Rattle.rules.specs.Calls.{valueAt}
 use Rattle.rules.specs.Values.{leanings}
+use Rattle.words.specs.Words.{variableIn, stateIn}
 use Rattle.laws.specs.model.ModelSystem.{frame}
 use Rattle.laws.specs.model.ModelLeaners.{leanersOf}
 use Rattle.laws.specs.model.LookTest.{lookTest}
-use Rattle.words.specs.Table.{Table, modelOf, Drawn, wordAt, ownIn, waiter}
-use Rattle.words.specs.EquationWords.{own-word}
-use Rattle.words.specs.Limits.{limits, pairs-few}
+use Rattle.engine_table.specs.Table.{Table, modelOf, Drawn, wordAt, ownIn, waiter}
+use Rattle.engine_table.specs.EquationWords.{own-word}
+use Rattle.engine_table.specs.Limits.{limits, pairs-few}
 use Rattle.engine_rows.specs.Rooms.{Bits, Packed, pileIn}
 use Rattle.engine_rows.specs.Queued.{hits-none}
 use Rattle.engine_turn.specs.Scene.{sketch, Bounded}
@@ -149,13 +150,13 @@ module _ {t : Table} (dr : Drawn t) (cs : List Change) (i : ℕ) (ph : Bool) (lo
       ap (λ (x : ℕ). getD (map (waiter (t .sizes)) queue) front x) (sym z) ∙ List·getD-map (waiter (t .sizes)) queue front 0
 
   -- It has the value that pairs turn from.
-  pub front-value : Packed (t .sizes) queue tail → Somewhere t cs turning → valueAt values pairOf ≡ cond ph (ownIn t (word / 1024)) (not (ownIn t (word / 1024)))
+  pub front-value : Packed (t .sizes) queue tail → Somewhere t cs turning → valueAt values pairOf ≡ cond ph (ownIn t (variableIn word)) (not (ownIn t (variableIn word)))
   front-value packed s =
       let p = packed front waits in
       let e = front-is in
       let v = on-turning dr (turning (s .index)) (s .on) low past waits .value in
       ap (valueAt values) (sym e) ∙ v
-      ∙ ap (λ (b : Bool). cond ph b (not b)) (ap (own (frame (modelOf t))) e ∙ own-word dr (word / 1024) (word % 1024) (p .0) (p .1))
+      ∙ ap (λ (b : Bool). cond ph b (not b)) (ap (own (frame (modelOf t))) e ∙ own-word dr (variableIn word) (stateIn word) (p .0) (p .1))
 
   -- It turns, and who leans on it is visited.
   pub leads-turn : (values′ marks′ queue′ : List ℕ) (tail′ visits′ : ℕ) → values′ ≡ set values pairOf (turned (getD values pairOf 0))

@@ -16,7 +16,8 @@ use Rattle.systems.specs.lists.Rows.{hits, rowMarks}
 use Rattle.rules.specs.Calls.{valueAt}
 use Rattle.rules.specs.declared.Sizes.{Sizes}
 use Rattle.laws.specs.model.ModelLeaners.{map-append}
-use Rattle.words.specs.Table.{waiter, waitingOf}
+use Rattle.words.specs.Words.{waitingOf}
+use Rattle.engine_table.specs.Table.{waiter}
 use Rattle.engine_rows.specs.Rooms.{Bits, Packed, hitsIn}
 use Rattle.engine_rows.specs.Filled.{listed-bits}
 use Rattle.engine_rows.specs.RowLoops.{turnAt, markAt}

@@ -12,8 +12,9 @@ use Rattle.rules.specs.Model.{blocksOf}
 use Rattle.rules.specs.Rooms.{pairsOf}
 use Rattle.rules.specs.Batch.{Change}
 use Rattle.rules.specs.declared.Sizes.{Sizes}
+use Rattle.words.specs.Words.{variableIn, stateIn}
 use Rattle.laws.specs.model.ModelLeaners.{leanersOf}
-use Rattle.words.specs.Table.{tableIn, modelOf, Drawn, waiter}
+use Rattle.engine_table.specs.Table.{tableIn, modelOf, Drawn, waiter}
 use Rattle.engine_own.specs.Pairs.{pair-low}
 use Rattle.engine_rows.specs.Rooms.{Bits, Packed, pileIn}
 use Rattle.engine_turn.specs.Scene.{sketch, Bounded}
@@ -157,7 +158,7 @@ module _ {z : Sizes} {equations moves : List ℕ} {settling : Bool} {from front 
       turn-counted =
           let v = getD (a .queue) front 0 in
           let pair = w .packed front waits in
-          let inside = pair-low z (v / 1024) (v % 1024) (pair .0) (pair .1) in
+          let inside = pair-low z (variableIn v) (stateIn v) (pair .0) (pair .1) in
           let long = waiting-values in
           subst (λ (n : ℕ). Counted from n (truesIn z (a .values)) (truesIn z (b .values))) (let e : 1 ≡ front + 1 - front = omega arith in e)
           (subst (λ (vs : List ℕ). Counted from 1 (truesIn z (a .values)) (truesIn z vs)) (sym (made .values))

@@ -17,7 +17,8 @@ ghost use Rattle.rules.specs.Batch.{changesOk};
 ghost use Rattle.rules.specs.Calls.{valueAt};
 ghost use Rattle.rules.specs.Session.{unword};
 ghost use Rattle.laws.specs.model.LookTest.{lookTest};
-ghost use Rattle.words.specs.Table.{tableIn, modelOf, Drawn, ownIn, pairIn, changesOf, waiter};
+ghost use Rattle.words.specs.Words.{changesOf};
+ghost use Rattle.engine_table.specs.Table.{tableIn, modelOf, Drawn, ownIn, pairIn, waiter};
 ghost use Rattle.engine_index.specs.Indexed.{Indexed};
 ghost use Rattle.engine_index.specs.Operands.{Named};
 ghost use Rattle.engine_rows.specs.Rooms.{Bits, Packed, Tells, Told};
@@ -227,7 +228,7 @@ fn first_value(sizes: Sizes, values: &[u8], queue: &[u16]) -> u8
     ensures { λ r. ⌜ r ≡ getD (now (values .entry)) (waiter sizes (getD (now (queue .entry)) 0 0)) 0 ⌝ }
 {
     let w = rooms::half_at(queue, 0);
-    let p = limits::pair_of(sizes, words::state_of(w), words::variable_of(w));
+    let p = words::pair_of(sizes, words::state_of(w), words::variable_of(w));
     rooms::byte_at(values, p)
 }
 

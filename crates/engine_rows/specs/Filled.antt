@@ -8,7 +8,7 @@ use native.Mathlib.Omega.{arith}
 use lib.ListN.{length, getD, set, length-set, replicate, length-replicate, getD-replicate, List·getD-eq-default}
 use mir.Val.{boolByte}
 use lib.Seq.{getD-set-same, getD-set-other, ext-getD}
-use Rattle.words.specs.Bits.{byte-bit}
+use Rattle.words.specs.WordLaws.{byte-bit}
 use Rattle.lists.specs.Lists.{bit, listed, someBelow}
 use Rattle.lists.specs.TableLaws.{listed-is, listed-length}
 use Rattle.lists.specs.Tests.{or-no}

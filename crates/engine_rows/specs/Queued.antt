@@ -22,7 +22,8 @@ use Rattle.systems.specs.lists.Rows.{hits, rowMarks}
 use Rattle.systems.specs.lists.RowLaws.{row-marks-long, row-marks-past, row-marks-before, row-marks-at}
 use Rattle.rules.specs.declared.Sizes.{Sizes}
 use Rattle.laws.specs.model.ModelLeaners.{map-append}
-use Rattle.words.specs.Table.{pairIn, waitingOf, waiter}
+use Rattle.words.specs.Words.{waitingOf, variableIn, stateIn}
+use Rattle.engine_table.specs.Table.{pairIn, waiter}
 use Rattle.engine_rows.specs.Rooms.{Packed}
 use Rattle.engine_rows.specs.RowLoops.{markAt, Queued}
 
@@ -140,9 +141,9 @@ queued-room y g before tail p a q b n top queue eq en v room =
 -- A waiting pair is the pair that it was made of.
 waits-as : (z : Sizes) (y s : ℕ) → s < 1024 → waiter z (waitingOf y s) ≡ pairIn z y s
 waits-as z y s h =
-    let a : (1024 * y + s) / 1024 ≡ y = omega arith in
-    let b : (1024 * y + s) % 1024 ≡ s = omega arith in
-    ap (λ (x : ℕ). x * z .states + (1024 * y + s) % 1024) a ∙ ap (λ (x : ℕ). y * z .states + x) b
+    let a : variableIn (waitingOf y s) ≡ y = omega arith in
+    let b : stateIn (waitingOf y s) ≡ s = omega arith in
+    ap (λ (x : ℕ). x * z .states + stateIn (waitingOf y s)) a ∙ ap (λ (x : ℕ). y * z .states + x) b
 
 -- The states of a row that wait stand for the pairs of the row.
 pub waiting-hits : (z : Sizes) (y : ℕ) (f g : ℕ → Bool) (n : ℕ) → n ≤ 1024 → ((s : ℕ) → s < n → g s ≡ f (y * z .states + s))
@@ -207,7 +208,7 @@ packed-more z y g before queue tail n r hy hn hk ht reach front p i h =
     elim (decLt i tail) [
       | yes k ↦
           let e = at ∙ List·getD-append (take tail before) (map (waitingOf y) (hits g 0 n)) 0 i (omega arith) ∙ getD-take tail before i 0 k in
-          subst (λ (w : ℕ). (w / 1024 < z .variables) × (w % 1024 < z .states)) (sym e) (p i k)
+          subst (λ (w : ℕ). (variableIn w < z .variables) × (stateIn w < z .states)) (sym e) (p i k)
       | no k ↦
           let j : i ≡ length (take tail before) + (i - tail) = omega (arith, k) in
           let b = hit-below g n (i - tail) (omega (arith, k)) in

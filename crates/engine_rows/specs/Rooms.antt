@@ -13,8 +13,9 @@ use Rattle.systems.specs.lists.Rows.{hits}
 use Rattle.rules.specs.Values.{blockOf}
 use Rattle.rules.specs.Calls.{valueAt}
 use Rattle.rules.specs.declared.Sizes.{Sizes}
+use Rattle.words.specs.Words.{variableIn, stateIn}
 use Rattle.laws.specs.model.ModelSystem.{frame}
-use Rattle.words.specs.Table.{Table, modelOf, wordAt, waiter}
+use Rattle.engine_table.specs.Table.{Table, modelOf, wordAt, waiter}
 
 -- Each entry is 0 or 1.
 abbrev pub Bits : List ℕ → Type 0
@@ -22,7 +23,7 @@ Bits l = (p : ℕ) → getD l p 0 ≤ 1
 
 -- The first numbers of a queue each stand for a variable and a state.
 abbrev pub Packed : Sizes → List ℕ → ℕ → Type 0
-Packed z queue tail = (i : ℕ) → i < tail → (getD queue i 0 / 1024 < z .variables) × (getD queue i 0 % 1024 < z .states)
+Packed z queue tail = (i : ℕ) → i < tail → (variableIn (getD queue i 0) < z .variables) × (stateIn (getD queue i 0) < z .states)
 
 -- The marks and the queue as the machine has them: pairs for the numbers in the room.
 abbrev pub pileIn : Sizes → List ℕ → List ℕ → ℕ → ℕ → Pile

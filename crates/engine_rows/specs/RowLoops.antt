@@ -7,7 +7,7 @@ use lib.ListN.{length, getD, take}
 use lib.Dec.{eqb}
 use Rattle.systems.specs.machine.Machine.{nextMark}
 use Rattle.systems.specs.lists.Rows.{hits}
-use Rattle.words.specs.Table.{waitingOf}
+use Rattle.words.specs.Words.{waitingOf}
 
 -- Must the pair at the state s turn: has it the value `from`, and is its place bad?
 abbrev pub turnAt : List ℕ → ℕ → List ℕ → ℕ → Bool

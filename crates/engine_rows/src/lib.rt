@@ -11,7 +11,7 @@ ghost use Rattle.lists.specs.Lists.{bit, listed, someBelow};
 ghost use Rattle.systems.specs.machine.Machine.{nextMark};
 ghost use Rattle.systems.specs.lists.Rows.{hits};
 ghost use Rattle.rules.specs.Limits.{most-states, most-variables};
-ghost use Rattle.words.specs.Table.{waitingOf};
+ghost use Rattle.words.specs.Words.{waitingOf};
 ghost use Rattle.engine_rows.specs.Rooms.{Bits, hitsIn};
 ghost use Rattle.engine_rows.specs.RowLoops.{turnAt, markAt, badAt, Queued};
 

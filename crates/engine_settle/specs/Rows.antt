@@ -13,9 +13,9 @@ use mir.Val.{boolByte}
 use Rattle.lists.specs.Lists.{listed, someBelow}
 use Rattle.rules.specs.Limits.{most-propositions}
 use Rattle.rules.specs.Values.{state, holds}
-use Rattle.words.specs.Table.{Table, ownIn}
-use Rattle.words.specs.Limits.{limits}
-use Rattle.words.specs.GivesWords.{join-names, step-names}
+use Rattle.engine_table.specs.Table.{Table, ownIn}
+use Rattle.engine_table.specs.Limits.{limits}
+use Rattle.engine_table.specs.GivesWords.{join-names, step-names}
 use Rattle.engine_index.specs.Indexed.{headsOf}
 use Rattle.engine_rows.specs.Rooms.{Tells}
 use Rattle.engine_settle.specs.Told.{told, oneHas, leadsOne, Asked, Fails, settleTest}

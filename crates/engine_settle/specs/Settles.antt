@@ -18,11 +18,11 @@ use Rattle.rules.specs.Model.{operandsOk, wellFormed}
 use Rattle.rules.specs.Calls.{valueAt}
 use Rattle.rules.specs.Values.{state, holds, own, targets, gives}
 use Rattle.laws.specs.bytes.Walks.{small}
-use Rattle.words.specs.Table.{Table, modelOf, Drawn, ReadsAs, wordAt, ownIn, pairIn, leadsTo}
-use Rattle.words.specs.Part.{ownMoves}
-use Rattle.words.specs.Limits.{move-inside}
-use Rattle.words.specs.GivesWords.{two, operands-read, operator-below, targets-read, gives-constant, gives-proposition, gives-join, gives-step}
-use Rattle.words.specs.AsksWords.{asks-settle}
+use Rattle.engine_table.specs.Table.{Table, modelOf, Drawn, ReadsAs, wordAt, ownIn, pairIn, leadsTo}
+use Rattle.engine_table.specs.Part.{ownMoves}
+use Rattle.engine_table.specs.Limits.{move-inside}
+use Rattle.engine_table.specs.GivesWords.{two, operands-read, operator-below, targets-read, gives-constant, gives-proposition, gives-join, gives-step}
+use Rattle.engine_table.specs.AsksWords.{asks-settle}
 use Rattle.engine_rows.specs.Rooms.{Bits, Tells}
 use Rattle.engine_rows.specs.Filled.{none-below}
 use Rattle.engine_rows.specs.Queued.{part-at}

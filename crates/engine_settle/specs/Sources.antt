@@ -12,8 +12,8 @@ use lib.Dec.{eqb}
 use Rattle.lists.specs.Lists.{any}
 use Rattle.lists.specs.Tests.{no-way, and-left, eqb-no, eqb-out, eqb-in}
 use Rattle.rules.specs.Moves.{source, action, target}
-use Rattle.words.specs.Table.{Table, Drawn}
-use Rattle.words.specs.Limits.{move-inside}
+use Rattle.engine_table.specs.Table.{Table, Drawn}
+use Rattle.engine_table.specs.Limits.{move-inside}
 use Rattle.engine_index.specs.Chains.{lastTo}
 use Rattle.engine_index.specs.Indexed.{Indexed, headsOf}
 use Rattle.engine_index.specs.ChainWalks.{any-snoc, last-le, last-at, last-again, last-skips}

@@ -12,7 +12,7 @@ use Rattle.rules.specs.Values.{state, own, gives, leanings}
 use Rattle.rules.specs.Rooms.{pairsOf}
 use Rattle.rules.specs.Calls.{valueAt}
 use Rattle.laws.specs.model.ModelSystem.{frame}
-use Rattle.words.specs.Table.{Table, modelOf, Drawn, ReadsAs, wordAt, ownIn, pairIn}
+use Rattle.engine_table.specs.Table.{Table, modelOf, Drawn, ReadsAs, wordAt, ownIn, pairIn}
 use Rattle.engine_index.specs.Indexed.{Indexed}
 use Rattle.engine_rows.specs.Rooms.{Bits}
 

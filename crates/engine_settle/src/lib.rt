@@ -1,7 +1,7 @@
 // The row of a variable while its block settles: at which states the equation gives what the block's own value is not.
+use rules::Equation;
 use rules::Sizes;
 use rules::Variable;
-use words::Equation;
 ghost use mathlib.Core.Path.{_≡_};
 ghost use mathlib.Core.Bool.{_&&_};
 ghost use Prim.Native.Nat.{_+_, _*_, _≤_, _<_};
@@ -10,7 +10,7 @@ ghost use lib.Dec.{eqb};
 ghost use Rattle.lists.specs.Lists.{listed, someBelow};
 ghost use Rattle.rules.specs.Rooms.{pairsOf};
 ghost use Rattle.rules.specs.Values.{state, holds};
-ghost use Rattle.words.specs.Table.{Drawn, tableIn, ownIn};
+ghost use Rattle.engine_table.specs.Table.{Drawn, tableIn, ownIn};
 ghost use Rattle.engine_index.specs.Indexed.{Indexed, headsOf};
 ghost use Rattle.engine_rows.specs.Rooms.{Bits, Tells};
 ghost use Rattle.engine_settle.specs.Told.{told, oneHas, leadsOne, SetWhere, Asked, Fails, settleTest};

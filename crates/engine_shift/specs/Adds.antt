@@ -15,7 +15,7 @@ use Rattle.lists.specs.Tests.{tell, eqb-same, eqb-no, and-no, and-true, or-fals
 use Rattle.lists.specs.TableLaws.{bit-back}
 use Rattle.lists.specs.Entries.{set-le, zeros-at}
 use Rattle.engine_rows.specs.Rooms.{Bits}
-use Rattle.words.specs.Bits.{byte-bit}
+use Rattle.words.specs.WordLaws.{byte-bit}
 use Rattle.engine_rows.specs.Filled.{bit-small}
 use Rattle.engine_shift.specs.Anys.{or-both, any-more}
 

@@ -16,7 +16,7 @@ use Rattle.rules.specs.Values.{own, targets}
 use Rattle.rules.specs.declared.Sizes.{Sizes}
 use Rattle.rules.specs.declared.State.{State}
 use Rattle.rules.specs.declared.Action.{Action}
-use Rattle.words.specs.Table.{changesOf}
+use Rattle.words.specs.Words.{changesOf}
 
 -- "Or" of three.
 pub or-both : (x y z : Bool) → ((x || y) || z) ≡ (x || (y || z))

@@ -13,7 +13,7 @@ use Rattle.rules.specs.Moves.{source, action, target}
 use Rattle.rules.specs.Model.{moveOk}
 use Rattle.rules.specs.Batch.{changesOk}
 use Rattle.rules.specs.declared.Sizes.{Sizes}
-use Rattle.words.specs.Table.{changesOf}
+use Rattle.words.specs.Words.{changesOf}
 use Rattle.engine_shift.specs.Seeds.{oddAt, wasNot, ofKind, touches}
 
 -- Each change is of a move from a state to a state.

@@ -16,7 +16,7 @@ use Rattle.rules.specs.Calls.{valueAt}
 use Rattle.rules.specs.Values.{Values, blockOf}
 use Rattle.rules.specs.Update.{went}
 use Rattle.laws.specs.model.ModelSystem.{frame}
-use Rattle.words.specs.Table.{Table, modelOf, wordAt}
+use Rattle.engine_table.specs.Table.{Table, modelOf, wordAt}
 use Rattle.engine_rows.specs.Rooms.{Bits, Told}
 use Rattle.engine_shift.specs.Seeds.{oddAt, goneTo, wasNot}
 

@@ -22,9 +22,10 @@ use Rattle.rules.specs.declared.State.{State}
 use Rattle.rules.specs.declared.Action.{Action}
 use Rattle.laws.specs.model.ModelSystem.{frame, leanings-at}
 use Rattle.laws.specs.model.LookTest.{lookTest}
-use Rattle.words.specs.Table.{Table, modelOf, Drawn, ReadsAs, wordAt, ownIn, pairIn, changesOf}
-use Rattle.words.specs.EquationWords.{drawn-sound, block-word, own-word, pair-inside, state-of}
-use Rattle.words.specs.GivesWords.{two, term-read, operator-below, join-names, step-names}
+use Rattle.words.specs.Words.{changesOf}
+use Rattle.engine_table.specs.Table.{Table, modelOf, Drawn, ReadsAs, wordAt, ownIn, pairIn}
+use Rattle.engine_table.specs.EquationWords.{drawn-sound, block-word, own-word, pair-inside, state-of}
+use Rattle.engine_table.specs.GivesWords.{two, term-read, operator-below, join-names, step-names}
 use Rattle.engine_rows.specs.Rooms.{Bits, Told}
 use Rattle.engine_shift.specs.Anys.{any-alike, any-once, targets-in, changes-in, targets-any, inserts-any, deletes-any}
 use Rattle.engine_shift.specs.Seeds.{goneTo, wasNot, touches, touchesAt, earlierIn, leadsGone, joinSeeds, stepSeeds}

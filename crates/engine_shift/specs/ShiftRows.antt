@@ -15,10 +15,11 @@ use Rattle.rules.specs.Session.{unword}
 use Rattle.rules.specs.Calls.{valueAt}
 use Rattle.rules.specs.declared.Sizes.{Sizes}
 use Rattle.laws.specs.model.LookTest.{lookTest}
-use Rattle.words.specs.Table.{Table, modelOf, Drawn, ReadsAs, wordAt, ownIn, pairIn, changesOf}
-use Rattle.words.specs.EquationWords.{drawn-sound}
-use Rattle.words.specs.GivesWords.{join-names, step-names}
-use Rattle.words.specs.Limits.{limits}
+use Rattle.words.specs.Words.{changesOf}
+use Rattle.engine_table.specs.Table.{Table, modelOf, Drawn, ReadsAs, wordAt, ownIn, pairIn}
+use Rattle.engine_table.specs.EquationWords.{drawn-sound}
+use Rattle.engine_table.specs.GivesWords.{join-names, step-names}
+use Rattle.engine_table.specs.Limits.{limits}
 use Rattle.engine_index.specs.Indexed.{Indexed}
 use Rattle.engine_rows.specs.Rooms.{Bits, Tells, Told}
 use Rattle.engine_shift.specs.Seeds.{joinSeeds, stepSeeds, MovesIn, Shows}

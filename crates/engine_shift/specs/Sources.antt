@@ -14,7 +14,7 @@ use Rattle.lists.specs.Tests.{tests, eqb-in, eqb-no, or-false}
 use Rattle.rules.specs.Moves.{source, action, target}
 use Rattle.rules.specs.Model.{moveOk}
 use Rattle.rules.specs.declared.Sizes.{Sizes}
-use Rattle.words.specs.Limits.{move-at}
+use Rattle.engine_table.specs.Limits.{move-at}
 use Rattle.engine_index.specs.Chains.{lastTo}
 use Rattle.engine_index.specs.Indexed.{keyOf, headsOf}
 use Rattle.engine_index.specs.ChainWalks.{last-le, last-at, last-again, last-skips}

@@ -1,9 +1,9 @@
 // Which pairs of a row seed a shift: those that a change touches, and those that lean on a pair of an earlier block that went to the
 // own value of the row's block.
 use rules::Action;
+use rules::Equation;
 use rules::Sizes;
 use rules::Variable;
-use words::Equation;
 ghost use mathlib.Core.Path.{_≡_};
 ghost use mathlib.Core.Bool.{true, not, _&&_};
 ghost use mathlib.Core.List.{List};
@@ -14,7 +14,8 @@ ghost use Rattle.lists.specs.Lists.{is, any, someBelow};
 ghost use Rattle.rules.specs.Moves.{target};
 ghost use Rattle.rules.specs.Batch.{changesOk};
 ghost use Rattle.rules.specs.Rooms.{pairsOf};
-ghost use Rattle.words.specs.Table.{tableIn, Drawn, changesOf};
+ghost use Rattle.words.specs.Words.{changesOf};
+ghost use Rattle.engine_table.specs.Table.{tableIn, Drawn};
 ghost use Rattle.engine_index.specs.Indexed.{keyOf, headsOf, Indexed};
 ghost use Rattle.engine_rows.specs.Rooms.{Bits, Told};
 ghost use Rattle.engine_shift.specs.Adds.{Adds};

@@ -7,7 +7,7 @@ use native.Mathlib.Nat.{zero-add}
 use native.Mathlib.Omega.{arith}
 use lib.ListN.{length, getD, length-append}
 use Rattle.lists.specs.Tests.{eqb-in, eqb-no}
-use Rattle.words.specs.Table.{Table}
+use Rattle.engine_table.specs.Table.{Table}
 use Rattle.engine_index.specs.Chains.{lastTo}
 use Rattle.engine_index.specs.ChainWalks.{last-le, last-at, last-again, last-skips}
 use Rattle.engine_index.specs.Indexed.{keyOf, headsOf, Indexed}

@@ -8,9 +8,9 @@ use lib.ListN.{length, getD}
 use lib.Dec.{ltb}
 use Rattle.lists.specs.Tests.{not-not, ltb-out, ltb-no}
 use Rattle.rules.specs.Moves.{source, action, target}
-use Rattle.words.specs.Table.{ReadsAs}
-use Rattle.words.specs.Limits.{move-inside}
-use Rattle.words.specs.GivesWords.{join-names, step-names}
+use Rattle.engine_table.specs.Table.{ReadsAs}
+use Rattle.engine_table.specs.Limits.{move-inside}
+use Rattle.engine_table.specs.GivesWords.{join-names, step-names}
 use Rattle.engine_index.specs.Indexed.{keyOf}
 use Rattle.engine_own.specs.Looks.{Targets}
 use Rattle.engine_turn.specs.Scene.{Scene, Standing, equationOf, Leaner, Along, HeadOf}

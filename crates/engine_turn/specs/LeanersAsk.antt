@@ -12,16 +12,16 @@ use Rattle.lists.specs.Tests.{_∈_, tell, not-not, and-true, eqb-out, eqb-no, 
 use Rattle.systems.specs.machine.Machine.{own}
 use Rattle.systems.specs.machine.HardPairs.{hard-asks}
 use Rattle.rules.specs.Moves.{target}
-use Rattle.rules.specs.Model.{Equation}
+use Rattle.rules.specs.declared.Equation.{Equation}
 use Rattle.rules.specs.Calls.{valueAt}
 use Rattle.rules.specs.Values.{terms, constant, stateOf, leanings, gives}
 use Rattle.rules.specs.declared.State.{State}
 use Rattle.laws.specs.model.ModelSystem.{kindBy, frame}
-use Rattle.words.specs.Table.{Table, modelOf, Drawn, ReadsAs, wordAt, ownIn, pairIn, leadsTo}
-use Rattle.words.specs.EquationWords.{own-word}
-use Rattle.words.specs.GivesWords.{term-read, operator-below, gives-join, gives-step}
-use Rattle.words.specs.AsksWords.{asks-shift, asks-settle}
-use Rattle.words.specs.Part.{ownMoves}
+use Rattle.engine_table.specs.Table.{Table, modelOf, Drawn, ReadsAs, wordAt, ownIn, pairIn, leadsTo}
+use Rattle.engine_table.specs.EquationWords.{own-word}
+use Rattle.engine_table.specs.GivesWords.{term-read, operator-below, gives-join, gives-step}
+use Rattle.engine_table.specs.AsksWords.{asks-shift, asks-settle}
+use Rattle.engine_table.specs.Part.{ownMoves}
 use Rattle.engine_rows.specs.Rooms.{Bits}
 use Rattle.engine_index.specs.Operands.{easyBit}
 use Rattle.engine_turn.specs.Scene.{Scene, sceneOf, hasFrom, fails, asksFor}

@@ -13,14 +13,15 @@ use lib.Dec.{eqb, ltb, leb}
 use Rattle.lists.specs.Tests.{tell, clash, and-in, and-is, eqb-in, eqb-out, eqb-no}
 use Rattle.rules.specs.Limits.{most-states}
 use Rattle.rules.specs.Moves.{source, action, target}
-use Rattle.rules.specs.Model.{Equation}
+use Rattle.rules.specs.declared.Equation.{Equation}
 use Rattle.rules.specs.Values.{pair, state, variable, terms, termOf, constant}
 use Rattle.rules.specs.declared.Sizes.{Sizes}
 use Rattle.laws.specs.model.ModelLeaners.{sources, leanersVia, leanersOn, leanersTo, leanersOf, map-append}
-use Rattle.words.specs.Table.{Table, modelOf, Drawn, wordAt, pairIn, waitingOf, waiter}
-use Rattle.words.specs.EquationWords.{formula-word, variable-of, state-of}
-use Rattle.words.specs.Limits.{limits, move-inside}
-use Rattle.words.specs.GivesWords.{operator-below}
+use Rattle.words.specs.Words.{waitingOf, variableIn, stateIn}
+use Rattle.engine_table.specs.Table.{Table, modelOf, Drawn, wordAt, pairIn, waiter}
+use Rattle.engine_table.specs.EquationWords.{formula-word, variable-of, state-of}
+use Rattle.engine_table.specs.Limits.{limits, move-inside}
+use Rattle.engine_table.specs.GivesWords.{operator-below}
 use Rattle.engine_index.specs.Indexed.{keyOf}
 use Rattle.engine_index.specs.Operands.{nameAt, namesOf}
 use Rattle.engine_index.specs.OperandLaws.{name-at}
@@ -29,8 +30,8 @@ use Rattle.engine_turn.specs.Scene.{along, sourceOf, sourcesIn, pairsBy,
 -- A number of the queue stands for its pair.
 pub waiter-at : (z : Sizes) (y s : ℕ) → s < 1024 → waiter z (waitingOf y s) ≡ pairIn z y s
 waiter-at z y s h =
-    let d : (1024 * y + s) / 1024 ≡ y = omega arith in
-    let m : (1024 * y + s) % 1024 ≡ s = omega arith in
+    let d : variableIn (waitingOf y s) ≡ y = omega arith in
+    let m : stateIn (waitingOf y s) ≡ s = omega arith in
     rw (d, m) refl
 
 -- Two actions and two states are the same where their places among the heads are.

@@ -10,8 +10,9 @@ use lib.Dec.{eqb}
 use Rattle.lists.specs.Tests.{_∈_, eqb-out}
 use Rattle.rules.specs.Moves.{source}
 use Rattle.rules.specs.declared.Sizes.{Sizes}
-use Rattle.words.specs.Table.{Table, Drawn, wordAt, waitingOf}
-use Rattle.words.specs.Limits.{limits, move-inside}
+use Rattle.words.specs.Words.{waitingOf, variableIn, stateIn}
+use Rattle.engine_table.specs.Table.{Table, Drawn, wordAt}
+use Rattle.engine_table.specs.Limits.{limits, move-inside}
 use Rattle.engine_index.specs.Indexed.{keyOf}
 use Rattle.engine_index.specs.Operands.{namesOf, isStep}
 use Rattle.engine_index.specs.OperandLaws.{name-at, slot-uses, drawn-names}
@@ -47,9 +48,9 @@ along-out key ws t here w (suc k) m =
 
 -- The number stands for a variable that leans on others, and a state.
 pub record Stands (t : Table) (w : ℕ) : Type 0 where
-  pub variable : w / 1024 < t .sizes .variables
-  pub state : w % 1024 < t .sizes .states
-  pub uses : 4 ≤ wordAt t (w / 1024) .operator
+  pub variable : variableIn w < t .sizes .variables
+  pub state : stateIn w < t .sizes .states
+  pub uses : 4 ≤ wordAt t (variableIn w) .operator
 
 module _ {t : Table} (d : Drawn t) where
   abbrev z : Sizes
@@ -58,8 +59,8 @@ module _ {t : Table} (d : Drawn t) where
   one-stands : (w y s : ℕ) → y < z .variables → s < z .states → 4 ≤ wordAt t y .operator → w ≡ waitingOf y s → Stands t w
   one-stands w y s hy l u e =
       let b = limits d in
-      let k : w / 1024 ≡ y = omega arith in
-      let m : w % 1024 ≡ s = omega arith in
+      let k : variableIn w ≡ y = omega arith in
+      let m : stateIn w ≡ s = omega arith in
       record { variable = omega arith; state = omega arith; uses = subst (λ (n : ℕ). 4 ≤ wordAt t n .operator) (sym k) u }
 
   by-stands : (w y s : ℕ) → y < z .variables → s < z .states → 4 ≤ wordAt t y .operator → w ∈ pairsBy z (t .equations) (t .moves) s y → Stands t w

@@ -11,10 +11,11 @@ use lib.Dec.{eqb, ltb}
 use Rattle.lists.specs.Lists.{bit}
 use Rattle.lists.specs.Tests.{not-not, ltb-no, eqb-out, eqb-no}
 use Rattle.rules.specs.Limits.{most-variables}
-use Rattle.rules.specs.Model.{Equation}
+use Rattle.rules.specs.declared.Equation.{Equation}
 use Rattle.rules.specs.declared.Sizes.{Sizes}
-use Rattle.words.specs.Table.{ReadsAs, waitingOf}
-use Rattle.words.specs.Limits.{limits}
+use Rattle.words.specs.Words.{waitingOf}
+use Rattle.engine_table.specs.Table.{ReadsAs}
+use Rattle.engine_table.specs.Limits.{limits}
 use Rattle.engine_index.specs.Indexed.{headsOf}
 use Rattle.engine_index.specs.MovesIndexed.{key-inside}
 use Rattle.engine_index.specs.ChainWalks.{last-le}

@@ -13,7 +13,8 @@ use Rattle.lists.specs.Tests.{_∈_}
 use Rattle.systems.specs.machine.Machine.{free, nextMark}
 use Rattle.systems.specs.lists.ListMachine.{Pile, waitL, pushL, spreadL}
 use Rattle.rules.specs.Model.{Model}
-use Rattle.words.specs.Table.{waiter}
+use Rattle.words.specs.Words.{variableIn, stateIn}
+use Rattle.engine_table.specs.Table.{waiter}
 use Rattle.engine_rows.specs.Rooms.{Packed, pileIn}
 use Rattle.engine_turn.specs.Scene.{Scene, asksFor, Line, waited, passed, visitOne, visitAll}
 use Rattle.engine_turn.specs.VisitLaws.{visit-grows}
@@ -30,11 +31,11 @@ module _ (c : Scene) (ph : Bool) where
   abbrev pub pileBy : ℕ → Line → Pile
   pileBy from v = pileIn (c .sizes) (v .marks) (v .queue) from (v .tail)
 
-  one-pile : (ask : ℕ → Bool) (from w : ℕ) (v : Line) → asksFor c ph (w / 1024) (w % 1024) ≡ ask (waiter (c .sizes) w)
+  one-pile : (ask : ℕ → Bool) (from w : ℕ) (v : Line) → asksFor c ph (variableIn w) (stateIn w) ≡ ask (waiter (c .sizes) w)
       → pileBy from (visitOne c ph w v) ≡ pushL (free ph) (nextMark ph) ask (waiter (c .sizes) w) (pileBy from v)
   unfolding visitOne
   one-pile ask from w v e =
-      go (free ph (getD (v .marks) (waiter (c .sizes) w) 0) && asksFor c ph (w / 1024) (w % 1024))
+      go (free ph (getD (v .marks) (waiter (c .sizes) w) 0) && asksFor c ph (variableIn w) (stateIn w))
       ∙ ap (λ (b : Bool). cond (free ph (getD (v .marks) (waiter (c .sizes) w) 0) && b) (waitL (nextMark ph) (waiter (c .sizes) w) (pileBy from v)) (pileBy from v)) e
     where
       go : (b : Bool) → pileBy from (cond b (waited (c .sizes) ph w v) (passed v)) ≡ cond b (waitL (nextMark ph) (waiter (c .sizes) w) (pileBy from v)) (pileBy from v)
@@ -42,7 +43,7 @@ module _ (c : Scene) (ph : Bool) where
           ap (λ (q : List ℕ). record { marks = waited (c .sizes) ph w v .marks; queue = q; from = from; tail = suc (v .tail) }) (map-set (waiter (c .sizes)) (v .queue) (v .tail) w)
       go false = refl
 
-  all-piles : (ask : ℕ → Bool) (from : ℕ) (l : List ℕ) (v : Line) → ((w : ℕ) → w ∈ l → asksFor c ph (w / 1024) (w % 1024) ≡ ask (waiter (c .sizes) w))
+  all-piles : (ask : ℕ → Bool) (from : ℕ) (l : List ℕ) (v : Line) → ((w : ℕ) → w ∈ l → asksFor c ph (variableIn w) (stateIn w) ≡ ask (waiter (c .sizes) w))
       → pileBy from (visitAll c ph l v) ≡ spreadL (free ph) (nextMark ph) ask (map (waiter (c .sizes)) l) (pileBy from v)
   unfolding visitAll
   all-piles ask from [] v e = refl
@@ -52,7 +53,7 @@ module _ (c : Scene) (ph : Bool) where
 
   -- The whole run.
   pub run-visited : (m : Model) (vs : List ℕ) (from : ℕ) (l : List ℕ) (v w : Line) → w ≡ visitAll c ph l v
-      → ((q : ℕ) → q ∈ l → asksFor c ph (q / 1024) (q % 1024) ≡ askOf m ph vs (waiter (c .sizes) q))
+      → ((q : ℕ) → q ∈ l → asksFor c ph (variableIn q) (stateIn q) ≡ askOf m ph vs (waiter (c .sizes) q))
       → record { pile = pileBy from w; visits = w .visits } ≡ visited m ph vs (map (waiter (c .sizes)) l) (record { pile = pileBy from v; visits = v .visits })
   unfolding visited
   run-visited m vs from l v w e asks =
@@ -61,12 +62,12 @@ module _ (c : Scene) (ph : Bool) where
       (visit-grows c ph l v .many ∙ ap (λ (n : ℕ). v .visits + n) (sym (length-map l (waiter (c .sizes)))))
 
   -- What waits stays packed.
-  one-packed : (w : ℕ) (v : Line) → (w / 1024 < c .sizes .variables) × (w % 1024 < c .sizes .states) → Packed (c .sizes) (v .queue) (v .tail)
+  one-packed : (w : ℕ) (v : Line) → (variableIn w < c .sizes .variables) × (stateIn w < c .sizes .states) → Packed (c .sizes) (v .queue) (v .tail)
       → Packed (c .sizes) (visitOne c ph w v .queue) (visitOne c ph w v .tail)
   unfolding visitOne
-  one-packed w v h p = go (free ph (getD (v .marks) (waiter (c .sizes) w) 0) && asksFor c ph (w / 1024) (w % 1024))
+  one-packed w v h p = go (free ph (getD (v .marks) (waiter (c .sizes) w) 0) && asksFor c ph (variableIn w) (stateIn w))
     where
-      at-end : (getD (set (v .queue) (v .tail) w) (v .tail) 0 / 1024 < c .sizes .variables) × (getD (set (v .queue) (v .tail) w) (v .tail) 0 % 1024 < c .sizes .states)
+      at-end : (variableIn (getD (set (v .queue) (v .tail) w) (v .tail) 0) < c .sizes .variables) × (stateIn (getD (set (v .queue) (v .tail) w) (v .tail) 0) < c .sizes .states)
       at-end = elim (decLt (v .tail) (length (v .queue))) [
         | yes l ↦ let e = getD-set-same (v .queue) (v .tail) w 0 l in rw e h
         | no l ↦
@@ -84,7 +85,7 @@ module _ (c : Scene) (ph : Bool) where
       ]
       go false i l = p i l
 
-  pub all-packed : (l : List ℕ) (v : Line) → ((w : ℕ) → w ∈ l → (w / 1024 < c .sizes .variables) × (w % 1024 < c .sizes .states)) → Packed (c .sizes) (v .queue) (v .tail)
+  pub all-packed : (l : List ℕ) (v : Line) → ((w : ℕ) → w ∈ l → (variableIn w < c .sizes .variables) × (stateIn w < c .sizes .states)) → Packed (c .sizes) (v .queue) (v .tail)
       → Packed (c .sizes) (visitAll c ph l v .queue) (visitAll c ph l v .tail)
   unfolding visitAll
   all-packed [] v h p = p

@@ -9,12 +9,13 @@ use lib.Dec.{eqb, ltb}
 use Rattle.lists.specs.Lists.{any}
 use Rattle.systems.specs.machine.Machine.{free, nextMark}
 use Rattle.rules.specs.Moves.{source, action, target}
-use Rattle.rules.specs.Model.{Equation}
+use Rattle.rules.specs.declared.Equation.{Equation}
 use Rattle.rules.specs.Rooms.{pairsOf}
 use Rattle.rules.specs.Session.{unword}
 use Rattle.rules.specs.declared.Sizes.{Sizes}
-use Rattle.words.specs.Table.{Table, tableIn, Drawn, pairIn, waitingOf, waiter}
-use Rattle.words.specs.Part.{ownMoves}
+use Rattle.words.specs.Words.{waitingOf, variableIn, stateIn}
+use Rattle.engine_table.specs.Table.{Table, tableIn, Drawn, pairIn, waiter}
+use Rattle.engine_table.specs.Part.{ownMoves}
 use Rattle.engine_index.specs.Indexed.{keyOf}
 use Rattle.engine_index.specs.Operands.{isStep, easyBit, namesOf, slotWord, linkIn, waitsIn, ownerIn, rowIn}
 
@@ -87,7 +88,7 @@ passed v = record { marks = v .marks; queue = v .queue; tail = v .tail; visits =
 unfoldable pub visitOne : Scene → Bool → ℕ → Line → Line
 unfolding asksFor
 visitOne c ph w v =
-    cond (free ph (getD (v .marks) (waiter (c .sizes) w) 0) && asksFor c ph (w / 1024) (w % 1024)) (waited (c .sizes) ph w v) (passed v)
+    cond (free ph (getD (v .marks) (waiter (c .sizes) w) 0) && asksFor c ph (variableIn w) (stateIn w)) (waited (c .sizes) ph w v) (passed v)
 
 -- The pairs of a list are visited, one after the other.
 unfoldable pub visitAll : Scene → Bool → List ℕ → Line → Line

@@ -19,10 +19,11 @@ use Rattle.rules.specs.Calls.{valueAt}
 use Rattle.rules.specs.Values.{leanings, Term, constant, proposition, join, step, state, variable, termOf, equationAt}
 use Rattle.rules.specs.Model.{Model}
 use Rattle.rules.specs.declared.Sizes.{Sizes}
+use Rattle.words.specs.Words.{variableIn, stateIn}
 use Rattle.laws.specs.model.ModelSystem.{frame, pairs-full}
 use Rattle.laws.specs.model.ModelLeaners.{leanersVia, leanersTo, leanersOf, model-finds}
-use Rattle.words.specs.Table.{Table, tableIn, modelOf, Drawn, wordAt, ownIn, pairIn, waiter}
-use Rattle.words.specs.EquationWords.{drawn-sound, own-word, pair-inside}
+use Rattle.engine_table.specs.Table.{Table, tableIn, modelOf, Drawn, wordAt, ownIn, pairIn, waiter}
+use Rattle.engine_table.specs.EquationWords.{drawn-sound, own-word, pair-inside}
 use Rattle.engine_rows.specs.Rooms.{Bits, Packed, pileIn}
 use Rattle.engine_turn.specs.Scene.{Scene, sceneOf, Standing, sketch, asksFor, Line, lineOf, visitAll, leanersIn, Bounded, Room}
 use Rattle.engine_own.specs.Pairs.{pair-low}
@@ -140,10 +141,10 @@ module _ {t : Table} (d : Drawn t) (ph : Bool) (values : List ℕ) (bits : Bits 
             ap (λ (n : ℕ). asksFor (sceneOf (t .sizes) (t .equations) (t .moves) after n) true y q) (f ∙ ap bit same-own)
             ∙ ask-settle d after after-bits y q hy k u p (found .1) (v ∙ ap not same-own)
 
-  turn-asks : (w : ℕ) → w ∈ leaners → asksFor scene ph (w / 1024) (w % 1024) ≡ askOf (modelOf t) ph after (waiter (t .sizes) w)
+  turn-asks : (w : ℕ) → w ∈ leaners → asksFor scene ph (variableIn w) (stateIn w) ≡ askOf (modelOf t) ph after (waiter (t .sizes) w)
   turn-asks w m =
       let h = leaners-stand d x s w hx l m in
-      asks-same (w / 1024) (w % 1024) (h .variable) (h .state) (subst (λ (n : List ℕ). waiter (t .sizes) w ∈ n) (leaners-found d x s hx l) (in-map (waiter (t .sizes)) w m)) (h .uses)
+      asks-same (variableIn w) (stateIn w) (h .variable) (h .state) (subst (λ (n : List ℕ). waiter (t .sizes) w ∈ n) (leaners-found d x s hx l) (in-map (waiter (t .sizes)) w m)) (h .uses)
 
   -- The run of visits is the machine's, and what waits stays packed.
   pub turn-visits : (front : ℕ) (v w : Line) → w ≡ visitAll scene ph leaners v
@@ -182,8 +183,8 @@ pub record InFront (z : Sizes) (equations moves values queue : List ℕ) (tail f
   pub long : length values ≡ pairsOf z
   pub packed : Packed z queue tail
   pub waits : front < tail
-  pub is-x : x ≡ getD queue front 0 / 1024
-  pub is-q : q ≡ getD queue front 0 % 1024
+  pub is-x : x ≡ variableIn (getD queue front 0)
+  pub is-q : q ≡ stateIn (getD queue front 0)
   pub is-p : p ≡ pairIn z x q
 
 -- Its turn, as code makes it.
@@ -226,7 +227,7 @@ module _ {z : Sizes} {equations moves values queue : List ℕ} {tail front x q p
     -- The visits are those of the pair in front.
     run : visitAll (sceneOf z equations moves (set values p (1 - from)) from) ph (leanersIn z equations moves x q) line
         ≡ visitAll (sceneOf z equations moves (set values (waiter z top) (turned (getD values (waiter z top) 0))) (getD values (waiter z top) 0)) ph
-        (leanersIn z equations moves (top / 1024) (top % 1024)) line
+        (leanersIn z equations moves (variableIn top) (stateIn top)) line
     run =
         ap₂ {C = Line} (λ (n : List ℕ) (k : ℕ). visitAll (sceneOf z equations moves n k) ph (leanersIn z equations moves x q) line) become is-from
         ∙ ap₂ {C = Line} (λ (m n : ℕ). visitAll (sceneOf z equations moves (set values (waiter z top) (turned (getD values (waiter z top) 0))) (getD values (waiter z top) 0)) ph
@@ -237,7 +238,7 @@ module _ {z : Sizes} {equations moves values queue : List ℕ} {tail front x q p
         → Room (sceneOf z equations moves (set values p (1 - from)) from) ph (leanersIn z equations moves x q) line
     turn-room r =
         let e = ap (λ (v : Line). v .tail) run in
-        let t = ap (λ (v : Visit). v .pile .tail) (turn-visits (r .drawn) ph values (f .bits) (f .long) (top / 1024) (top % 1024) (f .packed front (f .waits) .0) (f .packed front (f .waits) .1) value (suc front) line _ refl) in
+        let t = ap (λ (v : Visit). v .pile .tail) (turn-visits (r .drawn) ph values (f .bits) (f .long) (variableIn top) (stateIn top) (f .packed front (f .waits) .0) (f .packed front (f .waits) .1) value (suc front) line _ refl) in
         let m = r .room in
         omega arith
 
@@ -247,9 +248,9 @@ module _ {z : Sizes} {equations moves values queue : List ℕ} {tail front x q p
         → Turned z equations moves ph front top (roundOf values marks queue tail visits) (roundOf (set values p (1 - from)) marks′ queue′ tail′ visits′)
     turn-done marks′ queue′ tail′ visits′ e = record {
       values = become;
-      packed = turn-packed (f .sketched .drawn) ph values (f .bits) (f .long) (top / 1024) (top % 1024) (f .packed front (f .waits) .0) (f .packed front (f .waits) .1) value line
+      packed = turn-packed (f .sketched .drawn) ph values (f .bits) (f .long) (variableIn top) (stateIn top) (f .packed front (f .waits) .0) (f .packed front (f .waits) .1) value line
           (lineOf marks′ queue′ tail′ visits′) (e ∙ run) (f .packed);
-      visits = λ labels d. turn-visits d ph values (f .bits) (f .long) (top / 1024) (top % 1024) (f .packed front (f .waits) .0) (f .packed front (f .waits) .1) value (suc front) line
+      visits = λ labels d. turn-visits d ph values (f .bits) (f .long) (variableIn top) (stateIn top) (f .packed front (f .waits) .0) (f .packed front (f .waits) .1) value (suc front) line
           (lineOf marks′ queue′ tail′ visits′) (e ∙ run)
           ∙ ap (λ (n : List ℕ). visited (modelOf (tableIn z labels equations moves)) ph n (leanersOf (modelOf (tableIn z labels equations moves)) (waiter z top)) (visitIn z (suc front) (roundOf values marks queue tail visits))) (sym become);
     }

@@ -10,9 +10,10 @@ use Rattle.rules.specs.Model.{Model}
 use Rattle.rules.specs.Values.{leanings}
 use Rattle.rules.specs.Calls.{valueAt}
 use Rattle.rules.specs.declared.Sizes.{Sizes}
+use Rattle.words.specs.Words.{variableIn}
 use Rattle.laws.specs.model.ModelSystem.{frame}
 use Rattle.laws.specs.model.ModelLeaners.{leanersOf}
-use Rattle.words.specs.Table.{Table, tableIn, modelOf, Drawn, ownIn, waiter}
+use Rattle.engine_table.specs.Table.{Table, tableIn, modelOf, Drawn, ownIn, waiter}
 use Rattle.engine_rows.specs.Rooms.{Packed, pileIn}
 
 -- The marks and the queue, and how many visits there were.
@@ -35,7 +36,7 @@ pub record Sketched (z : Sizes) (equations moves : List ℕ) : Type 0 where
 
 -- The pair that the number w stands for has the value that pairs turn from: the own value of its block while settling, else the other.
 abbrev pub FromValue : Table → Bool → List ℕ → ℕ → Type 0
-FromValue t ph values w = valueAt values (waiter (t .sizes) w) ≡ cond ph (ownIn t (w / 1024)) (not (ownIn t (w / 1024)))
+FromValue t ph values w = valueAt values (waiter (t .sizes) w) ≡ cond ph (ownIn t (variableIn w)) (not (ownIn t (variableIn w)))
 
 -- Values, marks, the queue and its end, and how many visits there were.
 pub record Round : Type 0 where

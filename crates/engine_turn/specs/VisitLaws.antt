@@ -10,8 +10,9 @@ use Rattle.lists.specs.Lists.{any}
 use Rattle.lists.specs.Tests.{and-in, and-no, ltb-in, ltb-no}
 use Rattle.systems.specs.machine.Machine.{free, nextMark}
 use Rattle.rules.specs.Moves.{target}
-use Rattle.words.specs.Table.{ReadsAs, pairIn, waitingOf}
-use Rattle.words.specs.Part.{ownMoves}
+use Rattle.words.specs.Words.{waitingOf, variableIn, stateIn}
+use Rattle.engine_table.specs.Table.{ReadsAs, pairIn}
+use Rattle.engine_table.specs.Part.{ownMoves}
 use Rattle.engine_index.specs.Operands.{waitsIn, ownerIn, rowIn}
 use Rattle.engine_turn.specs.Scene.{Scene, equationOf, hasFrom, fails, asksFor, Line, lineOf, waited, passed, visitOne, visitAll, Leaner, Leans, Room}
 
@@ -57,8 +58,8 @@ module _ (c : Scene) where
         ≡ cond b (lineOf (set marks place (nextMark ph (getD marks place 0))) (set queue tail (waitingOf y s)) (suc tail) (suc visits)) (lineOf marks queue tail (suc visits))
     unfolding visitAll visitOne
     one-by b e =
-        let d : (1024 * y + s) / 1024 ≡ y = omega arith in
-        let m : (1024 * y + s) % 1024 ≡ s = omega arith in
+        let d : variableIn (waitingOf y s) ≡ y = omega arith in
+        let m : stateIn (waitingOf y s) ≡ s = omega arith in
         rw (d, m, e) refl
 
     -- A pair that need not turn stays, whatever its mark.
@@ -113,14 +114,14 @@ module _ (c : Scene) where
 
     one-grows : (w : ℕ) (v : Line) → Grows v (visitOne c ph w v) 1
     unfolding visitOne
-    one-grows w v = go (free ph (getD (v .marks) (pairIn (c .sizes) (w / 1024) (w % 1024)) 0) && asksFor c ph (w / 1024) (w % 1024))
+    one-grows w v = go (free ph (getD (v .marks) (pairIn (c .sizes) (variableIn w) (stateIn w)) 0) && asksFor c ph (variableIn w) (stateIn w))
       where
         go : (b : Bool) → Grows v (cond b (waited (c .sizes) ph w v) (passed v)) 1
         go true = record {
           many = omega arith;
           high = omega arith;
           low = omega arith;
-          long-marks = length-set (v .marks) (pairIn (c .sizes) (w / 1024) (w % 1024)) (nextMark ph (getD (v .marks) (pairIn (c .sizes) (w / 1024) (w % 1024)) 0));
+          long-marks = length-set (v .marks) (pairIn (c .sizes) (variableIn w) (stateIn w)) (nextMark ph (getD (v .marks) (pairIn (c .sizes) (variableIn w) (stateIn w)) 0));
           long-queue = length-set (v .queue) (v .tail) w;
         }
         go false = record { many = omega arith; high = omega arith; low = omega arith; long-marks = refl; long-queue = refl }

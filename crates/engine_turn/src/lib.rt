@@ -11,7 +11,8 @@ ghost use lib.ListN.{length, getD};
 ghost use Rattle.systems.specs.machine.Machine.{free, nextMark};
 ghost use Rattle.rules.specs.Rooms.{pairsOf};
 ghost use Rattle.laws.specs.model.ModelLeaners.{leanersOf};
-ghost use Rattle.words.specs.Table.{modelOf, waitingOf, waiter};
+ghost use Rattle.words.specs.Words.{waitingOf};
+ghost use Rattle.engine_table.specs.Table.{modelOf, waiter};
 ghost use Rattle.engine_rows.specs.Rooms.{Bits, Packed};
 ghost use Rattle.engine_index.specs.Indexed.{headsOf, Indexed};
 ghost use Rattle.engine_index.specs.Operands.{ownerIn, Named};
@@ -359,7 +360,7 @@ pub fn turn(
     let w = queue[front];
     let x = words::variable_of(w);
     let s = words::state_of(w);
-    let p = limits::pair_of(sizes, s, x);
+    let p = words::pair_of(sizes, s, x);
     values[p] = 1 - from;
     visit_leaners(
         sizes,

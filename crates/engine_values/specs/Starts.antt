@@ -26,7 +26,7 @@ use Rattle.rules.specs.declared.Sizes.{Sizes}
 use Rattle.laws.specs.model.ModelSystem.{frame}
 use Rattle.laws.specs.session.SessionHolds.{fill-length}
 use Rattle.laws.specs.session.Accepted.{filled-at}
-use Rattle.words.specs.Lent.{tableOf, Drawn, kindIn, own-kind}
+use Rattle.engine_table.specs.Lent.{tableOf, Drawn, kindIn, own-kind}
 
 -- A list of numbers, so many longer, and one longer.
 listed-add : (i n m : ℕ) (f : ℕ → ℕ) → listed i (n + m) f ≡ listed i n f ++ listed (i + n) m f

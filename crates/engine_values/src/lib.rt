@@ -12,7 +12,7 @@ ghost use Rattle.rules.specs.Model.{blocksIn};
 ghost use Rattle.rules.specs.Session.{unword};
 ghost use Rattle.rules.specs.Update.{trues};
 ghost use Rattle.rules.specs.Calls.{valueAt, bits};
-ghost use Rattle.words.specs.Lent.{kindIn};
+ghost use Rattle.engine_table.specs.Lent.{kindIn};
 
 // Sets each place to v.
 fn set_all(room: &mut [u8], v: u8)

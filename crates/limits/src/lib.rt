@@ -4,14 +4,11 @@ ghost use Prim.Native.Nat.{_*_, _<_};
 ghost use Rattle.rules.specs.Limits.{sizesOk};
 ghost use Rattle.rules.specs.Load.{movingWith};
 ghost use Rattle.rules.specs.Model.{labelOk, moveOk, operandsOk, namesOk};
-ghost use Rattle.rules.specs.Moves.{pack};
 ghost use Rattle.rules.specs.Rooms.{pairsOf, roomsOk, indexNeeds, queueNeeds, workOk, lentOk};
-ghost use Rattle.rules.specs.Values.{pair};
 ghost use Rattle.limits.specs.Lent.{lengthsBy};
 use rules::Move;
 use rules::Sizes;
 use rules::State;
-use rules::Variable;
 
 pub const MOST_STATES: u16 = 256;
 
@@ -73,13 +70,6 @@ pub fn pairs_of(z: Sizes) -> usize
     product(z.variables, z.states)
 }
 
-// The number of the pair of a state and a variable.
-pub fn pair_of(z: Sizes, here: State, x: Variable) -> usize
-    ensures { λ r. ⌜ r ≡ pair z here x ⌝ }
-{
-    x.0 as usize * z.states as usize + here.0 as usize
-}
-
 // No room for labels, equations, values or marks is shorter than the sizes need.
 pub fn rooms_ok(l: Lent, z: Sizes) -> bool
     ensures { λ r. ⌜ r ≡ roomsOk (lengthsBy l) z ⌝ }
@@ -129,13 +119,6 @@ pub fn label_ok(z: Sizes, v: u32) -> bool
     ensures { λ r. ⌜ r ≡ labelOk z v ⌝ }
 {
     32 - u32::leading_zeros(v) <= z.propositions as u32
-}
-
-// A move as one number.
-pub fn packed(m: Move) -> u64
-    ensures { λ r. ⌜ (r ≡ pack (m .source .0) (m .action .0) (m .target .0)) × (r < 8589934592) ⌝ }
-{
-    65536 * (m.source.0 as u64) + 1024 * (m.action.0 as u64) + (m.target.0 as u64)
 }
 
 // Source, action and target lie below their counts.

@@ -14,7 +14,8 @@ use Rattle.lists.specs.Smallest.{Rule, at, smallest}
 use Rattle.lists.specs.Tests.{ltb-no}
 use Rattle.lists.specs.Ranges.{some-same, lowest-same, each-same, none-lowest}
 use Rattle.rules.specs.Chains.{Names, leadRule, leads, together, mixed, reach, stands, component}
-use Rattle.rules.specs.Model.{Equation, equationIn, namesOf, namesIn, guilty, componentIn}
+use Rattle.rules.specs.Model.{equationIn, namesOf, namesIn, guilty, componentIn}
+use Rattle.rules.specs.declared.Equation.{Equation}
 use Rattle.rules.specs.Session.{unword}
 use Rattle.model_chains.specs.Reaching.{wordNames, Reaches}
 use Rattle.model_chains.specs.Numbering.{kindIn, componentBy, guiltyBy, lowestBy, numbersBy, component-is, guilty-is}

@@ -13,7 +13,8 @@ use Rattle.lists.specs.Tests.{tell, and-in, and-no, eqb-is, eqb-no, ltb-in, ltb
 use Rattle.model_chains.specs.Stored.{held}
 use Rattle.rules.proofs.Record.{the-type}
 use Rattle.rules.specs.Load.{inside}
-use Rattle.rules.specs.Model.{Equation, guilty}
+use Rattle.rules.specs.Model.{guilty}
+use Rattle.rules.specs.declared.Equation.{Equation}
 use Rattle.rules.specs.Rooms.{Lengths}
 use Rattle.rules.specs.declared.Record.{Record}
 use Rattle.rules.specs.declared.Record.the-variants as R

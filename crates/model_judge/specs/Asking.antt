@@ -8,7 +8,8 @@ use lib.Dec.{eqb, ltb}
 use lib.ListN.{length, getD}
 use Rattle.lists.specs.Lists.{lowest}
 use Rattle.rules.specs.Load.{State, before, signedOf, inside, step, put, last}
-use Rattle.rules.specs.Model.{Equation, Model, guilty}
+use Rattle.rules.specs.Model.{Model, guilty}
+use Rattle.rules.specs.declared.Equation.{Equation}
 use Rattle.rules.specs.Records.{Outcome, run}
 use Rattle.rules.specs.Rooms.{Lengths}
 use Rattle.rules.specs.declared.Record.{Record}

@@ -11,7 +11,8 @@ use lib.ListN.{length}
 use Rattle.lists.specs.Lists.{someBelow, lowest}
 use Rattle.lists.specs.Tests.{tell, eqb-is}
 use Rattle.rules.specs.Load.{Sofar, State, before, inside, started, sizesOf, sizesDemands, signOf, askChains, labelDemands, blockDemands, equationDemands, signedDemands, moveDemands, endDemands, liveDemands, afterLive, afterLabel, afterBlock, afterEquation, afterSigned, afterMove, blockFits, settleStyle, readModel, step, put, last}
-use Rattle.rules.specs.Model.{Equation, Model, guilty}
+use Rattle.rules.specs.Model.{Model, guilty}
+use Rattle.rules.specs.declared.Equation.{Equation}
 use Rattle.rules.specs.Moves.{pack}
 use Rattle.rules.specs.Records.{Rec, field, Parts, ends, broken, part, Turn, no, back, next, over, demand, Outcome, refused, accepted, onto, atEnd, onTurn, run, parts}
 use Rattle.rules.specs.Rooms.{Lengths}

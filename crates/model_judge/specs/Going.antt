@@ -9,7 +9,7 @@ use Rattle.rules.specs.declared.Refusal.the-variants as Why
 use Rattle.bytes_read.specs.Places.{recordAt}
 use Rattle.bytes_read.specs.declared.Read.{Read}
 use Rattle.model_judge.specs.Progress.{sofarOf, Kept}
-use Rattle.rules.specs.Model.{Equation}
+use Rattle.rules.specs.declared.Equation.{Equation}
 use Rattle.model_judge.specs.Asking.{whole, signsTo, SpelledSofar}
 use Rattle.model_judge.specs.Plain.{withSigns}
 use Rattle.model_judge.specs.Turning.{readSays, Turned}

@@ -11,7 +11,8 @@ use Rattle.lists.specs.Lists.{someBelow, lowest}
 use Rattle.lists.specs.Tests.{tests, tell, and-is, and-in, and-no, eqb-is, eqb-no, eqb-off, ltb-is, leb-is, ltb-out}
 use Rattle.lists.specs.Ranges.{lowest-found}
 use Rattle.rules.specs.Load.{Sofar, State, before, inside, signOf, afterSigned, askChains, settleStyle, readModel, step, put, last}
-use Rattle.rules.specs.Model.{Equation, Model, guilty}
+use Rattle.rules.specs.Model.{Model, guilty}
+use Rattle.rules.specs.declared.Equation.{Equation}
 use Rattle.rules.specs.Records.{Rec, Turn, no, back, next, Outcome, refused, accepted, onto, run, numbersOf}
 use Rattle.rules.specs.Rooms.{Lengths}
 use Rattle.rules.specs.declared.Record.{Record}

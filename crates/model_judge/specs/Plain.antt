@@ -3,7 +3,8 @@
 use mathlib.Core.List.{List, []}
 use Prim.Native.Nat.{ℕ}
 use Rattle.rules.specs.Load.{Sofar, State, before, inside, stepBy, put, last}
-use Rattle.rules.specs.Model.{Equation, Model}
+use Rattle.rules.specs.Model.{Model}
+use Rattle.rules.specs.declared.Equation.{Equation}
 use Rattle.rules.specs.Records.{Rec, Turn, next, Outcome, run, parts}
 use Rattle.rules.specs.Rooms.{Lengths}
 

@@ -12,11 +12,11 @@ use lib.ListN.{length, getD, set, replicate, length-set}
 use lib.Seq.{getD-set-same, getD-set-other}
 use Rattle.lists.specs.Tests.{tell, eqb-is, eqb-no}
 use Rattle.rules.specs.Load.{signedOf, signOf}
-use Rattle.rules.specs.Model.{Equation}
+use Rattle.rules.specs.declared.Equation.{Equation}
 use Rattle.rules.specs.Records.{numbersOf}
 use Rattle.rules.specs.Session.{word, unword}
 use Rattle.model_chains.specs.Stored.{held}
-use Rattle.laws.specs.session.SessionHolds.{unword-word}
+use Rattle.words.specs.WordLaws.{unword-word}
 use Rattle.rules.specs.declared.Record.{Record}
 use Rattle.rules.specs.declared.Record.the-variants as R
 use Rattle.bytes_read.specs.PartsAt.{read-there}

@@ -10,7 +10,8 @@ ghost use Rattle.rules.specs.Records.{numbersOf, over, demand};
 ghost use Rattle.rules.specs.Rooms.{Lengths};
 ghost use Rattle.rules.specs.Session.{word, unword};
 ghost use Rattle.limits.specs.Lent.{lengthsBy};
-ghost use Rattle.rules.specs.Model.{Equation, signed};
+ghost use Rattle.rules.specs.Model.{signed};
+ghost use Rattle.rules.specs.declared.Equation.{Equation};
 ghost use Rattle.model_judge.specs.Progress.{sofarOf, judgedSays, Kept};
 ghost use Rattle.model_judge.specs.Plain.{plain, without};
 ghost use Rattle.model_judge.specs.Turning.{readSays, summary, endTurn};
@@ -193,7 +194,7 @@ fn on_move(l: Lent, x: Progress, m: Move) -> Judged
     let z = x.sizes;
     let blocks = x.blocks;
     let count = x.moves.count as usize;
-    let q = limits::packed(m);
+    let q = words::packed(m);
     let moving = limits::moving_with(x.moves.moving, m.source);
     if !limits::move_ok(z, m) {
         return Judged::Refused(Refusal::BadNumber);

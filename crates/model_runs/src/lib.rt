@@ -120,9 +120,9 @@ fn pass(bytes: &[u8], z: Sizes, x: MoveRun) -> Passed
 {
     let at = x.at;
     let m = bytes_read::move_at(bytes, at + 1);
-    let good = (bytes[at] == 5) & limits::move_ok(z, m) & (x.least <= limits::packed(m));
+    let good = (bytes[at] == 5) & limits::move_ok(z, m) & (x.least <= words::packed(m));
     let count = x.count + 1;
-    let least = limits::packed(m) + 1;
+    let least = words::packed(m) + 1;
     let moving = limits::moving_with(x.moving, m.source);
     let end = at + 6;
     let run = MoveRun {

@@ -16,7 +16,8 @@ use Rattle.lists.specs.Lists.{fill}
 use Rattle.lists.specs.Tests.{tests, tell, and-is, leb-is, eqb-is}
 use Rattle.rules.specs.Load.{Sofar, State, before, inside, started, step, put, last, sizesDemands, sizesOf, settleStyle, readModel}
 use Rattle.rules.specs.Limits.{sizesOk}
-use Rattle.rules.specs.Model.{Equation, Model, equationIn, componentIn, placed, signed, signOk, styleOk, moveOk, wellFormed}
+use Rattle.rules.specs.Model.{Model, equationIn, componentIn, placed, signed, signOk, styleOk, moveOk, wellFormed}
+use Rattle.rules.specs.declared.Equation.{Equation}
 use Rattle.rules.specs.Moves.{pack, wrap}
 use Rattle.rules.specs.Records.{Parts, ends, broken, part, Turn, no, back, next, over, Outcome, refused, accepted, onto, onTurn, atEnd, run, numbersOf}
 use Rattle.rules.specs.Rooms.{Lengths, roomsOk, lentOk}

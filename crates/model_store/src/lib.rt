@@ -70,7 +70,7 @@ fn word_of(x: Progress, o: u8, a: u8, b: u8) -> u32
 fn packed(m: Move) -> u32
     ensures { λ r. ⌜ r ≡ wrap (pack (m .source .0) (m .action .0) (m .target .0)) ⌝ }
 {
-    (limits::packed(m) % 4294967296) as u32
+    (words::packed(m) % 4294967296) as u32
 }
 
 // What one record of a model says, stored.

@@ -7,7 +7,8 @@ use lib.Dec.{eqb}
 use lib.ListN.{length, getD}
 use lib.Seq.{sets}
 use Rattle.lists.specs.Lists.{listed}
-use Rattle.rules.specs.Model.{Equation, Model, runOf}
+use Rattle.rules.specs.Model.{Model, runOf}
+use Rattle.rules.specs.declared.Equation.{Equation}
 use Rattle.rules.specs.Records.{bytes, bytesOf}
 use Rattle.rules.specs.Session.{unword}
 use Rattle.rules.specs.Spelling.{liveRecs, labelRecs, blockRec, equationRec, equationRecs, signedRec, signedRecs, moveRecs}

@@ -12,7 +12,8 @@ use lib.Seq.{sets-eq, length-sets, drop-cons}
 use Rattle.lists.specs.Lists.{bit, listed, fill}
 use Rattle.lists.specs.TableLaws.{listed-length}
 use Rattle.lists.specs.Tests.{tell, eqb-is, eqb-no, cond-yes, cond-no}
-use Rattle.rules.specs.Model.{Equation, runOf, signed, WellFormed}
+use Rattle.rules.specs.Model.{runOf, signed, WellFormed}
+use Rattle.rules.specs.declared.Equation.{Equation}
 use Rattle.rules.specs.Records.{Rec, bytes, bytesOf, widths}
 use Rattle.rules.specs.Rooms.{Rooms}
 use Rattle.rules.specs.Session.{unword, held}

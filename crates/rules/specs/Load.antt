@@ -7,7 +7,8 @@ use lib.Dec.{eqb, ltb, leb}
 use Rattle.lists.specs.Lists.{someBelow, lowest}
 use Rattle.rules.specs.Limits.{most-moves, sizesOk}
 use Rattle.rules.specs.Moves.{pack, source}
-use Rattle.rules.specs.Model.{Equation, Model, labelOk, moveOk, operandsOk, namesOk, signed, signOk, guilty, placed}
+use Rattle.rules.specs.Model.{Model, labelOk, moveOk, operandsOk, namesOk, signed, signOk, guilty, placed}
+use Rattle.rules.specs.declared.Equation.{Equation}
 use Rattle.rules.specs.Records.{Rec, field, Turn, no, back, next, over, demand, Outcome, onto, run, parts}
 use Rattle.rules.specs.Rooms.{Lengths, lentOk}
 use Rattle.rules.specs.declared.Sizes.{Sizes}

@@ -9,15 +9,8 @@ use Rattle.lists.specs.Lists.{any, all, someBelow, eachBelow}
 use Rattle.rules.specs.Limits.{most-moves, sizesOk}
 use Rattle.rules.specs.Moves.{source, action, target}
 use Rattle.rules.specs.Chains.{Names, mixed, component}
+use Rattle.rules.specs.declared.Equation.{Equation}
 use Rattle.rules.specs.declared.Sizes.{Sizes}
-
--- A variable's equation as the wire has it, the number of its block or component, and the kind of that: 0 least, 1 greatest.
-pub record Equation : Type 0 where
-  pub operator : ℕ
-  pub first : ℕ
-  pub second : ℕ
-  pub block : ℕ
-  pub kind : ℕ
 
 -- Whether the model is live (1) or not (0), a set of propositions for each state (bit p for proposition p), an equation for
 -- each variable, and the moves, ascending, each as one number.

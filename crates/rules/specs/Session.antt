@@ -7,7 +7,8 @@ use lib.Dec.{eqb, leb}
 use Rattle.lists.specs.Lists.{all}
 use Rattle.rules.specs.Limits.{most-moves, sizesOk}
 use Rattle.rules.specs.Moves.{stampOf}
-use Rattle.rules.specs.Model.{Equation, Model, wellFormed}
+use Rattle.rules.specs.Model.{Model, wellFormed}
+use Rattle.rules.specs.declared.Equation.{Equation}
 use Rattle.rules.specs.Rooms.{Rooms, Lengths, lengthsOf, pairsOf}
 use Rattle.rules.specs.declared.Sizes.{Sizes}
 use Rattle.rules.specs.declared.Session.{Session}

@@ -5,7 +5,8 @@ use mathlib.Core.List.{List, [], _∷_, _++_}
 use Prim.Native.Nat.{ℕ, zero, suc}
 use lib.Dec.{eqb}
 use Rattle.rules.specs.Moves.{source, action, target}
-use Rattle.rules.specs.Model.{Equation, Model, runOf, signed}
+use Rattle.rules.specs.Model.{Model, runOf, signed}
+use Rattle.rules.specs.declared.Equation.{Equation}
 use Rattle.rules.specs.Records.{Rec, bytesOf}
 use Rattle.rules.specs.declared.Sizes.{Sizes}
 

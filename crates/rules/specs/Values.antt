@@ -9,7 +9,8 @@ use lib.Dec.{eqb, ltb}
 use Rattle.lists.specs.Lists.{is, any, all}
 use Rattle.lists.specs.Smallest.{table, at, smallest}
 use Rattle.rules.specs.Moves.{source, action, target}
-use Rattle.rules.specs.Model.{Equation, Model, nothing, blocksOf}
+use Rattle.rules.specs.Model.{Model, nothing, blocksOf}
+use Rattle.rules.specs.declared.Equation.{Equation}
 use Rattle.rules.specs.Rooms.{pairsOf}
 use Rattle.rules.specs.declared.State.{State}
 use Rattle.rules.specs.declared.Action.{Action}

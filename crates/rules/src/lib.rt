@@ -14,6 +14,15 @@ pub struct Move {
     pub target: State,
 }
 
+// An equation: its operator, what it names, its block or component, and whether that is greatest (1) or least (0).
+pub struct Equation {
+    pub operator: u8,
+    pub first: u8,
+    pub second: u8,
+    pub block: u8,
+    pub kind: u8,
+}
+
 // How many of each a model has.
 pub struct Sizes {
     pub states: u16,

@@ -10,7 +10,8 @@ use native.Mathlib.Omega.{arith}
 use lib.ListN.{length, getD, take, drop}
 use lib.Dec.{eqb, ltb}
 use Rattle.lists.specs.Tests.{tell, and-is, ltb-is, ltb-no}
-use Rattle.rules.specs.Model.{Equation, runOf, equationsOk}
+use Rattle.rules.specs.Model.{runOf, equationsOk}
+use Rattle.rules.specs.declared.Equation.{Equation}
 use Rattle.rules.specs.Session.{unword}
 use Rattle.rules.specs.declared.Sizes.{Sizes}
 use Rattle.moves.specs.Fronts.{rest-more, rest-over}

@@ -12,7 +12,8 @@ use Rattle.lists.specs.Tests.{not-out, not-not, eqb-in, eqb-no, cond-yes, cond-
 use Rattle.rules.specs.Limits.{sizesOk}
 use Rattle.laws.specs.bytes.Walks.{small}
 use Rattle.lists.specs.Ranges.{each-same}
-use Rattle.rules.specs.Model.{Equation, Model, wellFormed, equationIn, signed, signOk, guilty, componentIn, signsOk, equationsOk, styleOk}
+use Rattle.rules.specs.Model.{Model, wellFormed, equationIn, signed, signOk, guilty, componentIn, signsOk, equationsOk, styleOk}
+use Rattle.rules.specs.declared.Equation.{Equation}
 use Rattle.rules.specs.Session.{unword}
 use Rattle.rules.specs.declared.Sizes.{Sizes}
 use Rattle.model_chains.specs.Stored.{chainsOk, held-at, held-length}

@@ -6,7 +6,8 @@ use Prim.Native.Nat.{ℕ, suc, min}
 use lib.ListN.{length}
 use lib.Dec.{eqb, ltb, leb}
 use Rattle.rules.specs.Limits.{most-moves, sizesOk}
-use Rattle.rules.specs.Model.{Equation, Model, operandsOk, namesOk}
+use Rattle.rules.specs.Model.{Model, operandsOk, namesOk}
+use Rattle.rules.specs.declared.Equation.{Equation}
 use Rattle.rules.specs.Rooms.{Rooms, roomsOf}
 use Rattle.rules.specs.Session.{held, countsOk}
 use Rattle.rules.specs.declared.Sizes.{Sizes}

@@ -1,5 +1,5 @@
 -- What the moves, the machine and the stamp come to is what the rule says. Assumes nothing.
-use Rattle.words.specs.Lent.{pairs-few}
+use Rattle.engine_table.specs.Lent.{pairs-few}
 use mir.ValLaws.{toZ-ofZ}
 use mir.Syntax.{w32}
 use mathlib.Core.Path.{_∙_}

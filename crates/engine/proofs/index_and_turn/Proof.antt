@@ -4,8 +4,8 @@ use native.Mathlib.Omega.{arith}
 use lib.ListN.{replicate}
 use lib.Seq.{length-take-le}
 use Rattle.lists.specs.Entries.{zeros-at}
-use Rattle.words.specs.Table.{tableIn}
-use Rattle.words.specs.Limits.{limits}
+use Rattle.engine_table.specs.Table.{tableIn}
+use Rattle.engine_table.specs.Limits.{limits}
 use Rattle.engine_index.specs.MovesIndexed.{drawn-headed, indexed}
 use Rattle.engine_index.specs.OperandLaws.{drawn-names}
 use borrow.Author.Needs.{needs}

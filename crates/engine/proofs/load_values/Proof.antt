@@ -5,7 +5,7 @@ use native.Mathlib.Omega.{arith}
 use lib.Dec.{eqb}
 use Rattle.lists.specs.Lists.{fill}
 use Rattle.rules.specs.Calls.{bits}
-use Rattle.words.specs.Lent.{tableOf, kindIn, drawn-sound}
+use Rattle.engine_table.specs.Lent.{tableOf, kindIn, drawn-sound}
 use Rattle.engine_values.specs.Starts.{own-filled}
 use Rattle.engine.specs.Updates.{load-starts, load-leaves, load-clears}
 use borrow.Author.Needs.{needs}

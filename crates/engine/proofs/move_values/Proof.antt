@@ -4,8 +4,8 @@ use Prim.Native.Nat.{ℕ}
 use native.Mathlib.Omega.{arith}
 use lib.ListN.{length, take, replicate}
 use lib.Seq.{length-take-le}
-use Rattle.words.specs.Table.{changesOf}
-use Rattle.words.specs.Lent.{tableOf, drawn-cut}
+use Rattle.words.specs.Words.{changesOf}
+use Rattle.engine_table.specs.Lent.{tableOf, drawn-cut}
 use Rattle.engine_phase.specs.Started.{Started}
 use Rattle.engine.specs.Updates.{moved-in, cleared-part}
 use borrow.Author.Needs.{needs}

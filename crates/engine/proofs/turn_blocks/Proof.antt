@@ -8,7 +8,8 @@ use native.Mathlib.Omega.{arith}
 use lib.ListN.{length, length-map}
 use Rattle.rules.specs.Model.{blocksOf}
 use Rattle.rules.specs.Rooms.{pairsOf}
-use Rattle.words.specs.Table.{tableIn, modelOf, changesOf, waiter}
+use Rattle.words.specs.Words.{changesOf}
+use Rattle.engine_table.specs.Table.{tableIn, modelOf, waiter}
 use Rattle.engine_phase.specs.Course.{On, on-begins, on-ends, on-few}
 use Rattle.engine_phase.specs.Phase.{jobIn}
 use Rattle.engine_phase.specs.Levels.{Levelled, level-of, levelled-on}

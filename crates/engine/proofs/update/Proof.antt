@@ -7,8 +7,8 @@ use Prim.Native.Nat.{_<_, _^_}
 use mathlib.Core.Path.{sym, _∙_, subst}
 use native.Mathlib.Omega.{arith}
 use lib.ListN.{take}
-use Rattle.words.specs.Table.{changesOf}
-use Rattle.words.specs.Lent.{tableOf, pairs-few}
+use Rattle.words.specs.Words.{changesOf}
+use Rattle.engine_table.specs.Lent.{tableOf, pairs-few}
 use Rattle.rules.specs.Rooms.{pairsOf}
 use Rattle.engine_values.specs.Differences.{mag-sub}
 use Rattle.engine_phase.specs.Levels.{trues-le, level-of}

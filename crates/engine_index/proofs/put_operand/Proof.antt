@@ -4,6 +4,7 @@ use mathlib.Core.Bool.{true}
 use Prim.Native.Nat.{ℕ, _<_}
 use native.Mathlib.Omega.{arith}
 use lib.ListN.{length}
+use Rattle.rules.specs.declared.Equation.{Equation}
 use Rattle.engine_index.specs.Operands.{NamedUpTo}
 use Rattle.engine_index.specs.OperandLaws.{names-other, names-none, slot-inside, word-low, slot-put, slot-left}
 use borrow.Author.Needs.{needs}
@@ -101,7 +102,7 @@ returns c =
     let at-start = start-before-slice-known (in-then1 .before) in
     let s = at-start .pre in
     let a = at-start .args in
-    let e = sym (after-equation-in2 .before .equation-in .ensures .is-block) ∙ after-slot-word .before .if2 .taken ∙ after-equation-in2 .equation-in2 .ensures .is-block in
+    let e = sym (ap (λ (e : Equation). e .block) (after-equation-in2 .before .equation-in .ensures)) ∙ after-slot-word .before .if2 .taken ∙ ap (λ (e : Equation). e .block) (after-equation-in2 .equation-in2 .ensures) in
     let p = slot-put (a .sizes) (a .equations .now) (s .1 .0) (s .0) (after-slot-word .slot-word .result) (a .operand .now) (in-then1 .if1 .taken) e (after-slot-word .slot-word .ensures) (s .1 .1) in
     subst (NamedUpTo (a .sizes) (a .equations .now) _) (sym (after-put-first .put-first .ensures)) p
 
@@ -112,7 +113,7 @@ returns-2 c =
     let at-start = start-before-slice-known (in-then1 .before) in
     let s = at-start .pre in
     let a = at-start .args in
-    let e = names-other (a .equations .now) (s .1 .0) (in-then1 .if1 .taken) (λ f. c .if2 .left (after-equation-in2 .before .equation-in .ensures .is-block ∙ f ∙ sym (after-equation-in2 .equation-in2 .ensures .is-block))) in
+    let e = names-other (a .equations .now) (s .1 .0) (in-then1 .if1 .taken) (λ f. c .if2 .left (ap (λ (e : Equation). e .block) (after-equation-in2 .before .equation-in .ensures) ∙ f ∙ sym (ap (λ (e : Equation). e .block) (after-equation-in2 .equation-in2 .ensures)))) in
     slot-left (a .sizes) (a .equations .now) (s .1 .0) (s .0) (a .operand .now) e (s .1 .1)
 
 returns-3 : tie.Need-returns-3

@@ -4,6 +4,7 @@ use mathlib.Core.Bool.{not}
 use Prim.Native.Nat.{ℕ}
 use native.Mathlib.Omega.{arith}
 use lib.Dec.{ltb}
+use Rattle.engine_table.specs.Table.{reads-as}
 use Rattle.lists.specs.Tests.{ltb-in, ltb-no}
 use Rattle.engine_index.specs.Operands.{slotWord}
 use borrow.Author.Needs.{needs}
@@ -54,7 +55,7 @@ returns : tie.Need-returns
 unfolding slotWord
 returns c =
     let after-begins = c .before .before in
-    let e = equation-in-before-begins after-begins .equation-in .ensures in
+    let e = reads-as (equation-in-before-begins after-begins .equation-in .ensures) in
     let l = ltb-in _ 6 (c .if1 .taken) in
     let r = after-begins .begins .ensures .0 in
     rw (sym (e .is-operator), sym (e .is-kind), l) (omega arith)
@@ -69,7 +70,7 @@ begins-requires-2 : tie.Need-begins-requires-2
 begins-requires-2 c κs =
     let after-equation-in = equation-in-before-begins (begins-before-else1 (c .before)) in
     let at-start = after-equation-in .before in
-    let e = after-equation-in .equation-in .ensures in
+    let e = reads-as (after-equation-in .equation-in .ensures) in
     let step = at-start .pre .1 (ap not (ap (λ (o : ℕ). ltb o 6) (sym (e .is-operator)) ∙ ltb-no _ 6 .1 (c .before .if1 .left))) in
     let f = e .is-first in
     (omega arith, at-start .pre .0 .1)
@@ -85,7 +86,7 @@ unfolding slotWord
 returns-2 c =
     let in-else1 = c .before .before in
     let after-begins = begins-before-else1 in-else1 in
-    let e = equation-in-before-begins after-begins .equation-in .ensures in
+    let e = reads-as (equation-in-before-begins after-begins .equation-in .ensures) in
     let l = ltb-no _ 6 .1 (in-else1 .if1 .left) in
     let r = after-begins .begins .ensures .0 in
     let h = c .begins2 .ensures .0 in

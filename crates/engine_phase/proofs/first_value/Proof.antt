@@ -5,6 +5,7 @@ use lib.ListN.{getD}
 use borrow.Author.Needs.{needs}
 use Rattle.engine_phase.proofs.first_value.Statement.{statement}
 use Rattle.engine_phase.proofs.first_value.Tie as tie
+use Rattle.words.specs.Words.{variableIn, stateIn}
 
 half-at-requires : tie.Need-half-at-requires
 half-at-requires c κs = search needs
@@ -32,7 +33,7 @@ returns c =
     c .byte-at .ensures
     ∙ ap (λ (p : ℕ). getD (a .values .now) p 0)
     (at-pair .pair-of .ensures
-    ∙ ap₂ {C = ℕ} (λ (x s : ℕ). x * a .sizes .states + s) (at-variable .variable-of .ensures ∙ ap (λ (n : ℕ). n / 1024) w) (at-state .state-of .ensures ∙ ap (λ (n : ℕ). n % 1024) w))
+    ∙ ap₂ {C = ℕ} (λ (x s : ℕ). x * a .sizes .states + s) (at-variable .variable-of .ensures ∙ ap (λ variableIn ((n : ℕ). n)) w) (at-state .state-of .ensures ∙ ap (λ stateIn ((n : ℕ). n)) w))
 
 pub first-value-spec : {M : Type 1} → statement M
 first-value-spec =

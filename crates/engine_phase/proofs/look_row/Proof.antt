@@ -3,11 +3,13 @@ use mathlib.Core.Path.{_≡_, refl, sym, ap, _∙_}
 use mathlib.Core.Bool.{true, not}
 use Prim.Native.Nat.{ℕ}
 use lib.Dec.{eqb}
+use Rattle.rules.specs.declared.Equation.{Equation}
 use Rattle.lists.specs.Lists.{bit}
 use Rattle.lists.specs.Tests.{not-out, not-not}
 use Rattle.rules.specs.Session.{unword}
-use Rattle.words.specs.Table.{tableIn, ownIn, changesOf}
-use Rattle.words.specs.Limits.{limits}
+use Rattle.words.specs.Words.{changesOf}
+use Rattle.engine_table.specs.Table.{tableIn, ownIn}
+use Rattle.engine_table.specs.Limits.{limits}
 use Rattle.engine_phase.specs.PutRow.{turnsFrom}
 use Rattle.engine_phase.specs.LookRow.{look-vals, look-marks, look-bits, look-small, look-told, look-none, look-room, look-left}
 use borrow.Author.Needs.{needs}
@@ -47,7 +49,7 @@ is-from c =
     let at-equation = equation-in-before-tell-row (tell-row-before-turns-from c) in
     let settling = start-before-tell-row (tell-row-before-turns-from c) .args .settling in
     c .turns-from .ensures
-    ∙ ap (λ (k : ℕ). bit (turnsFrom settling (eqb k 1))) (at-equation .equation-in .ensures .is-kind ∙ ap (λ (w : ℕ). unword w .kind) (at-equation .before .word-at .ensures))
+    ∙ ap (λ (k : ℕ). bit (turnsFrom settling (eqb k 1))) (ap (λ (e : Equation). e .kind) (at-equation .equation-in .ensures) ∙ ap (λ (w : ℕ). unword w .kind) (at-equation .before .word-at .ensures))
 
 cast-word-at : tie.Need-cast-word-at
 cast-word-at c = search needs

@@ -4,7 +4,8 @@ use Prim.Native.Nat.{ℕ, _+_, _-_, _*_, _≤_, _<_}
 use native.Mathlib.Omega.{arith}
 use lib.ListN.{length, getD}
 use Rattle.rules.specs.Session.{unword}
-use Rattle.words.specs.Table.{tableIn, changesOf}
+use Rattle.words.specs.Words.{changesOf}
+use Rattle.engine_table.specs.Table.{tableIn}
 use Rattle.engine_rows.specs.Rooms.{Packed}
 use Rattle.engine_phase.specs.Course.{On}
 use Rattle.engine_phase.specs.Phase.{Leads, leads-on, jobIn}

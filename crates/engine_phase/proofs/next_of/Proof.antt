@@ -3,6 +3,7 @@ use mathlib.Core.Path.{sym, _∙_}
 use Prim.Native.Nat.{_-_}
 use native.Mathlib.Omega.{arith}
 use lib.ListN.{length}
+use Rattle.rules.specs.declared.Equation.{Equation}
 use Rattle.engine_phase.specs.NextRow.{Passing, passing-none, passing-more, next-here, next-none}
 use borrow.Author.Needs.{needs}
 use Rattle.engine_phase.proofs.next_of.Statement.{statement}
@@ -36,7 +37,7 @@ returns c =
     let at-equation = c .before .before in
     let at-loop = at-equation .before .before .before in
     let at-start = at-loop .before .before in
-    next-here (at-start .args .equations .now) (at-start .args .block) (at-start .args .from) (at-loop .loop .y) (at-loop .loop .inv) (sym (at-equation .equation-in .ensures .is-block) ∙ c .if1 .taken)
+    next-here (at-start .args .equations .now) (at-start .args .block) (at-start .args .from) (at-loop .loop .y) (at-loop .loop .inv) (sym (ap (λ (e : Equation). e .block) (at-equation .equation-in .ensures)) ∙ c .if1 .taken)
 
 add-y : tie.Need-add-y Inv-loop μ-loop
 add-y c = search needs
@@ -50,7 +51,7 @@ loop-again c =
     let at-loop = at-equation .before .before .before in
     let at-start = at-loop .before .before in
     passing-more (at-start .args .equations .now) (at-start .args .block) (at-start .args .from) (at-loop .loop .y) (at-loop .loop .inv) (at-equation .before .before .loop-test .taken)
-    (λ e. c .if1 .left (at-equation .equation-in .ensures .is-block ∙ e))
+    (λ e. c .if1 .left (ap (λ (e : Equation). e .block) (at-equation .equation-in .ensures) ∙ e))
 
 returns-2 : tie.Need-returns-2 Inv-loop μ-loop
 returns-2 c =

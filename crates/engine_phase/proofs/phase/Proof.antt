@@ -5,8 +5,8 @@ use Prim.Native.Nat.{ℕ, _-_}
 use native.Mathlib.Omega.{arith}
 use lib.ListN.{length}
 use Rattle.rules.specs.Rooms.{pairsOf}
-use Rattle.words.specs.Table.{changesOf}
-use Rattle.words.specs.Limits.{pairs-few}
+use Rattle.words.specs.Words.{changesOf}
+use Rattle.engine_table.specs.Limits.{pairs-few}
 use Rattle.engine_turn.specs.Turns.{roundOf}
 use Rattle.engine_phase.specs.Phase.{leads-over}
 use Rattle.engine_phase.specs.Levels.{level-room, levelled-by}

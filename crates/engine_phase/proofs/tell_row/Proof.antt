@@ -1,5 +1,6 @@
 -- By the phase, one of two rows tells. Assumes nothing.
-use Rattle.words.specs.Table.{tableIn, changesOf}
+use Rattle.words.specs.Words.{changesOf}
+use Rattle.engine_table.specs.Table.{tableIn}
 use Rattle.engine_phase.specs.LookRow.{tells-settle, tells-shift}
 use borrow.Author.Needs.{needs}
 use Rattle.engine_phase.proofs.tell_row.Statement.{statement}

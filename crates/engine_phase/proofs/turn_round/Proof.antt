@@ -3,7 +3,7 @@ use mathlib.Core.Path.{_≡_, refl, _∙_, subst}
 use Prim.Native.Nat.{ℕ, _+_, _-_, _≤_, _<_}
 use native.Mathlib.Omega.{arith}
 use lib.ListN.{length}
-use Rattle.words.specs.Limits.{pairs-few}
+use Rattle.engine_table.specs.Limits.{pairs-few}
 use Rattle.engine_turn.specs.Turns.{roundOf}
 use Rattle.engine_phase.specs.Rounds.{Waiting, Rounded, round-none, waiting-on, waiting-sketched, waiting-values, waiting-marks, waiting-bits, waiting-from, waiting-bounded, waiting-room, waiting-few, round-one, rounds-on}
 use Rattle.engine_phase.proofs.turn_round.Statement.{statement}

@@ -2,8 +2,9 @@
 use mathlib.Core.Path.{refl, sym, _∙_}
 use native.Mathlib.Omega.{arith}
 use lib.ListN.{length}
+use Rattle.engine_table.specs.Table.{reads-as}
 use Rattle.lists.specs.Tests.{not-out}
-use Rattle.words.specs.Table.{tableIn}
+use Rattle.engine_table.specs.Table.{tableIn}
 use Rattle.engine_settle.specs.Told.{Asked}
 use Rattle.engine_settle.specs.Rows.{row-inside, tells-row, tells-own, tells-other, tells-nothing}
 use borrow.Author.Needs.{needs}
@@ -31,7 +32,7 @@ asked c =
     record {
       drawn = p .0;
       indexed = p .1 .0;
-      reads = c .equation-in .ensures;
+      reads = reads-as (c .equation-in .ensures);
       below = p .1 .1 .0 .0;
       pairs = p .1 .1 .0 .1 .0;
       bits = p .1 .1 .1;

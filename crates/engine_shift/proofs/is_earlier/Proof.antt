@@ -2,6 +2,7 @@
 use mathlib.Core.Path.{ap, _∙_}
 use Prim.Native.Nat.{ℕ}
 use lib.Dec.{ltb}
+use Rattle.rules.specs.declared.Equation.{Equation}
 use Rattle.rules.specs.Session.{unword}
 use borrow.Author.Needs.{needs}
 use Rattle.engine_shift.proofs.is_earlier.Statement.{statement}
@@ -20,7 +21,7 @@ returns : tie.Need-returns
 returns c =
     let at-word = c .before .before in
     let a = at-word .before .before .before .args in
-    ap (λ (n : ℕ). ltb n (a .block)) (c .before .equation-in .ensures .is-block ∙ ap (λ (w : ℕ). unword w .block) (at-word .word-at .ensures))
+    ap (λ (n : ℕ). ltb n (a .block)) (ap (λ (e : Equation). e .block) (c .before .equation-in .ensures) ∙ ap (λ (w : ℕ). unword w .block) (at-word .word-at .ensures))
 
 pub is-earlier-spec : {M : Type 1} → statement M
 is-earlier-spec = tie.close (tie.spec cast-word-at word-at-requires equation-in-requires returns)

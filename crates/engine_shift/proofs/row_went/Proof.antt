@@ -5,7 +5,7 @@ use Prim.Native.Nat.{ℕ, _+_, _-_, _≤_}
 use native.Mathlib.Omega.{arith}
 use lib.ListN.{length, getD}
 use lib.Dec.{eqb, ltb}
-use Rattle.words.specs.Bits.{byte-bit}
+use Rattle.words.specs.WordLaws.{byte-bit}
 use Rattle.engine_shift.specs.Adds.{Adds, adds-first, adds-next, adds-all}
 use Rattle.engine_shift.specs.Seeds.{goneTo}
 use borrow.Author.Needs.{needs}

@@ -1,5 +1,6 @@
 -- The operator in the row's word decides what is asked. Assumes nothing.
 use native.Mathlib.Omega.{arith}
+use Rattle.engine_table.specs.Table.{reads-as}
 use Rattle.engine_shift.specs.ShiftRows.{moves-in, word-read, join-rows, step-rows, tells-low, tells-join, tells-step}
 use borrow.Author.Needs.{needs}
 use Rattle.engine_shift.proofs.shift_row.Statement.{statement}
@@ -20,7 +21,7 @@ returns c =
     let s = at-equation .before .before .before .before .before .before .before .before .before .before in
     let a = s .args in
     let e = at-equation .equation-in .result in
-    let r = word-read (a .equations .now) (a .y .0) _ (e .operator) (e .first) (e .second) (e .block) (e .kind) (at-equation .before .word-at .ensures) (at-equation .equation-in .ensures) in
+    let r = word-read (a .equations .now) (a .y .0) _ (e .operator) (e .first) (e .second) (e .block) (e .kind) (at-equation .before .word-at .ensures) (reads-as (at-equation .equation-in .ensures)) in
     let t = c .if1 .taken in
     λ labels d told. tells-low d (a .y .0) (s .pre .1 .1 .0 .0) (e .operator) (e .first) (e .second) (e .block) (e .kind) r (a .changes .now) (a .values .now) (a .marks .now) (s .pre .1 .1 .1) told (a .bad .now) (omega arith) (s .pre .1 .1 .0 .1 .1 .1)
 
@@ -30,7 +31,7 @@ shift-join-requires c κs =
     let s = at-equation .before .before .before .before .before .before .before .before .before .before in
     let a = s .args in
     let e = at-equation .equation-in .result in
-    let r = word-read (a .equations .now) (a .y .0) _ (e .operator) (e .first) (e .second) (e .block) (e .kind) (at-equation .before .word-at .ensures) (at-equation .equation-in .ensures) in
+    let r = word-read (a .equations .now) (a .y .0) _ (e .operator) (e .first) (e .second) (e .block) (e .kind) (at-equation .before .word-at .ensures) (reads-as (at-equation .equation-in .ensures)) in
     let t = c .before .if2 .taken in
     let u = c .before .before .if1 .left in
     let l = s .pre .1 .1 .0 in
@@ -47,7 +48,7 @@ returns-2 c =
     let s = at-equation .before .before .before .before .before .before .before .before .before .before in
     let a = s .args in
     let e = at-equation .equation-in .result in
-    let r = word-read (a .equations .now) (a .y .0) _ (e .operator) (e .first) (e .second) (e .block) (e .kind) (at-equation .before .word-at .ensures) (at-equation .equation-in .ensures) in
+    let r = word-read (a .equations .now) (a .y .0) _ (e .operator) (e .first) (e .second) (e .block) (e .kind) (at-equation .before .word-at .ensures) (reads-as (at-equation .equation-in .ensures)) in
     let t = at-join .before .before .if2 .taken in
     let u = at-join .before .before .before .if1 .left in
     λ labels d told. tells-join d (a .y .0) (s .pre .1 .1 .0 .0) (e .operator) (e .first) (e .second) (e .block) (e .kind) r (a .changes .now) (a .values .now) (a .marks .now) (s .pre .1 .1 .1) told _ _ (omega arith) (omega arith) (at-join .shift-join .ensures)
@@ -58,7 +59,7 @@ shift-step-requires c κs =
     let s = at-equation .before .before .before .before .before .before .before .before .before .before in
     let a = s .args in
     let e = at-equation .equation-in .result in
-    let r = word-read (a .equations .now) (a .y .0) _ (e .operator) (e .first) (e .second) (e .block) (e .kind) (at-equation .before .word-at .ensures) (at-equation .equation-in .ensures) in
+    let r = word-read (a .equations .now) (a .y .0) _ (e .operator) (e .first) (e .second) (e .block) (e .kind) (at-equation .before .word-at .ensures) (reads-as (at-equation .equation-in .ensures)) in
     let t = c .before .if2 .left in
     let l = s .pre .1 .1 .0 in
     let n = step-rows (s .pre .0 .1 .0) (a .y .0) (s .pre .1 .1 .0 .0) (e .operator) (e .first) (e .second) (e .block) (e .kind) r (omega arith) in
@@ -74,7 +75,7 @@ returns-3 c =
     let s = at-equation .before .before .before .before .before .before .before .before .before .before in
     let a = s .args in
     let e = at-equation .equation-in .result in
-    let r = word-read (a .equations .now) (a .y .0) _ (e .operator) (e .first) (e .second) (e .block) (e .kind) (at-equation .before .word-at .ensures) (at-equation .equation-in .ensures) in
+    let r = word-read (a .equations .now) (a .y .0) _ (e .operator) (e .first) (e .second) (e .block) (e .kind) (at-equation .before .word-at .ensures) (reads-as (at-equation .equation-in .ensures)) in
     let t = at-step .before .before .if2 .left in
     λ labels d told. tells-step d (a .y .0) (s .pre .1 .1 .0 .0) (e .operator) (e .first) (e .second) (e .block) (e .kind) r (a .changes .now) (a .values .now) (a .marks .now) (s .pre .1 .1 .1) told _ _ (omega arith) (s .pre .1 .0) (at-step .shift-step .ensures)
 

@@ -3,12 +3,13 @@ use mathlib.Core.Path.{_≡_, sym, ap, ap₂, _∙_}
 use mathlib.Core.Bool.{Bool, not}
 use Prim.Native.Nat.{ℕ, _≤_, _<_}
 use native.Mathlib.Omega.{arith}
+use Rattle.engine_table.specs.Table.{reads-as}
 use Rattle.lists.specs.Lists.{any}
 use Rattle.lists.specs.Tests.{not-out, not-not}
 use Rattle.rules.specs.Moves.{target}
 use Rattle.moves.specs.Ascending.{moves-ascend}
-use Rattle.words.specs.EquationWords.{drawn-sound}
-use Rattle.words.specs.Part.{ownMoves}
+use Rattle.engine_table.specs.EquationWords.{drawn-sound}
+use Rattle.engine_table.specs.Part.{ownMoves}
 use Rattle.engine_turn.specs.Scene.{sceneOf, hasFrom}
 use Rattle.engine_turn.specs.Inside.{targets-inside, along-join, along-step, join-inside, step-inside}
 use Rattle.engine_turn.specs.VisitLaws.{fails-join, fails-step}
@@ -45,7 +46,7 @@ has-requires c κs =
     let g = at-start .pre .0 in
     let l = at-start .pre .1 .0 in
     let e = at-equation-in .equation-in .result in
-    let r = at-equation-in .equation-in .ensures in
+    let r = reads-as (at-equation-in .equation-in .ensures) in
     let six = along-join g (at-start .pre .1 .1) (not-out (a .step) (at-if1 .if1 .taken)) in
     let o : e .operator < 6 = let k = r .is-operator in omega arith in
     let i = join-inside g l (e .operator) (e .first) (e .second) (e .block) (e .kind) r o in
@@ -60,7 +61,7 @@ has-requires-2 c κs =
     let g = at-start .pre .0 in
     let l = at-start .pre .1 .0 in
     let e = at-equation-in .equation-in .result in
-    let r = at-equation-in .equation-in .ensures in
+    let r = reads-as (at-equation-in .equation-in .ensures) in
     let six = along-join g (at-start .pre .1 .1) (not-out (a .step) (at-if1 .if1 .taken)) in
     let o : e .operator < 6 = let k = r .is-operator in omega arith in
     let i = join-inside g l (e .operator) (e .first) (e .second) (e .block) (e .kind) r o in
@@ -75,7 +76,7 @@ returns c =
     let g = at-start .pre .0 in
     let l = at-start .pre .1 .0 in
     let e = at-equation-in .equation-in .result in
-    let r = at-equation-in .equation-in .ensures in
+    let r = reads-as (at-equation-in .equation-in .ensures) in
     let six = along-join g (at-start .pre .1 .1) (not-out (a .step) (at-if1 .if1 .taken)) in
     let o : e .operator < 6 = let k = r .is-operator in omega arith in
     let scene = sceneOf (a .sizes) (a .equations .now) (a .moves .now) (a .values .now) (a .from) in
@@ -90,7 +91,7 @@ leads-from-requires c κs =
     let g = at-start .pre .0 in
     let l = at-start .pre .1 .0 in
     let e = at-equation-in .equation-in .result in
-    let r = at-equation-in .equation-in .ensures in
+    let r = reads-as (at-equation-in .equation-in .ensures) in
     let yes = sym (not-not (a .step)) ∙ ap not (at-if1 .if1 .left) in
     let six = along-step g (at-start .pre .1 .1) yes in
     let o : 6 ≤ e .operator = let k = r .is-operator in omega arith in
@@ -107,7 +108,7 @@ returns-2 c =
     let g = at-start .pre .0 in
     let l = at-start .pre .1 .0 in
     let e = at-equation-in .equation-in .result in
-    let r = at-equation-in .equation-in .ensures in
+    let r = reads-as (at-equation-in .equation-in .ensures) in
     let yes = sym (not-not (a .step)) ∙ ap not (at-if1 .if1 .left) in
     let six = along-step g (at-start .pre .1 .1) yes in
     let o : 6 ≤ e .operator = let k = r .is-operator in omega arith in

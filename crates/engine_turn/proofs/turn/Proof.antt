@@ -2,7 +2,7 @@
 use Prim.Native.Nat.{_-_}
 use native.Mathlib.Omega.{arith}
 use lib.ListN.{getD, length-set}
-use Rattle.words.specs.Table.{waiter}
+use Rattle.engine_table.specs.Table.{waiter}
 use Rattle.engine_turn.specs.Turns.{roundOf}
 use Rattle.engine_turn.specs.TurnRuns.{front-held, InFront, x-inside, q-inside, p-inside, turn-standing, turn-bounded, turn-room, turn-done}
 use borrow.Author.Needs.{needs}

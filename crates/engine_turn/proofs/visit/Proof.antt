@@ -6,7 +6,7 @@ use native.Mathlib.Omega.{arith}
 use lib.ListN.{getD}
 use lib.Dec.{eqb}
 use Rattle.lists.specs.Tests.{eqb-in, eqb-no}
-use Rattle.words.specs.Limits.{limits}
+use Rattle.engine_table.specs.Limits.{limits}
 use Rattle.engine_own.specs.Pairs.{pair-low}
 use Rattle.engine_index.specs.Operands.{waitsIn, ownerIn}
 use Rattle.engine_turn.specs.Scene.{sceneOf, hasFrom}

@@ -5,8 +5,8 @@ use mathlib.Core.List.{[], _∷_}
 use Prim.Native.Nat.{ℕ, suc, _+_, _-_, _<_}
 use native.Mathlib.Omega.{arith}
 use lib.ListN.{length, getD}
-use Rattle.words.specs.Limits.{limits}
-use Rattle.words.specs.Table.{waitingOf}
+use Rattle.engine_table.specs.Limits.{limits}
+use Rattle.words.specs.Words.{waitingOf}
 use Rattle.engine_index.specs.Indexed.{keyOf}
 use Rattle.engine_index.specs.Operands.{ownerIn}
 use Rattle.engine_turn.specs.Scene.{sceneOf, lineOf, visitAll, sourceOf, Along, Room}

@@ -4,8 +4,9 @@ use Prim.Native.Nat.{ℕ}
 use lib.ListN.{getD}
 use lib.Dec.{eqb}
 use mir.Val.{boolByte}
+use Rattle.rules.specs.declared.Equation.{Equation}
 use Rattle.rules.specs.Session.{unword}
-use Rattle.words.specs.Bits.{byte-bit}
+use Rattle.words.specs.WordLaws.{byte-bit}
 use borrow.Author.Needs.{needs}
 use Rattle.engine_values.proofs.own_byte.Statement.{statement}
 use Rattle.engine_values.proofs.own_byte.Tie as tie
@@ -25,7 +26,7 @@ returns c =
     let at-word = at-equation .before in
     let a = at-word .before .before .args in
     let k = unword (getD (a .equations .now) (a .x) 0) .kind in
-    ap (λ (k : ℕ). boolByte (eqb k 1)) (at-equation .equation-in .ensures .is-kind ∙ ap (λ (w : ℕ). unword w .kind) (at-word .word-at .ensures)) ∙ byte-bit (eqb k 1)
+    ap (λ (k : ℕ). boolByte (eqb k 1)) (ap (λ (e : Equation). e .kind) (at-equation .equation-in .ensures) ∙ ap (λ (w : ℕ). unword w .kind) (at-word .word-at .ensures)) ∙ byte-bit (eqb k 1)
 
 pub own-byte-spec : {M : Type 1} → statement M
 own-byte-spec = tie.close (tie.spec word-at-requires equation-in-requires cast-result returns)

@@ -7,7 +7,7 @@ use lib.ListN.{length, getD}
 use lib.Dec.{eqb}
 use Rattle.lists.specs.Lists.{bit}
 use Rattle.rules.specs.Session.{unword}
-use Rattle.words.specs.Lent.{kindIn}
+use Rattle.engine_table.specs.Lent.{kindIn}
 use Rattle.engine_values.specs.Starts.{filled, filled-none, filled-long, filled-row, filled-bits, ownByte, row-end, row-of}
 use borrow.Author.Needs.{needs}
 use Rattle.engine_values.proofs.own_values.Statement.{statement}

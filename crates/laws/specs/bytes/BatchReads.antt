@@ -13,9 +13,10 @@ use Rattle.rules.specs.Moves.{pack, source, action, target}
 use Rattle.rules.specs.Model.{moveOk}
 use Rattle.rules.specs.Records.{Rec, field, widths, Turn, no, next, accepted, bytesOf, over}
 use Rattle.rules.specs.Batch.{Change, Batch, Place, first, after, changeDemands, stepBatch, putBatch, emptyBatch, readBatch, changeRec, changeRecs, encodeBatch, changesOk, batchOk}
+use Rattle.words.specs.WordLaws.{pack-parts}
 use Rattle.rules.specs.declared.Sizes.{Sizes}
 use Rattle.laws.specs.bytes.RecordLaws.{Walks, done, more, Met, met, judged, Writable, AllWritable, AreBytes, run-written, run-read}
-use Rattle.laws.specs.bytes.Walks.{small, packed}
+use Rattle.laws.specs.bytes.Walks.{small}
 use Rattle.laws.specs.bytes.ReadSpells.{rec-is, unpacked}
 
 kind-is : (b : Bool) → (eqb (cond b 8 9) 6 ≡ false) × ((eqb (cond b 8 9) 8 || eqb (cond b 8 9) 9) ≡ true) × (eqb (cond b 8 9) 8 ≡ b)
@@ -31,7 +32,7 @@ module _ (z : Sizes) (ok : sizesOk z ≡ true) where
   changes-in n [] h o = done refl refl
   changes-in n (c ∷ cs) h o =
       let k = simp and-is at o in
-      let p = packed z (c .move) ok (k .0) in
+      let p = pack-parts (c .move) in
       let l : n < most-changes = omega arith in
       let t = kind-is (c .insert) in
       let e : stepBatch z (after n) (changeRec c) ≡ next (after (suc n)) =

@@ -11,7 +11,8 @@ use lib.Dec.{eqb, ltb}
 use Rattle.lists.specs.Lists.{all}
 use Rattle.lists.specs.Tests.{tests, tell, and-is, ltb-is, leb-is, eqb-is}
 use Rattle.rules.specs.Limits.{sizesOk}
-use Rattle.rules.specs.Model.{Equation, Model, labelOk, moveOk, operandsOk, equationsOk, movesOk, wellFormed, WellFormed, signed, signOk, equationIn, styleOk, placed}
+use Rattle.rules.specs.Model.{Model, labelOk, moveOk, operandsOk, equationsOk, movesOk, wellFormed, WellFormed, signed, signOk, equationIn, styleOk, placed}
+use Rattle.rules.specs.declared.Equation.{Equation}
 use Rattle.rules.specs.Records.{Rec, widths, accepted, onto}
 use Rattle.rules.specs.Rooms.{Lengths, lentOk}
 use Rattle.rules.specs.Load.{step, put, last, settleStyle, readModel}

@@ -12,7 +12,9 @@ use Rattle.lists.specs.Lists.{all, someBelow}
 use Rattle.lists.specs.Tests.{tests, tell, and-in, ltb-is, leb-is, eqb-is, eqb-no, and-is}
 use Rattle.rules.specs.Limits.{most-moves, sizesOk}
 use Rattle.rules.specs.Moves.{pack, source, action, target}
-use Rattle.rules.specs.Model.{Equation, Model, labelOk, moveOk, runOf, equationsOk, movesOk, wellFormed, WellFormed, signed, signOk, equationIn, guilty, componentIn, placed, styleOk}
+use Rattle.rules.specs.Model.{Model, labelOk, moveOk, runOf, equationsOk, movesOk, wellFormed, WellFormed, signed, signOk, equationIn, guilty, componentIn, placed, styleOk}
+use Rattle.words.specs.WordLaws.{parts-pack}
+use Rattle.rules.specs.declared.Equation.{Equation}
 use Rattle.rules.specs.Records.{Rec, field, widths, Turn, no, back, next, demand, accepted, bytesOf, over, run, parts}
 use Rattle.rules.specs.Rooms.{Lengths, lentOk}
 use Rattle.rules.specs.Load.{sizesOf, Sofar, State, before, inside, started, blockFits, labelDemands, blockDemands, equationDemands, moveDemands, movesDue, endDemands, liveDemands, afterLive, sizesDemands, afterLabel, afterBlock, afterEquation, afterMove, signedOf, signOf, signedDemands, afterSigned, askChains, step, put, last, lastOf, settleStyle, readModel, putMove, sayIn}
@@ -58,12 +60,7 @@ zero-ok z = ltb-is _ _ .1 (pow-pos (z .propositions))
 pub unpacked : (z : Sizes) (s a t : ℕ) → sizesOk z ≡ true → moveOk z s a t ≡ true
     → (source (pack s a t) ≡ s) × (action (pack s a t) ≡ a) × (target (pack s a t) ≡ t)
 unfolding moveOk
-unpacked z s a t ok h =
-    let k = simp tests at h in
-    let b = small z ok in
-    let e5 : source (pack s a t) ≡ s = omega arith in
-    let e6 : action (pack s a t) ≡ a = omega arith in
-    (e5, e6, omega arith)
+unpacked z s a t ok h = let k = simp tests at h in let b = small z ok in parts-pack s a t (omega arith) (omega arith)
 
 -- After the last equation with a sign, no closed chain holds both signs.
 abbrev pub Pure : Sofar → Type 0

@@ -8,7 +8,8 @@ use native.Mathlib.Omega.{arith}
 use lib.ListN.{length, length-append}
 use lib.Dec.{eqb}
 use Rattle.lists.specs.Tests.{tests, tell, and-is, eqb-is, leb-is}
-use Rattle.rules.specs.Model.{Equation, Model, equationsOk, wellFormed, WellFormed, signed, styleOk}
+use Rattle.rules.specs.Model.{Model, equationsOk, wellFormed, WellFormed, signed, styleOk}
+use Rattle.rules.specs.declared.Equation.{Equation}
 use Rattle.rules.specs.Records.{Rec, widths, digits, writes, bytesOf, accepted}
 use Rattle.rules.specs.Rooms.{Lengths, lentOk}
 use Rattle.rules.specs.Load.{readModel}

@@ -12,7 +12,9 @@ use Rattle.lists.specs.Lists.{all, someBelow}
 use Rattle.lists.specs.Tests.{tests, tell, and-in, ltb-is, leb-is, eqb-is, eqb-no, and-is, ltb-no, or-in}
 use Rattle.rules.specs.Limits.{most-moves, sizesOk}
 use Rattle.rules.specs.Moves.{pack, source, action, target}
-use Rattle.rules.specs.Model.{Equation, Model, labelOk, moveOk, operandsOk, namesOk, runOf, equationsOk, movesOk, wellFormed, signed, signOk, equationIn, guilty, numbered, styleOk}
+use Rattle.rules.specs.Model.{Model, labelOk, moveOk, operandsOk, namesOk, runOf, equationsOk, movesOk, wellFormed, signed, signOk, equationIn, guilty, numbered, styleOk}
+use Rattle.words.specs.WordLaws.{pack-parts}
+use Rattle.rules.specs.declared.Equation.{Equation}
 use Rattle.rules.specs.Records.{Rec, next, over}
 use Rattle.rules.specs.Rooms.{Lengths, lentOk}
 use Rattle.rules.specs.Load.{Moves, Sofar, State, before, inside, started, movesDue, blockFits, labelDemands, blockDemands, equationDemands, moveDemands, endDemands, sizesDemands, afterLabel, afterBlock, afterEquation, afterMove, signedDemands, afterSigned, askChains, step, put, last}
@@ -65,11 +67,6 @@ run-last z i b k (e ∷ es) h q =
       | inr t ↦ let g = rw t at (f .0 .0 .0) in let k = simp tests at g in absurd (omega arith)
     ]
 
--- A move in range is the number of its parts.
-pub packed : (z : Sizes) (p : ℕ) → sizesOk z ≡ true → moveOk z (source p) (action p) (target p) ≡ true → pack (source p) (action p) (target p) ≡ p
-unfolding moveOk
-packed z p s h = let k = simp tests at h in let b = small z s in omega arith
-
 zeros : (k : ℕ) (ls : List ℕ) → 0 ∷ (replicate k 0 ++ ls) ≡ replicate k 0 ++ 0 ∷ ls
 zeros zero ls = refl
 zeros (suc k) ls = ap (λ (t : List ℕ). 0 ∷ t) (zeros k ls)
@@ -100,7 +97,7 @@ module _ (l : Lengths) where
   moves-in x (p ∷ ms) z d o =
       let n = o .room in
       let k = simp and-is at (o .order) in
-      let q = packed (x .sizes) p z (k .0 .1) in
+      let q = pack-parts p in
       let f : x .moves .count < min most-moves (l .moves) = omega arith in
       let e : step l (inside x) (moveRec p) ≡ next (inside (afterMove x p)) =
       met (moveDemands l x (source p) (action p) (target p)) _ (d, (k .0 .1, (rw q (k .0 .0), (ltb-is _ _ .1 f, tt)))) ∙ rw q refl in

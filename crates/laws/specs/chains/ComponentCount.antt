@@ -15,7 +15,8 @@ use Rattle.lists.specs.Tests.{tell, not-out, ltb-no}
 use Rattle.lists.specs.Sets.{size}
 use Rattle.lists.specs.Ranges.{some-no}
 use Rattle.rules.specs.Chains.{Names, together, reach, stands, component}
-use Rattle.rules.specs.Model.{Equation, equationIn, namesIn, componentIn, placed, blocksIn}
+use Rattle.rules.specs.Model.{equationIn, namesIn, componentIn, placed, blocksIn}
+use Rattle.rules.specs.declared.Equation.{Equation}
 use Rattle.laws.specs.chains.ChainLaws.{Inside}
 use Rattle.laws.specs.chains.Components.{before, reach-own, reach-same, together-back, component-below}
 use Rattle.laws.specs.chains.Placed.{numbered-length, numbered-is}

@@ -11,7 +11,8 @@ use lib.Dec.{eqb}
 use Rattle.lists.specs.Tests.{tell, and-is, eqb-is, ltb-is}
 use Rattle.lists.specs.Sets.{size-le}
 use Rattle.rules.specs.Chains.{stands}
-use Rattle.rules.specs.Model.{Equation, Model, equationsOk, signed, namesIn, componentIn, styleOk, blocksIn, blocksOf, wellFormed, WellFormed}
+use Rattle.rules.specs.Model.{Model, equationsOk, signed, namesIn, componentIn, styleOk, blocksIn, blocksOf, wellFormed, WellFormed}
+use Rattle.rules.specs.declared.Equation.{Equation}
 use Rattle.rules.specs.declared.Sizes.{Sizes}
 use Rattle.laws.specs.bytes.Walks.{small}
 use Rattle.laws.specs.chains.Components.{component-below}

@@ -13,7 +13,8 @@ use lib.Seq.{getD-drop}
 use lib.Dec.{eqb, ltb}
 use Rattle.lists.specs.Tests.{_∈_, tests, tell, ltb-is, eqb-is, and-is, ltb-no, and-in, leb-is}
 use Rattle.rules.specs.Moves.{source, action, target}
-use Rattle.rules.specs.Model.{Equation, namesOk, operandsOk, runOf, equationsOk, movesOk, moveOk, nothing, equationIn, namesOf, namesIn, signOk, componentIn, blocksIn, signed, styleOk}
+use Rattle.rules.specs.Model.{namesOk, operandsOk, runOf, equationsOk, movesOk, moveOk, nothing, equationIn, namesOf, namesIn, signOk, componentIn, blocksIn, signed, styleOk}
+use Rattle.rules.specs.declared.Equation.{Equation}
 use Rattle.rules.specs.declared.Sizes.{Sizes}
 use Rattle.laws.specs.bytes.Walks.{eq-count, run-le}
 use Rattle.laws.specs.chains.ChainLaws.{Inside}

@@ -10,7 +10,8 @@ use lib.ListN.{length}
 use lib.Dec.{eqb}
 use Rattle.lists.specs.Tests.{tell, and-in, and-is, or-left, or-right, or-out, eqb-is, eqb-in, eqb-out}
 use Rattle.lists.specs.Ranges.{same-truth, some-no}
-use Rattle.rules.specs.Model.{Equation, equationsOk, signed, equationIn, namesIn, guilty, componentIn, styleOk}
+use Rattle.rules.specs.Model.{equationsOk, signed, equationIn, namesIn, guilty, componentIn, styleOk}
+use Rattle.rules.specs.declared.Equation.{Equation}
 use Rattle.rules.specs.Values.{greatestIn}
 use Rattle.rules.specs.declared.Sizes.{Sizes}
 use Rattle.laws.specs.chains.Components.{component-own, together-sign}

@@ -12,7 +12,8 @@ use Rattle.lists.specs.Lists.{someBelow}
 use Rattle.lists.specs.Tests.{and-in, and-is, not-out, eqb-out, eqb-in}
 use Rattle.lists.specs.Ranges.{each-in, each-out}
 use Rattle.rules.specs.Chains.{Names, mixed, component}
-use Rattle.rules.specs.Model.{Equation, equationIn, namesIn, guilty, componentIn, numbered, placed, signOk, signsOk}
+use Rattle.rules.specs.Model.{equationIn, namesIn, guilty, componentIn, numbered, placed, signOk, signsOk}
+use Rattle.rules.specs.declared.Equation.{Equation}
 use Rattle.rules.specs.Records.{Rec}
 use Rattle.rules.specs.Spelling.{signedRec, signedRecs}
 use Rattle.rules.specs.declared.Sizes.{Sizes}

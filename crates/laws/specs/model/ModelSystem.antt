@@ -14,7 +14,8 @@ use Rattle.lists.specs.Lists.{is, any, all}
 use Rattle.lists.specs.Tests.{_∈_, tests, tell, and-is, ltb-in, ltb-out, ltb-no}
 use Rattle.systems.specs.solution.System.{Frame, Fits, ev, eval}
 use Rattle.rules.specs.Moves.{target}
-use Rattle.rules.specs.Model.{Equation, Model, equationsOk, moveOk, movesOk, wellFormed, WellFormed, blocksOf}
+use Rattle.rules.specs.Model.{Model, equationsOk, moveOk, movesOk, wellFormed, WellFormed, blocksOf}
+use Rattle.rules.specs.declared.Equation.{Equation}
 use Rattle.rules.specs.Rooms.{pairsOf}
 use Rattle.rules.specs.Values.{Values, Term, constant, proposition, join, step, pair, state, variable, stateOf, variableOf, terms, termOf, termAt, equationAt, blockOf, greatest, holds, own, targets, leaningsBy, leanings, givesBy, gives}
 use Rattle.rules.specs.declared.State.{State}

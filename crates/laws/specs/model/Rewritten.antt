@@ -19,7 +19,8 @@ use Rattle.systems.specs.solution.FinerBlocks.{Finer, finer-solve}
 use Rattle.rules.specs.Limits.{sizesOk}
 use Rattle.rules.specs.Chains.{together, mixed}
 use Rattle.rules.specs.Moves.{source, action, target}
-use Rattle.rules.specs.Model.{Equation, Model, labelOk, moveOk, movesOk, operandsOk, signOk, equationIn, namesIn, guilty, componentIn, numbered, placed, styleOk, blocksOf, wellFormed, WellFormed}
+use Rattle.rules.specs.Model.{Model, labelOk, moveOk, movesOk, operandsOk, signOk, equationIn, namesIn, guilty, componentIn, numbered, placed, styleOk, blocksOf, wellFormed, WellFormed}
+use Rattle.rules.specs.declared.Equation.{Equation}
 use Rattle.rules.specs.Rooms.{Rooms, lengthsOf, pairsOf, roomsOk, workOk, lentOk}
 use Rattle.rules.specs.Spelling.{encode}
 use Rattle.rules.specs.Calls.{Left, bits, load}

@@ -10,7 +10,8 @@ use native.Mathlib.Omega.{arith}
 use lib.ListN.{length, replicate, length-append, length-replicate}
 use Rattle.lists.specs.Lists.{all}
 use Rattle.lists.specs.Tests.{tests, and-in, and-is, eqb-is, ltb-is, leb-is}
-use Rattle.rules.specs.Model.{Equation, labelOk, signOk, equationIn, namesIn}
+use Rattle.rules.specs.Model.{labelOk, signOk, equationIn, namesIn}
+use Rattle.rules.specs.declared.Equation.{Equation}
 use Rattle.rules.specs.Records.{Rec, field, widths, bytes, bytesOf, Parts, part, partsFrom, parts, Turn, no, back, next, over, demand, refused, onTurn, run}
 use Rattle.rules.specs.Rooms.{Lengths}
 use Rattle.rules.specs.Load.{Sofar, State, before, inside, started, labelDemands, liveDemands, afterLive, sizesDemands, signedDemands, afterLabel, afterSigned, askChains, sizesOf, signedOf, signOf, step, put, last, settleStyle, readModel}

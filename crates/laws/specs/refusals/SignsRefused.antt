@@ -13,7 +13,8 @@ use Rattle.lists.specs.Lists.{all, someBelow, lowest}
 use Rattle.lists.specs.Tests.{tests, tell, not-out, and-in, and-is, ltb-is, leb-is, eqb-is, eqb-no}
 use Rattle.lists.specs.Ranges.{some-in, lowest-some}
 use Rattle.rules.specs.Limits.{sizesOk}
-use Rattle.rules.specs.Model.{Equation, labelOk, signOk, equationIn, namesIn, guilty, numbered}
+use Rattle.rules.specs.Model.{labelOk, signOk, equationIn, namesIn, guilty, numbered}
+use Rattle.rules.specs.declared.Equation.{Equation}
 use Rattle.rules.specs.Records.{Rec, widths, bytes, bytesOf, Parts, ends, broken, part, partsFrom, Turn, no, back, next, over, demand, refused, onto, atEnd, run, parts, field}
 use Rattle.rules.specs.Rooms.{Lengths, lentOk}
 use Rattle.rules.specs.Load.{Sofar, State, before, inside, started, labelDemands, blockDemands, equationDemands, moveDemands, endDemands, liveDemands, sizesDemands, afterLabel, afterEquation, signOf, signedDemands, afterSigned, askChains, step, put, last, settleStyle, readModel}

@@ -11,7 +11,8 @@ use lib.Dec.{eqb}
 use Rattle.lists.specs.Lists.{someBelow}
 use Rattle.lists.specs.Tests.{tests, tell, not-out, and-is, and-no, eqb-is, eqb-no, ltb-is}
 use Rattle.rules.specs.Moves.{pack}
-use Rattle.rules.specs.Model.{Equation, Model, signed, wellFormed, WellFormed, guilty, noneHangs}
+use Rattle.rules.specs.Model.{Model, signed, wellFormed, WellFormed, guilty, noneHangs}
+use Rattle.rules.specs.declared.Equation.{Equation}
 use Rattle.rules.specs.Records.{Rec, field, widths, bytes, bytesOf, Parts, ends, broken, part, partsFrom, parts, Turn, no, back, next, over, demand, refused, onto, atEnd, onTurn, run}
 use Rattle.rules.specs.Rooms.{Lengths, lentOk}
 use Rattle.rules.specs.Load.{Sofar, State, before, inside, started, movesDue, sizesOf, signOf, sizesDemands, liveDemands, labelDemands, blockDemands, equationDemands, signedDemands, moveDemands, endDemands, afterLive, afterLabel, afterBlock, afterEquation, afterSigned, afterMove, askChains, blockFits, step, put, last, settleStyle, readModel}

@@ -12,11 +12,13 @@ use Rattle.lists.specs.Lists.{all, fill}
 use Rattle.lists.specs.Tests.{tests, and-in, and-is, leb-is, eqb-is}
 use Rattle.rules.specs.Limits.{most-moves, sizesOk}
 use Rattle.rules.specs.Moves.{stampOf}
-use Rattle.rules.specs.Model.{Equation, Model, wellFormed, WellFormed, signOk, equationIn}
+use Rattle.rules.specs.Model.{Model, wellFormed, WellFormed, signOk, equationIn}
+use Rattle.rules.specs.declared.Equation.{Equation}
 use Rattle.rules.specs.Rooms.{Rooms, lengthsOf, pairsOf, roomsOk, indexAfter, queueAfter}
 use Rattle.rules.specs.Session.{word, unword, held, sessionOf, countsOk, restOk}
 use Rattle.rules.specs.declared.Sizes.{Sizes}
 use Rattle.rules.specs.declared.Session.{Session}
+use Rattle.words.specs.WordLaws.{words-unwords, unword-word}
 use Rattle.laws.specs.chains.Named.{names-well, style-sign}
 use Rattle.laws.specs.bytes.ReadAccepts.{operands-small}
 
@@ -37,26 +39,6 @@ pub record Holds (s : Session) (l : Rooms) (m : Model) : Type 0 where
   pub marks : all (λ v. leb v 3) (take (pairsOf (s .sizes)) (l .marks)) ≡ true
   pub rooms : roomsOk (lengthsOf l) (s .sizes) ≡ true
   pub room : length (m .moves) ≤ length (l .moves)
-
--- An equation as a number, and back.
-word-unword : (w : ℕ) → word (unword w) ≡ w
-word-unword w = omega arith
-
-words : (l : List ℕ) → map word (map unword l) ≡ l
-words [] = refl
-words (w ∷ l) = ap₂ (λ (x : ℕ) (t : List ℕ). x ∷ t) (word-unword w) (words l)
-
-pub unword-word : (e : Equation) → e .operator < 256 → e .first < 256 → e .second < 256 → e .kind ≤ 1 → unword (word e) ≡ e
-unword-word e a b c d =
-    let q1 : word e / 256 ≡ e .first + 256 * e .second + 65536 * (2 * e .block + e .kind) = omega arith in
-    let q2 : (e .first + 256 * e .second + 65536 * (2 * e .block + e .kind)) / 256 ≡ e .second + 256 * (2 * e .block + e .kind) = omega arith in
-    let q3 : (e .second + 256 * (2 * e .block + e .kind)) / 256 ≡ 2 * e .block + e .kind = omega arith in
-    let e1 : word e % 256 ≡ e .operator = omega arith in
-    let e2 : word e / 256 % 256 ≡ e .first = rw q1 (omega arith) in
-    let e3 : word e / 256 / 256 % 256 ≡ e .second = rw (q1, q2) (omega arith) in
-    let e4 : word e / 256 / 256 / 256 / 2 ≡ e .block = rw (q1, q2, q3) (omega arith) in
-    let e5 : word e / 256 / 256 / 256 % 2 ≡ e .kind = rw (q1, q2, q3) (omega arith) in
-    λ i. record { operator = e1 i; first = e2 i; second = e3 i; block = e4 i; kind = e5 i }
 
 -- Equations in range are what their words hold.
 pub signs-unwords : (z : Sizes) → sizesOk z ≡ true → (es : List Equation)
@@ -80,7 +62,7 @@ session-holds s l h =
         sizes = refl;
         live = refl;
         labels = refl;
-        equations = sym (words _);
+        equations = sym (words-unwords _);
         moves = refl;
         count = n;
         stamp = eqb-is _ _ .0 (k .1 .1);

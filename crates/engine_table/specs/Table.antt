@@ -1,17 +1,18 @@
--- A model as it lies in rooms that are cut to their lengths, and when it is one that a load accepts. Definitions only.
-use mathlib.Core.Path.{_≡_}
+-- A model as it lies in rooms that are cut to their lengths, and when it is one that a load accepts. Assumes nothing.
+use mathlib.Core.Path.{_≡_, ap}
 use mathlib.Core.Bool.{Bool, not}
 use mathlib.Core.List.{List, map}
-use Prim.Native.Nat.{ℕ, _+_, _*_, _/_, _%_}
+use Prim.Native.Nat.{ℕ, _+_, _*_}
 use lib.ListN.{length, getD}
 use lib.Dec.{eqb}
 use Rattle.lists.specs.Lists.{is}
 use Rattle.rules.specs.Moves.{target}
-use Rattle.rules.specs.Model.{Equation, Model, WellFormed}
-use Rattle.rules.specs.Batch.{Change}
+use Rattle.rules.specs.Model.{Model, WellFormed}
+use Rattle.rules.specs.declared.Equation.{Equation}
 use Rattle.rules.specs.Session.{unword}
 use Rattle.rules.specs.Calls.{valueAt}
 use Rattle.rules.specs.declared.Sizes.{Sizes}
+use Rattle.words.specs.Words.{variableIn, stateIn}
 
 -- The sizes, and the words of the labels, the equations and the moves.
 pub record Table : Type 0 where
@@ -42,6 +43,16 @@ pub record ReadsAs (e : Equation) (operator first second block kind : ℕ) : Typ
   pub is-block : block ≡ e .block
   pub is-kind : kind ≡ e .kind
 
+-- An equation reads as one that it is.
+pub reads-as : {e f : Equation} → e ≡ f → ReadsAs f (e .operator) (e .first) (e .second) (e .block) (e .kind)
+reads-as h = record {
+  is-operator = ap (λ (x : Equation). x .operator) h;
+  is-first = ap (λ (x : Equation). x .first) h;
+  is-second = ap (λ (x : Equation). x .second) h;
+  is-block = ap (λ (x : Equation). x .block) h;
+  is-kind = ap (λ (x : Equation). x .kind) h;
+}
+
 -- The equation of the variable x, as its word says.
 abbrev pub wordAt : Table → ℕ → Equation
 wordAt t x = unword (getD (t .equations) x 0)
@@ -58,16 +69,6 @@ pairIn z x s = x * z .states + s
 unfoldable pub leadsTo : Sizes → List ℕ → ℕ → Bool → ℕ → Bool
 leadsTo z values x b q = is (not b) (valueAt values (x * z .states + target q))
 
--- A change as one number: twice the move, and 1 more for an insert.
-abbrev pub changeOf : ℕ → Change
-changeOf w = record { insert = eqb (w % 2) 1; move = w / 2 }
-
-abbrev pub changesOf : List ℕ → List Change
-changesOf l = map changeOf l
-
--- A pair that waits, as one number: 1,024 times the variable, and the state. The pair that such a number stands for.
-abbrev pub waitingOf : ℕ → ℕ → ℕ
-waitingOf x s = 1024 * x + s
-
+-- The pair that a number of the queue stands for.
 abbrev pub waiter : Sizes → ℕ → ℕ
-waiter z w = pairIn z (w / 1024) (w % 1024)
+waiter z w = pairIn z (variableIn w) (stateIn w)

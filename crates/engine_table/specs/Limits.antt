@@ -9,14 +9,15 @@ use lib.ListN.{length, getD}
 use Rattle.lists.specs.Tests.{tests, and-is}
 use Rattle.rules.specs.Limits.{most-states, most-actions, most-variables, most-moves}
 use Rattle.rules.specs.Moves.{source, action, target}
-use Rattle.rules.specs.Model.{Equation, moveOk, movesOk, wellFormed}
+use Rattle.rules.specs.Model.{moveOk, movesOk, wellFormed}
+use Rattle.rules.specs.declared.Equation.{Equation}
 use Rattle.rules.specs.Rooms.{pairsOf}
 use Rattle.rules.specs.declared.Sizes.{Sizes}
 use Rattle.laws.specs.bytes.Walks.{small}
 use Rattle.laws.specs.chains.FewBlocks.{blocks-few}
 use Rattle.laws.specs.chains.Named.{variable-block}
-use Rattle.words.specs.Table.{Table, modelOf, Drawn, wordAt}
-use Rattle.words.specs.EquationWords.{formula-word, drawn-sound}
+use Rattle.engine_table.specs.Table.{Table, modelOf, Drawn, wordAt}
+use Rattle.engine_table.specs.EquationWords.{formula-word, drawn-sound}
 
 -- Each move of an ascending list inside the limits is inside them.
 pub move-at : (z : Sizes) (least : ℕ) (l : List ℕ) (j : ℕ) → movesOk z least l ≡ true → j < length l

@@ -3,8 +3,8 @@ use Prim.Native.Nat.{_*_, _≤_}
 use native.Mathlib.Nat.{mul-le-mul}
 use native.Mathlib.Omega.{arith}
 use borrow.Author.Needs.{needs}
-use Rattle.limits.proofs.pair_of.Statement.{statement}
-use Rattle.limits.proofs.pair_of.Tie as tie
+use Rattle.words.proofs.pair_of.Statement.{statement}
+use Rattle.words.proofs.pair_of.Tie as tie
 
 cast-result : tie.Need-cast-result
 cast-result c = search needs

@@ -5,8 +5,6 @@ use Prim.Native.Nat.{ℕ, zero, suc, _/_, _%_, _^_, _≤_, _<_}
 use native.Mathlib.Nat.{pow-le-pow-right, div-eq-of-lt}
 use native.Mathlib.Omega.{arith}
 use lib.Dec.{eqb}
-use mir.Val.{boolByte}
-use Rattle.lists.specs.Lists.{bit}
 use Rattle.systems.specs.machine.Machine.{pastOf}
 
 -- A word has no bit from 32 on.
@@ -26,8 +24,3 @@ settled b x zero k = absurd (omega arith)
 settled b x (suc zero) k = absurd (omega arith)
 settled b x (suc (suc zero)) k = absurd (omega arith)
 settled b x (suc (suc (suc m))) k = refl
-
--- A truth value as a byte is its bit.
-pub byte-bit : (b : Bool) → boolByte b ≡ bit b
-byte-bit true = refl
-byte-bit false = refl

@@ -9,8 +9,8 @@ use Rattle.systems.specs.machine.Machine as machine
 use Rattle.rules.specs.Calls.{valueAt}
 use Rattle.rules.specs.Values.{leanings, gives}
 use Rattle.laws.specs.model.ModelSystem.{frame, gives-eval}
-use Rattle.words.specs.Table.{Table, modelOf, Drawn, ownIn, pairIn}
-use Rattle.words.specs.EquationWords.{own-word, pair-inside}
+use Rattle.engine_table.specs.Table.{Table, modelOf, Drawn, ownIn, pairIn}
+use Rattle.engine_table.specs.EquationWords.{own-word, pair-inside}
 
 -- A truth value that is not the other one is this one.
 pub is-both : (b x : Bool) → is b x ≡ not (is (not b) x)

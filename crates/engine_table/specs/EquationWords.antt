@@ -9,14 +9,14 @@ use lib.ListN.{length, getD, List·getD-map}
 use lib.Arith.{digits-div, digits-mod}
 use lib.Dec.{eqb}
 use Rattle.systems.specs.machine.Machine.{own}
-use Rattle.rules.specs.Model.{Equation}
+use Rattle.rules.specs.declared.Equation.{Equation}
 use Rattle.rules.specs.Rooms.{pairsOf}
 use Rattle.rules.specs.Session.{unword}
 use Rattle.rules.specs.Values.{variable, blockOf, greatestIn, greatest}
 use Rattle.rules.specs.Values as values
 use Rattle.laws.specs.chains.OneKind.{greatest-is}
 use Rattle.laws.specs.model.ModelSystem.{frame, block-at, Sound, sound}
-use Rattle.words.specs.Table.{Table, modelOf, Drawn, wordAt, ownIn, pairIn}
+use Rattle.engine_table.specs.Table.{Table, modelOf, Drawn, wordAt, ownIn, pairIn}
 
 module _ {t : Table} (d : Drawn t) where
   -- The equation of a variable is what its word says.

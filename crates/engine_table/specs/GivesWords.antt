@@ -10,15 +10,16 @@ use lib.Dec.{eqb, ltb}
 use Rattle.lists.specs.Lists.{is, any, all}
 use Rattle.lists.specs.Tests.{tests, tell, and-is, ltb-no, ltb-is, eqb-out, eqb-no}
 use Rattle.rules.specs.Moves.{target}
-use Rattle.rules.specs.Model.{Equation, Model, operandsOk, wellFormed}
+use Rattle.rules.specs.Model.{Model, operandsOk, wellFormed}
+use Rattle.rules.specs.declared.Equation.{Equation}
 use Rattle.rules.specs.Calls.{valueAt}
 use Rattle.rules.specs.Values.{Values, constant, state, variable, terms, termOf, equationAt, termAt, holds, targets, givesBy, gives}
 use Rattle.rules.specs.declared.Sizes.{Sizes}
 use Rattle.rules.specs.declared.State.{State}
 use Rattle.laws.specs.bytes.Walks.{small}
-use Rattle.words.specs.Table.{Table, modelOf, Drawn, ReadsAs, wordAt, pairIn, leadsTo}
-use Rattle.words.specs.Part.{ownMoves, part-targets}
-use Rattle.words.specs.EquationWords.{formula-word, drawn-sound, variable-of, state-of}
+use Rattle.engine_table.specs.Table.{Table, modelOf, Drawn, ReadsAs, wordAt, pairIn, leadsTo}
+use Rattle.engine_table.specs.Part.{ownMoves, part-targets}
+use Rattle.engine_table.specs.EquationWords.{formula-word, drawn-sound, variable-of, state-of}
 
 -- A number with only two ways to be.
 pub two : (P : ℕ → Type 0) (k o : ℕ) → k ≤ o → o < suc (suc k) → P k → P (suc k) → P o

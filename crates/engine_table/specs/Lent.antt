@@ -16,10 +16,10 @@ use Rattle.rules.specs.Rooms.{pairsOf}
 use Rattle.rules.specs.Session.{unword}
 use Rattle.rules.specs.declared.Sizes.{Sizes}
 use Rattle.laws.specs.model.ModelSystem.{frame, Sound, sound}
-use Rattle.words.specs.Table as T
-use Rattle.words.specs.Table.{Table, tableIn, pairIn}
-use Rattle.words.specs.EquationWords.{own-word}
-use Rattle.words.specs.Limits as L
+use Rattle.engine_table.specs.Table as T
+use Rattle.engine_table.specs.Table.{Table, tableIn, pairIn}
+use Rattle.engine_table.specs.EquationWords.{own-word}
+use Rattle.engine_table.specs.Limits as L
 
 -- The model that the sizes and the move count cut out of the rooms. Whether it is live plays no part in its values.
 abbrev pub tableOf : Sizes → List ℕ → List ℕ → List ℕ → ℕ → Model
