@@ -24,6 +24,7 @@ use Rattle.rules.specs.declared.Sizes.{Sizes}
 use Rattle.laws.specs.model.ModelLeaners.{map-append}
 use Rattle.words.specs.Words.{waitingOf, variableIn, stateIn}
 use Rattle.engine_table.specs.Table.{pairIn, waiter}
+use Rattle.engine_table.specs.EquationWords.{waiter-at}
 use Rattle.engine_rows.specs.Rooms.{Packed}
 use Rattle.engine_rows.specs.RowLoops.{markAt, Queued}
 
@@ -138,13 +139,6 @@ queued-room y g before tail p a q b n top queue eq en v room =
     let l = v .long in
     omega arith
 
--- A waiting pair is the pair that it was made of.
-waits-as : (z : Sizes) (y s : ℕ) → s < 1024 → waiter z (waitingOf y s) ≡ pairIn z y s
-waits-as z y s h =
-    let a : variableIn (waitingOf y s) ≡ y = omega arith in
-    let b : stateIn (waitingOf y s) ≡ s = omega arith in
-    ap (λ (x : ℕ). x * z .states + stateIn (waitingOf y s)) a ∙ ap (λ (x : ℕ). y * z .states + x) b
-
 -- The states of a row that wait stand for the pairs of the row.
 pub waiting-hits : (z : Sizes) (y : ℕ) (f g : ℕ → Bool) (n : ℕ) → n ≤ 1024 → ((s : ℕ) → s < n → g s ≡ f (y * z .states + s))
     → map (waiter z) (map (waitingOf y) (hits g 0 n)) ≡ hits f (y * z .states) n
@@ -156,7 +150,7 @@ waiting-hits z y f g (suc n) l e =
           ap (λ (k : List ℕ). map (waiter z) (map (waitingOf y) k)) (hits-yes g 0 n (ap g (zero-add n) ∙ t) ∙ ap (λ (k : ℕ). hits g 0 n ++ (k ∷ [])) (zero-add n))
           ∙ ap (map (waiter z)) (map-append (waitingOf y) (hits g 0 n) (n ∷ [])) ∙ map-append (waiter z) (map (waitingOf y) (hits g 0 n)) (waitingOf y n ∷ [])
           ∙ ap (λ (k : List ℕ). k ++ (waiter z (waitingOf y n) ∷ [])) ih
-          ∙ ap (λ (k : ℕ). hits f (y * z .states) n ++ (k ∷ [])) (waits-as z y n (omega arith))
+          ∙ ap (λ (k : ℕ). hits f (y * z .states) n ++ (k ∷ [])) (waiter-at z y n (omega arith))
           ∙ sym (hits-yes f (y * z .states) n (sym (e n (omega arith)) ∙ t))
       | inr t ↦
           ap (λ (k : List ℕ). map (waiter z) (map (waitingOf y) k)) (hits-no g 0 n (ap g (zero-add n) ∙ t)) ∙ ih
