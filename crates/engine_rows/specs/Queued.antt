@@ -275,13 +275,3 @@ between-front l (suc k) h =
     let one : k + 1 ≡ suc k = add-one k in
     ap (between l 0) (sym one) ∙ between-split l k 1 0 ∙ ap (λ (i : ℕ). between l 0 k ++ (getD l i 0 ∷ [])) (zero-add k)
     ∙ ap (λ (m : List ℕ). m ++ (getD l k 0 ∷ [])) (between-front l k (omega arith)) ∙ sym (take-suc l k 0 h)
-
--- The same for what waits from the front on, as the machine says it.
-pub row-between : (z : Sizes) (y : ℕ) (f g : ℕ → Bool) (n tail r : ℕ) (before queue : List ℕ) → n ≤ 1024 → ((s : ℕ) → s < n → g s ≡ f (y * z .states + s))
-    → tail ≤ length before → r ≤ length queue → take r queue ≡ take tail before ++ map (waitingOf y) (hits g 0 n)
-    → between (map (waiter z) queue) 0 r ≡ between (map (waiter z) before) 0 tail ++ hits f (y * z .states) n
-row-between z y f g n tail r before queue l e ht hr front =
-    let a = length-map before (waiter z) in
-    let b = length-map queue (waiter z) in
-    between-front (map (waiter z) queue) r (omega arith) ∙ row-waits z y f g n tail r before queue l e front
-    ∙ ap (λ (m : List ℕ). m ++ hits f (y * z .states) n) (sym (between-front (map (waiter z) before) tail (omega arith)))
