@@ -1,3 +1,4 @@
+pub mod Numbered
 pub mod SignsRefused
 pub mod FivePlace
 pub mod SixteenPlace
