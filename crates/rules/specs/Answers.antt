@@ -15,7 +15,8 @@ use Rattle.rules.specs.declared.Written.the-variants as W
 use Rattle.rules.specs.declared.Asked.{Asked}
 use Rattle.rules.specs.declared.Asked.the-variants as A
 
--- The refusals: the paper's number of each, its name, and what it says. A refusal stands in this table and in no other.
+-- The refusals: of each its name, the paper's number, and what it says. All that lists refusals or their numbers follows from this
+-- table.
 abbrev pub numberOf : Refusal → ℕ
 numberOf Why.Broken = 1  -- an unknown kind of record, or the bytes end inside a record or before the end record
 numberOf Why.NotDue = 2  -- a known kind where it is not due; any byte after the end record

@@ -3,13 +3,13 @@ use mathlib.Core.Path.{_≡_, refl, sym, ap, _∙_}
 use mathlib.Core.Logic.{_↔_, inl, inr}
 use mathlib.Core.Bool.{true, cond}
 use mathlib.Core.List.{List, [], _∷_, _++_}
-use Prim.Native.Nat.{ℕ, zero, suc, _+_, _*_, _/_, _≤_}
+use Prim.Native.Nat.{ℕ, zero, suc, _+_, _*_, _/_, _≤_, _<_}
 use native.Mathlib.Omega.{arith}
 use lib.ListN.{length, length-append}
-use lib.Dec.{eqb}
-use Rattle.lists.specs.Tests.{tests, tell, and-is, eqb-is, leb-is}
+use lib.Dec.{eqb, ltb}
+use Rattle.lists.specs.Tests.{tests, tell, and-is, all-at, eqb-is, ltb-is, leb-is}
 use Rattle.rules.specs.Model.{Equation, Model, equationsOk, wellFormed, WellFormed, signed, styleOk}
-use Rattle.rules.specs.Records.{Rec, widths, digits, writes, bytesOf, accepted}
+use Rattle.rules.specs.Records.{Rec, kinds, known, widths, digits, writes, bytesOf, accepted}
 use Rattle.rules.specs.Rooms.{Lengths, lentOk}
 use Rattle.rules.specs.Load.{readModel}
 use Rattle.rules.specs.Spelling.{liveRecs, labelRecs, equationRecs, signedRecs, styleRecs, moveRecs, records, encode}
@@ -37,11 +37,14 @@ bytes-writes [] fs = tt
 bytes-writes (w ∷ ws) [] = tt
 bytes-writes (w ∷ ws) (f ∷ fs) = bytes-append (digits w f) (writes ws fs) (bytes-digits w f) (bytes-writes ws fs)
 
+-- A known kind is a byte.
+kind-byte : (k : ℕ) → known k ≡ true → k < 256
+kind-byte k h = ltb-is k 256 .0 (all-at (λ i. ltb i 256) kinds k refl h)
+
 bytes-all : (rs : List Rec) → AllWritable rs → AreBytes (bytesOf rs)
 bytes-all [] h = tt
 bytes-all (r ∷ rs) h =
-    let k = simp tests at (h .0 .0) in
-    (omega arith, bytes-append (writes (widths (r .kind)) (r .body)) (bytesOf rs) (bytes-writes (widths (r .kind)) (r .body)) (bytes-all rs (h .1)))
+    (kind-byte (r .kind) (h .0 .0), bytes-append (writes (widths (r .kind)) (r .body)) (bytesOf rs) (bytes-writes (widths (r .kind)) (r .body)) (bytes-all rs (h .1)))
 
 -- A spelling is bytes.
 pub encode-bytes : (m : Model) → WellFormed m → AreBytes (encode m)
