@@ -1,3 +1,4 @@
+pub mod Kinds
 pub mod RecordLaws
 pub mod Walks
 pub mod ReadAccepts

@@ -1,14 +1,32 @@
--- Enums whose variants hold nothing: all their cases, and a number for each. Assumes nothing.
+-- Cases by their numbers: what is the same at each number of a list, and enums whose variants hold nothing,
+-- with all their cases and a number for each. Assumes nothing.
 use mathlib.Core.Path.{_≡_, refl, sym, ap, _∙_}
-use mathlib.Core.Logic.{_⊎_, inl, inr}
+use mathlib.Core.Logic.{inl, inr}
 use mathlib.Core.Bool.{Bool, true, false, not, cond, _&&_, false≢true}
 use mathlib.Core.List.{List, [], _∷_, map}
 use Prim.Native.Nat.{ℕ}
+use types.Run.{OneOf}
 use lib.Dec.{eqb}
 use denote.Struct.Field.{Field}
 use denote.Enum.Declared.{Record, Choice}
 use Rattle.lists.specs.Lists.{elem}
 use Rattle.lists.specs.Tests.{tell, not-out, and-is, and-left, and-right, or-left, or-right, or-other, eqb-is, eqb-in}
+
+-- Two functions that list the same at the numbers of a list are the same at each of them.
+pub same-at : {A : Type 0} (f g : ℕ → A) (l : List ℕ) (k : ℕ) → map f l ≡ map g l → elem k l ≡ true → f k ≡ g k
+same-at f g [] k h e = absurd (false≢true e)
+same-at f g (i ∷ l) k h e =
+    elim (tell true (eqb k i)) [
+      | inl t ↦ let q : f i ≡ g i = cc in rw (eqb-is k i .0 t) q
+      | inr t ↦ let q : map f l ≡ map g l = cc in same-at f g l k q (or-other (eqb k i) (elem k l) e t)
+    ]
+
+-- What is one of some numbers stands in their list.
+pub one-of : (l : List ℕ) (k : ℕ) → OneOf l k → elem k l ≡ true
+one-of [] k m = absurd m
+one-of (i ∷ []) k m = or-left {x = eqb k i} false (eqb-in k i m)
+one-of (i ∷ j ∷ l) k (inl e) = or-left {x = eqb k i} (elem k (j ∷ l)) (eqb-in k i e)
+one-of (i ∷ j ∷ l) k (inr m) = or-right (eqb k i) (one-of (j ∷ l) k m)
 
 -- No variant has a field.
 abbrev pub bare : List (List Field) → Bool
