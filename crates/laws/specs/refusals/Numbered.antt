@@ -1,12 +1,12 @@
 -- The refusals by the table of their numbers (`numberOf`, rules/specs/Answers): each has one, no two have the same, and a refusal
--- is known by its number. One computed test says it of the whole table. Assumes nothing.
+-- is known by its number. One computed test shows it of the whole table. Assumes nothing.
 use mathlib.Core.Path.{_≡_, refl}
 use mathlib.Core.Bool.{Bool, true, _&&_}
 use mathlib.Core.List.{List, map}
 use Prim.Native.Nat.{ℕ, _<_}
 use lib.Dec.{ltb}
 use Rattle.lists.specs.Cases.{bare, cases, distinct, numbered, numbered-is, numbered-back, case-told}
-use Rattle.lists.specs.Lists.{all, elem}
+use Rattle.lists.specs.Lists.{elem}
 use Rattle.lists.specs.Tests.{all-at, ltb-is}
 use Rattle.rules.specs.Answers.{numberOf}
 use Rattle.rules.specs.declared.Refusal.{Refusal}
@@ -23,12 +23,9 @@ numbers = map numberOf refusals
 abbrev pub paper : ℕ → Bool
 paper n = elem n numbers
 
--- The test of the table: a refusal holds nothing else, no two have one number, and each number has at most two digits.
+-- The test of the table: a refusal holds nothing but its case, and no two have one number.
 table : (bare (enum .parts) && distinct numbers) ≡ true
 table = refl
-
-short : all (λ n. ltb n 100) numbers ≡ true
-short = refl
 
 -- The refusal of a number; any where no refusal has it.
 abbrev pub refusalOf : ℕ → Refusal
@@ -43,7 +40,7 @@ number-back n h = numbered-is numberOf n Why.Broken refusals h
 
 -- Each of the paper's numbers, and so the number of each refusal, has at most two digits.
 pub paper-few : (n : ℕ) → paper n ≡ true → n < 100
-paper-few n h = ltb-is n 100 .0 (all-at (λ k. ltb k 100) numbers n short h)
+paper-few n h = ltb-is n 100 .0 (all-at (λ k. ltb k 100) numbers n refl h)
 
 pub number-few : (r : Refusal) → numberOf r < 100
 number-few r = paper-few (numberOf r) (case-told enum numberOf table r)
