@@ -1,10 +1,10 @@
 -- A turn and its question, from what code has in hand. Assumes nothing.
 use mathlib.Core.Path.{_≡_, refl, sym, ap, _∙_}
 use mathlib.Core.Logic.{inl, inr}
-use mathlib.Core.Bool.{Bool, true, false}
+use mathlib.Core.Bool.{true, false}
 use mathlib.Core.List.{List, [], _∷_}
 use Prim.Native.Nat.{ℕ, _-_, _*_, _≤_, _<_}
-use lib.Dec.{eqb, ltb}
+use lib.Dec.{ltb}
 use lib.ListN.{length}
 use types.Run.{OneOf, miss}
 use denote.Enum.Declared.{tagOf}
@@ -13,6 +13,7 @@ use Rattle.lists.specs.Tests.{tell, and-in, and-no, eqb-is, eqb-no, ltb-in, ltb
 use Rattle.model_chains.specs.Stored.{held}
 use Rattle.rules.proofs.Record.{the-type}
 use Rattle.rules.specs.Load.{inside}
+use Rattle.rules.specs.Limits.{most-variables}
 use Rattle.rules.specs.Model.{guilty}
 use Rattle.rules.specs.declared.Equation.{Equation}
 use Rattle.rules.specs.Rooms.{Lengths}
@@ -46,7 +47,7 @@ other-case R.Live m = refl
 other-case (R.Signed k o a b) m = absurd (miss (0 ∷ 1 ∷ 2 ∷ 3 ∷ 4 ∷ 5 ∷ 6 ∷ 7 ∷ 8 ∷ 9 ∷ []) 10 tt m)
 
 -- The question, asked of words that hold the equations: a guilty one, and none.
-module _ (s : List ℕ) (r : Record) (y : Progress) (n k : ℕ) (ws : List ℕ) (low : ℕ) (few : k ≤ 32) (w : Words s n k k ws) (l : low ≡ lowest k (guilty (held k ws))) where
+module _ (s : List ℕ) (r : Record) (y : Progress) (n k : ℕ) (ws : List ℕ) (low : ℕ) (few : k ≤ most-variables) (w : Words s n k k ws) (l : low ≡ lowest k (guilty (held k ws))) where
   low-is : low ≡ lowestTo s n k
   low-is = l ∙ ap (λ (es : List Equation). lowest k (guilty es)) (words-held s n k ws few w)
 
@@ -71,7 +72,7 @@ module _ (s : List ℕ) (t : OneTurn) (r : Record) (y : Progress) (n : ℕ) (is 
     asks-here : asksAfter r y ≡ true
     asks-here = and-in c (eqb-is (y .blocks .equations) (y .sizes .variables) .1 e)
 
-    pub askable-here : Askable s t → (y .sizes .variables ≤ 32) × (n ≤ length s) × Spelled s n (y .sizes .variables)
+    pub askable-here : Askable s t → (y .sizes .variables ≤ most-variables) × (n ≤ length s) × Spelled s n (y .sizes .variables)
     askable-here a = let b : Askable s (T.Go r y n) = rw is at a in (b .0, b .1, b .2 asks-here)
 
     pub after-last : (u : OneTurn) → u ≡ answeredTurn s r y n (y .sizes .variables) → u ≡ askedTurn s t

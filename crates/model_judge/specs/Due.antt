@@ -10,18 +10,20 @@ use types.Run.{OneOf}
 use denote.Enum.Declared.{tagOf}
 use borrow.Author.Tests.{lt-ltb, le-ltb, eq-eqb, ne-eqb, not-true}
 use Rattle.lists.specs.Lists.{all}
-use Rattle.lists.specs.Tests.{and-is, and-in, and-no, eqb-is}
+use Rattle.lists.specs.Tests.{and-is, and-in, and-no, eqb-is, eqb-no}
 use Rattle.rules.specs.Load.{Sofar, inside, movesDue, labelDemands, blockDemands, equationDemands, signedDemands, moveDemands, endDemands, liveDemands, afterLive, signedOf, afterLabel, afterBlock, afterEquation, afterSigned, afterMove}
 use Rattle.rules.specs.Model.{signed}
-use Rattle.rules.specs.Moves.{pack}
 use Rattle.rules.specs.Records.{no, next, over, numbersOf}
 use Rattle.rules.specs.Rooms.{Lengths}
 use Rattle.rules.specs.declared.Record.{Record}
+use Rattle.rules.specs.declared.Sizes.{Sizes}
 use Rattle.rules.specs.declared.Record.the-variants as R
 use Rattle.rules.proofs.Record.{the-type}
+use Rattle.words.specs.Words.{packOf}
 use Rattle.model_judge.specs.Demands.{fails}
 use Rattle.model_judge.specs.Plain.{plain, unasked}
-use Rattle.model_judge.specs.Progress.{Kept}
+use Rattle.model_judge.specs.Progress.{sofarOf, Kept, KeptIn, LabelsDue, BlockDue, MovesDue}
+use Rattle.model_judge.specs.declared.Progress.{Progress}
 
 -- Whether a record is due after the sizes, by the number k of its case.
 abbrev dueAt : Sofar → ℕ → Bool
@@ -42,7 +44,7 @@ not-due l x (R.Label s v) e = fails 0 (labelDemands x (s .0) v) (next (inside (a
 not-due l x (R.Block k n) e = fails 0 (blockDemands x k n) (next (inside (afterBlock x k n))) (ap not e)
 not-due l x (R.Equation o a b) e = fails 0 (equationDemands x o a b) (next (inside (afterEquation x))) (ap not e)
 not-due l x (R.Move m) e =
-    fails 0 (moveDemands l x (m .source .0) (m .action .0) (m .target .0)) (next (inside (afterMove x (pack (m .source .0) (m .action .0) (m .target .0))))) (ap not e)
+    fails 0 (moveDemands l x (m .source .0) (m .action .0) (m .target .0)) (next (inside (afterMove x (packOf m)))) (ap not e)
 not-due l x R.End e = fails 0 (endDemands x) over (ap not e)
 not-due l x (R.Stamp n) e = refl
 not-due l x (R.Insert m) e = refl
@@ -62,12 +64,19 @@ none-due : (l : Lengths) (x : Sofar) (r : Record) (ks : List ℕ) → all (λ k.
     → no 2 ≡ plain l (inside x) (numbersOf r)
 none-due l x r ks h m = not-due l x r (none-of (dueAt x) ks (tagOf the-type r) h m)
 
+-- Sizes with signs have no block; others have some.
+pub no-blocks : (z : Sizes) → signed z ≡ true → z .blocks ≡ 0
+no-blocks z h = eqb-is (z .blocks) 0 .0 h
+
+some-blocks : (z : Sizes) → signed z ≡ false → 0 < z .blocks
+some-blocks z h = let f = eqb-no (z .blocks) 0 .0 h in omega arith
+
 -- Inside a block nothing but an equation is due.
-pub equation-only : (l : Lengths) (x : Sofar) (r : Record) → Kept x → 0 < x .blocks .due → 0 < x .sizes .blocks → OneOf (0 ∷ 1 ∷ 2 ∷ 4 ∷ 5 ∷ 6 ∷ 7 ∷ 8 ∷ 9 ∷ 10 ∷ []) (tagOf the-type r)
+pub equation-only : (l : Lengths) (x : Sofar) (r : Record) → Kept x → 0 < x .blocks .due → signed (x .sizes) ≡ false → OneOf (0 ∷ 1 ∷ 2 ∷ 4 ∷ 5 ∷ 6 ∷ 7 ∷ 8 ∷ 9 ∷ 10 ∷ []) (tagOf the-type r)
     → no 2 ≡ plain l (inside x) (numbersOf r)
 equation-only l x r k h b m =
     none-due l x r (0 ∷ 1 ∷ 2 ∷ 4 ∷ 5 ∷ 6 ∷ 7 ∷ 8 ∷ 9 ∷ 10 ∷ [])
-    (rw (ne-eqb (x .labels) 0 (λ e. omega arith), ne-eqb (x .blocks .count) 0 (λ e. omega arith), ne-eqb (x .blocks .due) 0 (λ e. omega arith), ne-eqb (x .sizes .blocks) 0 (λ e. omega arith)) refl) m
+    (rw (ne-eqb (x .labels) 0 (λ e. omega arith), ne-eqb (x .blocks .count) 0 (λ e. omega arith), ne-eqb (x .blocks .due) 0 (λ e. omega arith), b) refl) m
 
 -- Between two blocks nothing but a block is due.
 pub block-only : (l : Lengths) (x : Sofar) (r : Record) → Kept x → x .blocks .due ≡ 0 → 0 < x .blocks .count → x .blocks .count < x .sizes .blocks
@@ -77,28 +86,31 @@ block-only l x r k d f h m =
     (rw (d, ne-eqb (x .labels) 0 (λ e. omega arith), ne-eqb (x .blocks .count) 0 (λ e. omega arith), ne-eqb (x .blocks .count) (x .sizes .blocks) (λ e. omega arith), ne-eqb (x .sizes .blocks) 0 (λ e. omega arith)) refl) m
 
 -- Before the first block nothing but a label, a block or the record of a live model is due.
-pub label-or-block : (l : Lengths) (x : Sofar) (r : Record) → Kept x → x .blocks .count ≡ 0 → 0 < x .sizes .blocks → OneOf (0 ∷ 3 ∷ 4 ∷ 5 ∷ 6 ∷ 7 ∷ 8 ∷ 10 ∷ []) (tagOf the-type r)
+pub label-or-block : (l : Lengths) (x : Sofar) (r : Record) → Kept x → x .blocks .count ≡ 0 → signed (x .sizes) ≡ false → OneOf (0 ∷ 3 ∷ 4 ∷ 5 ∷ 6 ∷ 7 ∷ 8 ∷ 10 ∷ []) (tagOf the-type r)
     → no 2 ≡ plain l (inside x) (numbersOf r)
 label-or-block l x r k h b m =
+    let some = some-blocks (x .sizes) b in
     let d : x .blocks .due ≡ 0 = omega arith in
-    none-due l x r (0 ∷ 3 ∷ 4 ∷ 5 ∷ 6 ∷ 7 ∷ 8 ∷ 10 ∷ []) (rw (d, ne-eqb (x .blocks .count) (x .sizes .blocks) (λ e. omega arith), ne-eqb (x .sizes .blocks) 0 (λ e. omega arith)) refl) m
+    none-due l x r (0 ∷ 3 ∷ 4 ∷ 5 ∷ 6 ∷ 7 ∷ 8 ∷ 10 ∷ []) (rw (d, ne-eqb (x .blocks .count) (x .sizes .blocks) (λ e. omega arith), b) refl) m
 
 -- Between two equations with signs nothing but such an equation is due.
-pub signed-only : (l : Lengths) (x : Sofar) (r : Record) → Kept x → x .sizes .blocks ≡ 0 → 0 < x .blocks .equations → x .blocks .equations < x .sizes .variables
+pub signed-only : (l : Lengths) (x : Sofar) (r : Record) → Kept x → signed (x .sizes) ≡ true → 0 < x .blocks .equations → x .blocks .equations < x .sizes .variables
     → OneOf (0 ∷ 1 ∷ 2 ∷ 3 ∷ 4 ∷ 5 ∷ 6 ∷ 7 ∷ 8 ∷ 9 ∷ []) (tagOf the-type r) → no 2 ≡ plain l (inside x) (numbersOf r)
 signed-only l x r k b f h m =
+    let none = no-blocks (x .sizes) b in
     let d : x .blocks .due ≡ 0 = omega arith in
     let c : x .blocks .count ≡ 0 = omega arith in
     none-due l x r (0 ∷ 1 ∷ 2 ∷ 3 ∷ 4 ∷ 5 ∷ 6 ∷ 7 ∷ 8 ∷ 9 ∷ [])
-    (rw (d, c, b, ne-eqb (x .labels) 0 (λ e. omega arith), ne-eqb (x .blocks .equations) 0 (λ e. omega arith), ne-eqb (x .blocks .equations) (x .sizes .variables) (λ e. omega arith)) refl) m
+    (rw (d, c, none, ne-eqb (x .labels) 0 (λ e. omega arith), ne-eqb (x .blocks .equations) 0 (λ e. omega arith), ne-eqb (x .blocks .equations) (x .sizes .variables) (λ e. omega arith)) refl) m
 
 -- Before the first of them nothing but a label, such an equation or the record of a live model is due.
-pub label-or-signed : (l : Lengths) (x : Sofar) (r : Record) → Kept x → x .sizes .blocks ≡ 0 → x .blocks .equations ≡ 0
+pub label-or-signed : (l : Lengths) (x : Sofar) (r : Record) → Kept x → signed (x .sizes) ≡ true → x .blocks .equations ≡ 0
     → OneOf (0 ∷ 2 ∷ 3 ∷ 4 ∷ 5 ∷ 6 ∷ 7 ∷ 8 ∷ []) (tagOf the-type r) → no 2 ≡ plain l (inside x) (numbersOf r)
 label-or-signed l x r k b f m =
+    let none = no-blocks (x .sizes) b in
     let d : x .blocks .due ≡ 0 = omega arith in
     let c : x .blocks .count ≡ 0 = omega arith in
-    none-due l x r (0 ∷ 2 ∷ 3 ∷ 4 ∷ 5 ∷ 6 ∷ 7 ∷ 8 ∷ []) (rw (d, c, b, ne-eqb (x .blocks .equations) (x .sizes .variables) (λ e. omega arith)) refl) m
+    none-due l x r (0 ∷ 2 ∷ 3 ∷ 4 ∷ 5 ∷ 6 ∷ 7 ∷ 8 ∷ []) (rw (d, c, none, ne-eqb (x .blocks .equations) (x .sizes .variables) (λ e. omega arith)) refl) m
 
 -- Where moves are due, no equation is, all blocks have begun, and all equations have been read.
 pub all-read : (x : Sofar) → movesDue x ≡ true → (x .blocks .due ≡ 0) × (x .blocks .count ≡ x .sizes .blocks) × (x .blocks .equations ≡ x .sizes .variables)
@@ -122,11 +134,27 @@ block-due x h = ap not (and-in (eq-eqb (x .blocks .due) 0 (h .0)) (lt-ltb (x .bl
 pub equation-due : (x : Sofar) → 0 < x .blocks .due → not (ltb 0 (x .blocks .due)) ≡ false
 equation-due x h = ap not (lt-ltb 0 (x .blocks .due) h)
 
-pub signed-due : (x : Sofar) → (x .sizes .blocks ≡ 0) × (x .blocks .equations < x .sizes .variables)
+pub signed-due : (x : Sofar) → (signed (x .sizes) ≡ true) × (x .blocks .equations < x .sizes .variables)
     → not (signed (x .sizes) && ltb (x .blocks .equations) (x .sizes .variables)) ≡ false
-signed-due x h = ap not (and-in (eq-eqb (x .sizes .blocks) 0 (h .0)) (lt-ltb (x .blocks .equations) (x .sizes .variables) (h .1)))
+signed-due x h = ap not (and-in (h .0) (lt-ltb (x .blocks .equations) (x .sizes .variables) (h .1)))
 
--- Moves are due after the last equation, of either style.
-pub moves-due : (x : Sofar) → x .blocks .due ≡ 0 → x .blocks .count ≡ x .sizes .blocks → x .blocks .equations ≡ x .sizes .variables → movesDue x ≡ true
+-- What is due in a model half read: labels before the first equation with a sign or the first block, the first block, and moves
+-- after the last equation of either style.
+moves-due : (x : Sofar) → x .blocks .due ≡ 0 → x .blocks .count ≡ x .sizes .blocks → x .blocks .equations ≡ x .sizes .variables → movesDue x ≡ true
 moves-due x d c e =
     and-in (and-in (eq-eqb (x .blocks .due) 0 d) (eq-eqb (x .blocks .count) (x .sizes .blocks) c)) (eq-eqb (x .blocks .equations) (x .sizes .variables) e)
+
+pub labels-before-signs : (x : Progress) → KeptIn x → signed (x .sizes) ≡ true → x .blocks .equations ≡ 0 → LabelsDue x
+labels-before-signs x k b e = let none = no-blocks (x .sizes) b in (omega arith, e)
+
+pub labels-before-blocks : (x : Progress) → KeptIn x → signed (x .sizes) ≡ false → x .blocks .count ≡ 0 → LabelsDue x
+labels-before-blocks x k b e = let some = some-blocks (x .sizes) b in (e, omega arith)
+
+pub first-block : (x : Progress) → KeptIn x → signed (x .sizes) ≡ false → x .blocks .count ≡ 0 → BlockDue x
+first-block x k b e = let some = some-blocks (x .sizes) b in (omega arith, omega arith)
+
+pub moves-after-signs : (x : Progress) → KeptIn x → signed (x .sizes) ≡ true → x .blocks .equations ≡ x .sizes .variables → MovesDue x
+moves-after-signs x k b e = let none = no-blocks (x .sizes) b in moves-due (sofarOf x) (omega arith) (omega arith) e
+
+pub moves-after-blocks : (x : Progress) → KeptIn x → signed (x .sizes) ≡ false → x .blocks .due ≡ 0 → x .blocks .count ≡ x .sizes .blocks → MovesDue x
+moves-after-blocks x k b d e = let some = some-blocks (x .sizes) b in moves-due (sofarOf x) d e (omega arith)

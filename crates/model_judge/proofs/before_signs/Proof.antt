@@ -1,5 +1,5 @@
 -- `model_judge::before_signs` meets its contract. Assumes nothing.
-use Rattle.model_judge.specs.Due.{label-or-signed}
+use Rattle.model_judge.specs.Due.{labels-before-signs, label-or-signed}
 use Rattle.model_judge.specs.Plain.{plain}
 use Rattle.model_judge.specs.Progress.{sofarOf}
 use borrow.Author.Needs.{needs}
@@ -10,7 +10,9 @@ enum-known-rec : tie.Need-enum-known-rec
 enum-known-rec c = search needs
 
 on-label-requires : tie.Need-on-label-requires
-on-label-requires c κs = search needs
+on-label-requires c κs =
+    let p = c .before .before .before .pre in
+    labels-before-signs _ (p .0) (p .1 .0) (p .1 .1)
 
 enum-told : tie.Need-enum-told
 enum-told c = search needs
