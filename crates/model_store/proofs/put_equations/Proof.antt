@@ -1,4 +1,5 @@
--- `model_store::put_equations` meets its contract. Assumes nothing.
+-- `model_store::put_equations` meets its contract. The loop's invariant: good equations lead from the start to here, and each is
+-- put; the measure: the bytes left. Assumes nothing.
 use mathlib.Core.Path.{_≡_, refl}
 use Prim.Native.Nat.{_-_, _≤_}
 use native.Mathlib.Omega.{arith}

@@ -1,5 +1,6 @@
--- `model_store::put_labels` meets its contract. Assumes nothing.
-use mathlib.Core.Path.{_≡_, refl, ap, _∙_}
+-- `model_store::put_labels` meets its contract. The loop's invariant: good labels lead from the start to here, and each is put;
+-- the measure: the bytes left. Assumes nothing.
+use mathlib.Core.Path.{_≡_, refl}
 use Prim.Native.Nat.{_-_, _≤_}
 use native.Mathlib.Omega.{arith}
 use lib.Seq.{length-sets}

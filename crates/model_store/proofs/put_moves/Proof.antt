@@ -1,15 +1,16 @@
-use Rattle.model_runs.specs.Runs.{packed}
-use Rattle.bytes_read.specs.Places.{moveAt}
-use Rattle.rules.specs.declared.Move.{Move}
-use Rattle.rules.specs.Moves.{wrap}
-use borrow.Author.Needs.{needs}
--- `model_store::put_moves` meets its contract. Assumes nothing.
+-- `model_store::put_moves` meets its contract. The loop's invariant: the moves so far, put before those still to come, are all of
+-- them; the measure: the moves left. Assumes nothing.
 use mathlib.Core.List.{List}
 use mathlib.Core.Path.{_≡_, refl, sym, ap, _∙_}
 use Prim.Native.Nat.{ℕ, _+_, _-_, _*_, _/_, _≤_}
 use native.Mathlib.Omega.{arith}
 use lib.ListN.{length, set, length-set}
 use lib.Seq.{sets}
+use borrow.Author.Needs.{needs}
+use Rattle.rules.specs.Moves.{wrap}
+use Rattle.rules.specs.declared.Move.{Move}
+use Rattle.words.specs.Words.{packOf}
+use Rattle.bytes_read.specs.Places.{moveAt}
 use Rattle.model_store.specs.RunLaws.{moves-step, moves-end}
 use Rattle.model_store.specs.Stored.{movesFrom}
 use Rattle.model_store.proofs.put_moves.Statement.{statement}
@@ -70,7 +71,7 @@ loop-again c = let at-word = c .before .before in
     let i = at-loop .loop .i in
     let n = (length (a .bytes .now) - a .at) / 6 in
     let e = at-word .set-word .ensures in
-    let w : at-packed .packed .result ≡ wrap (packed (moveAt (a .bytes .now) (a .at + 6 * i + 1))) = at-packed .packed .ensures ∙ ap (λ (m : Move). wrap (packed m)) (at-move .move-at .ensures) in (
+    let w : at-packed .packed .result ≡ wrap (packOf (moveAt (a .bytes .now) (a .at + 6 * i + 1))) = at-packed .packed .ensures ∙ ap (λ (m : Move). wrap (packOf m)) (at-move .move-at .ensures) in (
       omega arith,
       inv .1,
       ap length e ∙ simp length-set (inv .2),

@@ -45,17 +45,20 @@ returns c = let at-moves = c .before .before in
     let at-start = start-before-put at-put in
     let a = at-start .args in
     let m = rw (at-with .with-equations .ensures) at (at-moves .store-moves .ensures) in
-    λ ls. stored-more _ _ _ _ _ _ _ (equations-stored _ (a .rec) (a .x) (a .at) ls _ _ _ _ (at-start .pre) (at-put .put-equations .ensures)) (m (a .rec) ls _)
+    λ ls. let r = m (a .rec) ls _ in
+    (stored-more _ _ _ _ _ _ _ (equations-stored _ (a .rec) (a .x) (a .at) ls _ _ _ _ (at-start .pre) (at-put .put-equations .ensures)) (r .0), r .1)
 
 same-length-3 : tie.Need-same-length-3
 same-length-3 c = search needs
 
 returns-2 : tie.Need-returns-2
-returns-2 c = let at-with = c .before .before in
+returns-2 c = let at-due = c .before in
+    let at-with = at-due .before in
     let at-put = put-before-with at-with in
     let at-start = start-before-put at-put in
     let a = at-start .args in
-    λ ls. rw (at-with .with-equations .ensures) (equations-stored _ (a .rec) (a .x) (a .at) ls _ _ _ _ (at-start .pre) (at-put .put-equations .ensures))
+    let none = rw (at-with .with-equations .ensures) at (sym (at-due .moves-due .ensures) ∙ c .if1 .left) in
+    λ ls. rw (at-with .with-equations .ensures) (equations-stored _ (a .rec) (a .x) (a .at) ls _ _ _ _ (at-start .pre) (at-put .put-equations .ensures), none)
 
 pub store-equations-spec : {M : Type 1} → statement M
 store-equations-spec =

@@ -17,7 +17,7 @@ enum-told : tie.Need-enum-told
 enum-told c = search needs
 
 returns : tie.Need-returns
-returns c = rw (c .enum-told .given .1) (none-stored _ _ _)
+returns c = rw (c .enum-told .given .1) (none-stored _ _ _, tt)
 
 store-labels-requires : tie.Need-store-labels-requires
 store-labels-requires c κs = let at-u = c .before .before .before .before .before in
@@ -61,7 +61,9 @@ returns-4 c = let at-put = c .before .before in
     rw (u-before-if2 (at-put .before .before .before .before .before) .u .given .1) (at-put .store-moves .ensures _ _ _)
 
 returns-5 : tie.Need-returns-5
-returns-5 c = rw (u-before-if2 (c .before .before .before) .u .given .1) (none-stored _ _ _)
+returns-5 c =
+    let none = sym (c .before .moves-due .ensures) ∙ c .if3 .left in
+    rw (u-before-if2 (c .before .before .before) .u .given .1) (none-stored _ _ _, none)
 
 pub store-run-spec : {M : Type 1} → statement M
 store-run-spec =

@@ -1,4 +1,5 @@
--- `model_store::zeros` meets its contract. Assumes nothing.
+-- `model_store::zeros` meets its contract. The loop's invariant: the zeros so far, put before those still to come, are all of them;
+-- the measure: the zeros left. Assumes nothing.
 use mathlib.Core.List.{List}
 use mathlib.Core.Path.{_≡_, refl, sym, ap, _∙_}
 use Prim.Native.Nat.{ℕ, _+_, _-_}
