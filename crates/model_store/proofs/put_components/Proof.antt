@@ -25,9 +25,8 @@ returns : tie.Need-returns
 unfolding withComponents
 returns c =
     let after-number-all = c .before .before in
-    let in-then1 = c .before .before .before .before .before in
-    let after-signed = c .before .before .before .before .before .before in
-    rw (sym (after-signed .signed .ensures) ∙ in-then1 .if1 .taken) (after-number-all .number-all .ensures)
+    let in-then1 = after-number-all .before .before .before in
+    rw (sym (in-then1 .before .signed .ensures) ∙ in-then1 .if1 .taken) (after-number-all .number-all .ensures)
 
 returns-2 : tie.Need-returns-2
 unfolding withComponents

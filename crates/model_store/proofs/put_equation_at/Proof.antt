@@ -51,7 +51,7 @@ same-length c = search needs
 returns : tie.Need-returns
 returns c =
     let after-set-word = c .before .before .before in
-    let after-equation-word = c .before .before .before .before .before in
+    let after-equation-word = after-set-word .before .before in
     (c .with-equation .ensures, after-set-word .set-word .ensures ∙ rw (after-equation-word .equation-word .ensures) refl)
 
 pub put-equation-at-spec : {M : Type 1} → statement M

@@ -67,8 +67,9 @@ signed-of-requires c κs = search needs
 
 word-of-requires : tie.Need-word-of-requires
 word-of-requires c κs =
-    let at-start = c .before .before .before .before .before .before .before .before .before .before .before .before in
-    sign-fits (at-start .args .r) _ _ _ _ _ (c .before .before .before .before .before .before .before .before .r3 .given .1) (at-start .pre .1) (c .signed-of .ensures)
+    let after-r3 = c .before .before .before .before .before .before .before .before in
+    let at-start = after-r3 .before .before .before .before in
+    sign-fits (at-start .args .r) _ _ _ _ _ (after-r3 .r3 .given .1) (at-start .pre .1) (c .signed-of .ensures)
 
 cast-set-word-2 : tie.Need-cast-set-word-2
 cast-set-word-2 c = search needs
@@ -83,7 +84,7 @@ returns : tie.Need-returns
 unfolding putRooms
 returns c =
     let after-put-label = c .before .before in
-    let after-r = c .before .before .before .before .before .before .before in
+    let after-r = after-put-label .before .before .before .before .before in
     λ ms. rw (after-r .r .given .1, after-put-label .put-label .ensures) refl
 
 same-length-2 : tie.Need-same-length-2
@@ -93,7 +94,7 @@ returns-2 : tie.Need-returns-2
 unfolding putRooms
 returns-2 c =
     let after-zeros = c .before .before in
-    let after-enum-told = c .before .before .before .before .before .before in
+    let after-enum-told = after-zeros .before .before .before .before in
     λ ms. rw (after-enum-told .enum-told .given .1, after-zeros .zeros .ensures) refl
 
 same-length-3 : tie.Need-same-length-3
@@ -103,8 +104,8 @@ returns-3 : tie.Need-returns-3
 unfolding putRooms
 returns-3 c =
     let after-set-word = c .before .before in
-    let after-equation-word = c .before .before .before .before .before in
-    let after-r2 = c .before .before .before .before .before .before .before in
+    let after-equation-word = after-set-word .before .before .before in
+    let after-r2 = after-equation-word .before .before in
     λ ms. rw (after-r2 .r2 .given .1, after-set-word .set-word .ensures, after-equation-word .equation-word .ensures) refl
 
 same-length-4 : tie.Need-same-length-4
@@ -117,11 +118,10 @@ returns-4 : tie.Need-returns-4
 unfolding putRooms
 returns-4 c =
     let after-set-word2 = c .before .before in
-    let after-word-of = c .before .before .before .before .before in
-    let after-signed-of = c .before .before .before .before .before .before in
-    let after-zeros2 = c .before .before .before .before .before .before .before .before .before in
-    let after-r3 = c .before .before .before .before .before .before .before .before .before .before .before .before .before .before in
-    λ ms. rw (after-r3 .r3 .given .1, after-set-word2 .set-word2 .ensures, after-word-of .word-of .ensures, after-signed-of .signed-of .ensures, after-zeros2 .zeros2 .ensures) refl
+    let after-word-of = after-set-word2 .before .before .before in
+    let after-zeros2 = after-word-of .before .before .before .before in
+    let after-r3 = after-zeros2 .before .before .before .before .before in
+    λ ms. rw (after-r3 .r3 .given .1, after-set-word2 .set-word2 .ensures, after-word-of .word-of .ensures, after-word-of .before .signed-of .ensures, after-zeros2 .zeros2 .ensures) refl
 
 returns-5 : tie.Need-returns-5
 returns-5 c =

@@ -29,9 +29,9 @@ returns-2 c =
 
 put-record-requires : tie.Need-put-record-requires
 put-record-requires c κs =
-    let at-start = c .before .before .before .before .before .before .before .before .before .before in
-    let after-t = c .before .before .before .before .before .before in
     let after-u = c .before .before .before in
+    let after-t = after-u .before .before .before in
+    let at-start = after-t .before .before .before .before in
     (rw (after-t .t .given .1) at (at-start .pre .0), rw (after-u .u .given .1) at (at-start .pre .1))
 
 same-length : tie.Need-same-length
@@ -43,8 +43,8 @@ same-length-2 c = search needs
 returns-3 : tie.Need-returns-3
 returns-3 c =
     let after-put-record = c .before .before .before .before in
-    let after-t = c .before .before .before .before .before .before .before .before .before .before .before in
-    let after-u = c .before .before .before .before .before .before .before .before in
+    let after-u = after-put-record .before .before .before .before in
+    let after-t = after-u .before .before .before in
     λ ms. rw (after-t .t .given .1, after-u .u .given .1) (after-put-record .put-record .ensures ms)
 
 pub put-turn-spec : {M : Type 1} → statement M

@@ -24,7 +24,7 @@ enum-told c = search needs
 returns : tie.Need-returns
 returns c =
     let after-judge-model = c .before .before in
-    let a = c .before .before .before .before .before .before .before .args in
+    let a = after-judge-model .before .before .before .before .before .args in
     read-refused (a .bytes .now) _ (three (a .labels .now) (a .equations .now) (a .moves .now)) _ (c .enum-told .given .0 .0) (c .enum-told .given .0 .1 .0) (c .enum-told .given .1) (after-judge-model .judge-model .ensures)
 
 store-model-requires : tie.Need-store-model-requires
@@ -33,10 +33,10 @@ store-model-requires c κs = search needs
 put-components-requires : tie.Need-put-components-requires
 put-components-requires c κs =
     let after-equations = c .before .before .before .before in
-    let after-answer = c .before .before .before .before .before .before .before .before .before .before .before .before in
-    let after-judge-model = c .before .before .before .before .before .before .before .before .before .before .before .before .before .before in
-    let after-shared-slice-known = c .before .before .before .before .before .before .before .before .before .before .before .before .before .before .before .before .before .before in
-    let at-start = c .before .before .before .before .before .before .before .before .before .before .before .before .before .before .before .before .before .before .before in
+    let after-answer = after-equations .before .before .before .before .before .before .before .before in
+    let after-judge-model = after-answer .before .before in
+    let after-shared-slice-known = after-judge-model .before .before .before .before in
+    let at-start = after-shared-slice-known .before in
     let a = at-start .args in
     let g = after-shared-slice-known .shared-slice-known .given in
     let f = read-fits (a .bytes .now) _ (three (a .labels .now) (a .equations .now) (a .moves .now)) _ _ _ _ (are-bytes (a .bytes .now) (λ i. omega (arith, g i))) (at-start .pre) (after-answer .answer .given .1) (after-judge-model .judge-model .ensures) in
@@ -56,11 +56,11 @@ same-length-3 c = search needs
 returns-2 : tie.Need-returns-2
 returns-2 c =
     let after-put-components = c .before .before in
-    let after-store-model = c .before .before .before .before .before .before .before .before .before .before in
-    let after-answer = c .before .before .before .before .before .before .before .before .before .before .before .before .before .before .before in
-    let after-judge-model = c .before .before .before .before .before .before .before .before .before .before .before .before .before .before .before .before .before in
-    let after-shared-slice-known = c .before .before .before .before .before .before .before .before .before .before .before .before .before .before .before .before .before .before .before .before .before in
-    let at-start = c .before .before .before .before .before .before .before .before .before .before .before .before .before .before .before .before .before .before .before .before .before .before in
+    let after-store-model = after-put-components .before .before .before .before .before .before .before .before in
+    let after-answer = after-store-model .before .before .before .before .before in
+    let after-judge-model = after-answer .before .before in
+    let after-shared-slice-known = after-judge-model .before .before .before .before in
+    let at-start = after-shared-slice-known .before in
     let a = at-start .args in
     let g = after-shared-slice-known .shared-slice-known .given in
     read-good (a .bytes .now) _ (three (a .labels .now) (a .equations .now) (a .moves .now)) _ _ _ _ _ _ (are-bytes (a .bytes .now) (λ i. omega (arith, g i))) (at-start .pre) (after-answer .answer .given .1) (after-judge-model .judge-model .ensures) (after-store-model .store-model .ensures) (after-put-components .put-components .ensures)

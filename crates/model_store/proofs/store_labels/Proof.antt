@@ -12,11 +12,12 @@ same-length : tie.Need-same-length
 same-length c = search needs
 
 returns : tie.Need-returns
-returns c = let at-put = c .before .before in
-    let at-start = at-put .before .before .before .before .before .before .before in
+returns c =
+    let after-put-labels = c .before .before in
+    let at-start = after-put-labels .before .before .before .before .before .before .before in
     let a = at-start .args in
     λ es ms. (
-      labels-stored _ _ (a .x) (a .at) _ es ms _ _ (at-start .pre .0) (at-start .pre .1) (at-put .put-labels .ensures),
+      labels-stored _ _ (a .x) (a .at) _ es ms _ _ (at-start .pre .0) (at-start .pre .1) (after-put-labels .put-labels .ensures),
       no-moves-yet (a .x) (at-start .pre .0 .kept) (at-start .pre .1 .1),
     )
 

@@ -13,13 +13,13 @@ turn-requires c κs =
 put-turn-requires : tie.Need-put-turn-requires
 put-turn-requires c κs =
     let after-turn = c .before .before in
-    let at-start = c .before .before .before .before .before .before .before in
+    let at-start = after-turn .before .before .before .before .before in
     (inside-kept _ (at-start .args .t) (at-start .pre .0 .0), follows-storable _ _ _ (at-start .args .t) _ (at-start .pre) (after-turn .turn .ensures))
 
 store-run-requires : tie.Need-store-run-requires
 store-run-requires c κs =
     let after-turn = c .before .before .before .before .before .before .before .before .before .before in
-    let at-start = c .before .before .before .before .before .before .before .before .before .before .before .before .before .before .before in
+    let at-start = after-turn .before .before .before .before .before in
     follows-inside _ _ _ (at-start .args .t) _ (at-start .pre) (after-turn .turn .ensures)
 
 same-length : tie.Need-same-length
@@ -34,9 +34,9 @@ same-length-3 c = search needs
 returns : tie.Need-returns
 returns c =
     let after-store-run = c .before .before .before .before .before .before in
-    let after-put-turn = c .before .before .before .before .before .before .before .before .before .before .before .before .before .before in
-    let after-turn = c .before .before .before .before .before .before .before .before .before .before .before .before .before .before .before .before .before in
-    let at-start = c .before .before .before .before .before .before .before .before .before .before .before .before .before .before .before .before .before .before .before .before .before .before in
+    let after-put-turn = after-store-run .before .before .before .before .before .before .before .before in
+    let after-turn = after-put-turn .before .before .before in
+    let at-start = after-turn .before .before .before .before .before in
     stores-turn _ _ _ (at-start .args .t) _ _ _ _ _ (at-start .pre) (after-turn .turn .ensures) (after-put-turn .put-turn .ensures _) (after-store-run .store-run .ensures)
 
 pub store-turn-spec : {M : Type 1} → statement M
