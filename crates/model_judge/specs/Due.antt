@@ -144,6 +144,9 @@ moves-due : (x : Sofar) → x .blocks .due ≡ 0 → x .blocks .count ≡ x .siz
 moves-due x d c e =
     and-in (and-in (eq-eqb (x .blocks .due) 0 d) (eq-eqb (x .blocks .count) (x .sizes .blocks) c)) (eq-eqb (x .blocks .equations) (x .sizes .variables) e)
 
+pub labels-told : (x : Progress) → (eqb (x .blocks .count) 0 && eqb (x .blocks .equations) 0) ≡ true → LabelsDue x
+labels-told x h = let k = and-is (eqb (x .blocks .count) 0) (eqb (x .blocks .equations) 0) .0 h in (eqb-is (x .blocks .count) 0 .0 (k .0), eqb-is (x .blocks .equations) 0 .0 (k .1))
+
 pub labels-before-signs : (x : Progress) → KeptIn x → signed (x .sizes) ≡ true → x .blocks .equations ≡ 0 → LabelsDue x
 labels-before-signs x k b e = let none = no-blocks (x .sizes) b in (omega arith, e)
 

@@ -38,6 +38,9 @@ pub inside-kept : (s : List ℕ) (t : OneTurn) → InsideTurn s t → KeptTurn t
 inside-kept s (T.Stop a) g = tt
 inside-kept s (T.Go r x n) g = g .kept
 
+pub inside-go : (s : List ℕ) (t : OneTurn) (r : Record) (x : Progress) (n : ℕ) → t ≡ T.Go r x n → InsideTurn s t → Inside s x n
+inside-go s t r x n e i = rw e at i
+
 -- A turn that goes on stands in the bytes past the place before, and is nearer to the end.
 pub turned-inside : (l : Lengths) (s : List ℕ) (st : State) (n : ℕ) (u : OneTurn) → Turned l s st n u → InsideTurn s u
 turned-inside l s st n (T.Stop a) t = tt

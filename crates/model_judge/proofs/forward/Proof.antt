@@ -1,7 +1,8 @@
 -- `model_judge::forward` meets its contract. Assumes nothing.
 use mathlib.Core.Path.{refl, sym, _∙_}
 use borrow.Author.Needs.{needs}
-use Rattle.lists.specs.Tests.{and-is, eqb-is}
+use Rattle.model_judge.specs.Due.{labels-told}
+use Rattle.model_judge.specs.GoingLaws.{inside-go}
 use Rattle.model_judge.specs.Passing.{here}
 use Rattle.model_judge.proofs.forward.Statement.{statement}
 use Rattle.model_judge.proofs.forward.Tie as tie
@@ -29,8 +30,7 @@ past-labels-requires : tie.Need-past-labels-requires
 past-labels-requires c κs =
     let after-t = c .before .before .before .before in
     let at-start = after-t .before .before .before in
-    let k = simp and-is at (c .if1 .taken) in
-    (rw (after-t .t .given .1) at (at-start .pre), (eqb-is _ _ .0 (k .0), eqb-is _ _ .0 (k .1)))
+    (inside-go _ _ _ _ _ (after-t .t .given .1) (at-start .pre), labels-told _ (c .if1 .taken))
 
 returns-2 : tie.Need-returns-2
 returns-2 c = rw (t-before-struct-known2 (c .before .before) .t .given .1) (c .past-labels .ensures _)
@@ -39,7 +39,7 @@ past-equations-requires : tie.Need-past-equations-requires
 past-equations-requires c κs =
     let after-t = c .before .before .before .before .before .before in
     let at-start = after-t .before .before .before in
-    rw (after-t .t .given .1) at (at-start .pre)
+    inside-go _ _ _ _ _ (after-t .t .given .1) (at-start .pre)
 
 returns-3 : tie.Need-returns-3
 returns-3 c = rw (t-before-struct-known3 (c .before .before) .t .given .1) (c .past-equations .ensures)
@@ -51,7 +51,7 @@ past-moves-requires : tie.Need-past-moves-requires
 past-moves-requires c κs =
     let after-t = c .before .before .before .before .before .before .before .before in
     let at-start = after-t .before .before .before in
-    (rw (after-t .t .given .1) at (at-start .pre), sym (c .before .moves-due .ensures) ∙ c .if3 .taken)
+    (inside-go _ _ _ _ _ (after-t .t .given .1) (at-start .pre), sym (c .before .moves-due .ensures) ∙ c .if3 .taken)
 
 returns-4 : tie.Need-returns-4
 returns-4 c = rw (t-before-moves-due (c .before .before) .t .given .1) (c .past-moves .ensures)

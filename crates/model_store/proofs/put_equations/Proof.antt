@@ -1,17 +1,17 @@
 -- `model_store::put_equations` meets its contract. The loop's invariant: good equations lead from the start to here, and each is
 -- put; the measure: the bytes left. Assumes nothing.
-use mathlib.Core.Path.{_≡_, refl}
-use Prim.Native.Nat.{_-_, _≤_}
+use mathlib.Core.Path.{refl}
+use Prim.Native.Nat.{_-_}
 use native.Mathlib.Omega.{arith}
-use lib.ListN.{length, length-set}
+use lib.ListN.{length}
 use borrow.Author.Needs.{needs}
-use Rattle.model_store.specs.Stored.{EquationsPut, none, more}
+use Rattle.model_store.specs.RunLaws.{EquationsSofar, equations-more}
+use Rattle.model_store.specs.Stored.{none}
 use Rattle.model_store.proofs.put_equations.Statement.{statement}
 use Rattle.model_store.proofs.put_equations.Tie as tie
 
 abbrev Inv-loop : tie.InvT-loop
-Inv-loop bytes equations₀ x at z end y₀ equations y =
-    (y .at ≤ length bytes) × (y .due ≤ x .blocks .due) × (length equations ≡ length equations₀) × EquationsPut bytes x at equations₀ y equations
+Inv-loop bytes equations₀ x at z end y₀ equations y = EquationsSofar bytes x at equations₀ y equations
 
 abbrev μ-loop : tie.MeasureT-loop
 μ-loop bytes equations₀ x at z end y₀ equations y = length bytes - y .at
@@ -43,18 +43,17 @@ loop-less : tie.Need-loop-less Inv-loop μ-loop
 loop-less c =
     let after-put-equation-at = c .before .before in
     let in-then1 = after-put-equation-at .before .before in
-    let g = in-then1 .before .good-equation .ensures (in-then1 .if1 .taken) .inside-bytes in
-    rw (after-put-equation-at .put-equation-at .ensures .0) (omega arith)
+    let after-good-equation = in-then1 .before in
+    let at-loop = after-good-equation .before in
+    equations-more _ _ _ _ _ _ _ _ (at-loop .loop .inv) (after-good-equation .good-equation .ensures (in-then1 .if1 .taken)) (after-put-equation-at .put-equation-at .ensures) .1
 
 loop-again : tie.Need-loop-again Inv-loop μ-loop
 loop-again c =
     let after-put-equation-at = c .before .before in
     let in-then1 = after-put-equation-at .before .before in
-    let at-loop = in-then1 .before .before in
-    let inv = at-loop .loop .inv in
-    let g = in-then1 .before .good-equation .ensures (in-then1 .if1 .taken) in
-    let h = inv .1 in
-    rw (after-put-equation-at .put-equation-at .ensures .0, after-put-equation-at .put-equation-at .ensures .1) (g .inside-bytes, omega arith, simp length-set (inv .2), more _ _ (inv .3) g)
+    let after-good-equation = in-then1 .before in
+    let at-loop = after-good-equation .before in
+    equations-more _ _ _ _ _ _ _ _ (at-loop .loop .inv) (after-good-equation .good-equation .ensures (in-then1 .if1 .taken)) (after-put-equation-at .put-equation-at .ensures) .0
 
 same-length : tie.Need-same-length Inv-loop μ-loop
 same-length c = at-loop-before-else1 c .loop .inv .2

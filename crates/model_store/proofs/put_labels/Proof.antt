@@ -1,16 +1,16 @@
 -- `model_store::put_labels` meets its contract. The loop's invariant: good labels lead from the start to here, and each is put;
 -- the measure: the bytes left. Assumes nothing.
-use mathlib.Core.Path.{_≡_, refl}
-use Prim.Native.Nat.{_-_, _≤_}
+use mathlib.Core.Path.{refl}
+use Prim.Native.Nat.{_-_}
 use native.Mathlib.Omega.{arith}
-use lib.Seq.{length-sets}
-use lib.ListN.{length, length-set}
-use Rattle.model_store.specs.Stored.{LabelsPut, none, more}
+use lib.ListN.{length}
+use Rattle.model_store.specs.RunLaws.{LabelsSofar, labels-more}
+use Rattle.model_store.specs.Stored.{none}
 use Rattle.model_store.proofs.put_labels.Statement.{statement}
 use Rattle.model_store.proofs.put_labels.Tie as tie
 
 abbrev Inv-loop : tie.InvT-loop
-Inv-loop bytes labels₀ z y₀ labels y = (y .at ≤ length bytes) × (length labels ≡ length labels₀) × LabelsPut bytes z y₀ labels₀ y labels
+Inv-loop bytes labels₀ z y₀ labels y = LabelsSofar bytes z y₀ labels₀ y labels
 
 abbrev μ-loop : tie.MeasureT-loop
 μ-loop bytes labels₀ z y₀ labels y = length bytes - y .at
@@ -32,16 +32,17 @@ loop-less : tie.Need-loop-less Inv-loop μ-loop
 loop-less c =
     let after-put-label-at = c .before .before in
     let in-then1 = after-put-label-at .before .before in
-    let g = in-then1 .before .good-label .ensures (in-then1 .if1 .taken) .inside-bytes in
-    rw (after-put-label-at .put-label-at .ensures .0) (omega arith)
+    let after-good-label = in-then1 .before in
+    let at-loop = after-good-label .before in
+    labels-more _ _ _ _ _ _ _ _ (at-loop .loop .inv) (after-good-label .good-label .ensures (in-then1 .if1 .taken)) (after-put-label-at .put-label-at .ensures) .1
 
 loop-again : tie.Need-loop-again Inv-loop μ-loop
 loop-again c =
     let after-put-label-at = c .before .before in
     let in-then1 = after-put-label-at .before .before in
-    let at-loop = in-then1 .before .before in
-    let g = in-then1 .before .good-label .ensures (in-then1 .if1 .taken) in
-    rw (after-put-label-at .put-label-at .ensures .0, after-put-label-at .put-label-at .ensures .1) (g .inside-bytes, simp (length-set, length-sets) (at-loop .loop .inv .1), more _ _ (at-loop .loop .inv .2) g)
+    let after-good-label = in-then1 .before in
+    let at-loop = after-good-label .before in
+    labels-more _ _ _ _ _ _ _ _ (at-loop .loop .inv) (after-good-label .good-label .ensures (in-then1 .if1 .taken)) (after-put-label-at .put-label-at .ensures) .0
 
 same-length : tie.Need-same-length Inv-loop μ-loop
 same-length c = at-loop-before-else1 c .loop .inv .1

@@ -2,7 +2,8 @@
 use mathlib.Core.Path.{sym, _∙_}
 use borrow.Author.Needs.{needs}
 use Rattle.model_store.specs.RunLaws.{none-stored}
-use Rattle.lists.specs.Tests.{and-is, eqb-is}
+use Rattle.model_judge.specs.Due.{labels-told}
+use Rattle.model_judge.specs.GoingLaws.{inside-go}
 use Rattle.model_store.proofs.store_run.Statement.{statement}
 use Rattle.model_store.proofs.store_run.Tie as tie
 
@@ -32,8 +33,7 @@ store-labels-requires : tie.Need-store-labels-requires
 store-labels-requires c κs =
     let after-u = c .before .before .before .before .before in
     let at-start = after-u .before .before .before .before .before .before in
-    let k = simp and-is at (c .before .if1 .taken) in
-    (rw (after-u .u .given .1) at (at-start .pre), (eqb-is _ _ .0 (k .0), eqb-is _ _ .0 (k .1)))
+    (inside-go _ _ _ _ _ (after-u .u .given .1) (at-start .pre), labels-told _ (c .before .if1 .taken))
 
 same-length : tie.Need-same-length
 same-length c = search needs
@@ -47,7 +47,7 @@ store-equations-requires : tie.Need-store-equations-requires
 store-equations-requires c κs =
     let after-u = c .before .before .before .before .before .before .before .before in
     let at-start = after-u .before .before .before .before .before .before in
-    rw (after-u .u .given .1) at (at-start .pre)
+    inside-go _ _ _ _ _ (after-u .u .given .1) (at-start .pre)
 
 same-length-2 : tie.Need-same-length-2
 same-length-2 c = search needs
@@ -68,7 +68,7 @@ store-moves-requires c κs =
     let after-moves-due = c .before .before in
     let after-u = after-moves-due .before .before .before .before .before .before .before in
     let at-start = after-u .before .before .before .before .before .before in
-    (rw (after-u .u .given .1) at (at-start .pre), sym (after-moves-due .moves-due .ensures) ∙ c .before .if3 .taken)
+    (inside-go _ _ _ _ _ (after-u .u .given .1) (at-start .pre), sym (after-moves-due .moves-due .ensures) ∙ c .before .if3 .taken)
 
 same-length-4 : tie.Need-same-length-4
 same-length-4 c = search needs
