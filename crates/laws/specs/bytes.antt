@@ -1,3 +1,4 @@
+-- Bytes and records: what is written is read back, and what is accepted has one spelling.
 pub mod RecordLaws
 pub mod Walks
 pub mod ReadAccepts

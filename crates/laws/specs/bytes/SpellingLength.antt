@@ -44,10 +44,6 @@ bytes-all (r ∷ rs) h =
     let k = simp tests at (h .0 .0) in
     (omega arith, bytes-append (writes (widths (r .kind)) (r .body)) (bytesOf rs) (bytes-writes (widths (r .kind)) (r .body)) (bytes-all rs (h .1)))
 
--- A spelling is bytes.
-pub encode-bytes : (m : Model) → WellFormed m → AreBytes (encode m)
-encode-bytes m h = bytes-all (records m) (records-w m h)
-
 -- How many bytes records take.
 abbrev pub sizeAll : List Rec → ℕ
 sizeAll [] = 0
