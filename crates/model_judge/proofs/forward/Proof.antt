@@ -30,7 +30,7 @@ past-labels-requires : tie.Need-past-labels-requires
 past-labels-requires c κs =
     let after-t = c .before .before .before .before in
     let at-start = after-t .before .before .before in
-    (inside-go _ _ _ _ _ (after-t .t .given .1) (at-start .pre), labels-told _ (c .if1 .taken))
+    (inside-go _ _ _ _ _ (after-t .t .given .1) (at-start .pre), labels-told (after-t .t .given .0 .1 .0) (c .if1 .taken))
 
 returns-2 : tie.Need-returns-2
 returns-2 c = rw (t-before-struct-known2 (c .before .before) .t .given .1) (c .past-labels .ensures _)

@@ -33,7 +33,7 @@ store-labels-requires : tie.Need-store-labels-requires
 store-labels-requires c κs =
     let after-u = c .before .before .before .before .before in
     let at-start = after-u .before .before .before .before .before .before in
-    (inside-go _ _ _ _ _ (after-u .u .given .1) (at-start .pre), labels-told _ (c .before .if1 .taken))
+    (inside-go _ _ _ _ _ (after-u .u .given .1) (at-start .pre), labels-told (after-u .u .given .0 .1 .0) (c .before .if1 .taken))
 
 same-length : tie.Need-same-length
 same-length c = search needs
