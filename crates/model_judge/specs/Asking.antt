@@ -1,7 +1,7 @@
 -- The chains, asked after the last equation with a sign. The equations are read back from the bytes: their records follow one
 -- another, 5 bytes each, and end where the last one does. Definitions only.
 use mathlib.Core.Path.{_≡_}
-use mathlib.Core.Bool.{Bool, true, false, cond, _&&_}
+use mathlib.Core.Bool.{Bool, true, cond, _&&_}
 use mathlib.Core.List.{List, [], _∷_}
 use Prim.Native.Nat.{ℕ, zero, suc, _+_, _-_, _*_, _≤_, _<_}
 use lib.Dec.{eqb, ltb}
@@ -11,10 +11,9 @@ use Rattle.rules.specs.Load.{State, signedOf, inside, step, put, last}
 use Rattle.rules.specs.Limits.{most-variables}
 use Rattle.rules.specs.Model.{Model, signed, guilty}
 use Rattle.rules.specs.declared.Equation.{Equation}
-use Rattle.rules.specs.Records.{Outcome, run}
+use Rattle.rules.specs.Records.{Outcome, run, numbersOf}
 use Rattle.rules.specs.Rooms.{Lengths}
 use Rattle.rules.specs.declared.Record.{Record}
-use Rattle.rules.specs.declared.Record.the-variants as R
 use Rattle.rules.specs.declared.Refusal.the-variants as Why
 use Rattle.bytes_read.specs.PartsAt.{partsAt}
 use Rattle.bytes_read.specs.Places.{recordAt}
@@ -53,17 +52,7 @@ pub record Spelled (s : List ℕ) (n k : ℕ) : Type 0 where
 
 -- Chains are asked after the last equation with a sign.
 abbrev pub isSigned : Record → Bool
-isSigned (R.Sizes z) = false
-isSigned (R.Label s v) = false
-isSigned (R.Block k n) = false
-isSigned (R.Equation o a b) = false
-isSigned (R.Move m) = false
-isSigned R.End = false
-isSigned (R.Stamp n) = false
-isSigned (R.Insert m) = false
-isSigned (R.Delete m) = false
-isSigned R.Live = false
-isSigned (R.Signed k o a b) = true
+isSigned r = eqb (numbersOf r .kind) 11
 
 abbrev pub asksAfter : Record → Progress → Bool
 asksAfter r y = isSigned r && eqb (y .blocks .equations) (y .sizes .variables)

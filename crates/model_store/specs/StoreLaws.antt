@@ -9,12 +9,8 @@ use native.Mathlib.Omega.{arith}
 use lib.Dec.{eqb}
 use lib.ListN.{length, drop, set, replicate, length-replicate, length-map}
 use lib.Seq.{sets, sets-eq, take-at, drop-at}
-use types.Run.{OneOf, miss}
-use denote.Enum.Declared.{tagOf}
-use Rattle.rules.proofs.Record.{the-type}
-use Rattle.rules.specs.declared.Record.the-variants as R
 use Rattle.lists.specs.Lists.{fill}
-use Rattle.lists.specs.Tests.{tests, tell, and-is, and-no, leb-is, eqb-is, eqb-no}
+use Rattle.lists.specs.Tests.{tests, tell, and-is, and-no, leb-is, eqb-is, eqb-no, or-no}
 use Rattle.rules.specs.Load.{Sofar, State, before, inside, started, put, last, sizesDemands, sizesOf, settleStyle, signedOf, movesDue, readModel}
 use Rattle.rules.specs.Limits.{most-variables, sizesOk}
 use Rattle.rules.specs.Model.{Model, equationIn, componentIn, placed, signed, signOk, styleOk, moveOk, wellFormed}
@@ -31,6 +27,8 @@ use Rattle.laws.specs.session.SessionHolds.{signs-unwords}
 use Rattle.laws.specs.bytes.Walks.{small}
 use Rattle.model_judge.specs.Beside.{plain-accepts}
 use Rattle.rules.specs.declared.Record.{Record}
+use Rattle.rules.specs.declared.Record.the-variants as R
+use Rattle.laws.specs.bytes.Kinds.{Other, other-kinds}
 use Rattle.laws.specs.bytes.RecordLaws.{AreBytes, judged, un-onto, never}
 use Rattle.laws.specs.bytes.ReadSpells.{read-spelling}
 use Rattle.bytes_read.specs.PartsAt.{partsAt}
@@ -51,7 +49,7 @@ use Rattle.rules.specs.declared.Refusal.{Refusal}
 use Rattle.rules.specs.declared.Sizes.{Sizes}
 use Rattle.model_judge.specs.TurnLaws.{Stepped, label, block, equation, move, lives, sign, stepped, first-is}
 use Rattle.model_judge.specs.declared.Progress.{Progress}
-use Rattle.model_store.specs.Stored.{Stored, equationBy, Here, Holds, Reached, NoMoves, Storing, Storable, StorableTurn, StoredWhole, putRooms, putTurn, laid, withComponents, storedBy, Spans, ReadInto}
+use Rattle.model_store.specs.Stored.{Stored, Here, Holds, Reached, NoMoves, Storing, Storable, StorableTurn, StoredWhole, putRooms, putTurn, laid, withComponents, storedBy, Spans, ReadInto}
 
 -- One zero of a run of zeros.
 pub zeros-step : (room : List ℕ) (i to : ℕ) → i < to → sets room i (replicate (to - i) 0) ≡ sets (set room i 0) (i + 1) (replicate (to - (i + 1)) 0)
@@ -186,19 +184,10 @@ module _ (l : Lengths) (s : List ℕ) (t₀ : Stored) where
   storing-over x t g e = over-by x t (g .going .0) (g .holds) e
 
 -- Other records store nothing.
-pub puts-nothing : (x : Sofar) (r : Record) (t : Stored) → Storable r → OneOf (0 ∷ 4 ∷ 5 ∷ 6 ∷ 7 ∷ 8 ∷ 9 ∷ []) (tagOf the-type r) → t ≡ putRooms x r t
+pub puts-nothing : (x : Sofar) (r : Record) (t : Stored) → Storable r → Other (2 ∷ 3 ∷ 4 ∷ 11 ∷ []) r → t ≡ putRooms x r t
 unfolding putRooms
-puts-nothing x (R.Sizes a) t f m = refl
-puts-nothing x (R.Label a b) t f m = absurd (miss (0 ∷ 4 ∷ 5 ∷ 6 ∷ 7 ∷ 8 ∷ 9 ∷ []) 1 tt m)
-puts-nothing x (R.Block a b) t f m = absurd (miss (0 ∷ 4 ∷ 5 ∷ 6 ∷ 7 ∷ 8 ∷ 9 ∷ []) 2 tt m)
-puts-nothing x (R.Equation a b d) t f m = absurd (miss (0 ∷ 4 ∷ 5 ∷ 6 ∷ 7 ∷ 8 ∷ 9 ∷ []) 3 tt m)
-puts-nothing x (R.Move a) t f m = absurd (f .0 refl)
-puts-nothing x R.End t f m = refl
-puts-nothing x (R.Stamp a) t f m = refl
-puts-nothing x (R.Insert a) t f m = refl
-puts-nothing x (R.Delete a) t f m = refl
-puts-nothing x R.Live t f m = refl
-puts-nothing x (R.Signed a b c d) t f m = absurd (miss (0 ∷ 4 ∷ 5 ∷ 6 ∷ 7 ∷ 8 ∷ 9 ∷ []) 10 tt m)
+puts-nothing x r t f m =
+    let o = simp or-no at (other-kinds (2 ∷ 3 ∷ 4 ∷ 11 ∷ []) r m) in rw (o .0, o .1 .0, o .1 .1 .0, eqb-no (numbersOf r .kind) 5 .1 (f .0), o .1 .1 .1 .0) refl
 
 -- What is read where no move is due is stored by itself.
 storable-by : (l : Lengths) (x y : Sofar) (r : Record) → movesDue x ≡ false → Stepped l x r (next (inside y)) → Storable r
@@ -213,10 +202,7 @@ pub storable-next : (l : Lengths) (s : List ℕ) (x : Progress) (n : ℕ) (u : O
 storable-next l s x n (T.Stop a) h t = tt
 storable-next l s x n (T.Go r y k) h t = storable-by l (sofarOf x) (sofarOf y) r h (rw (t .steps) at (stepped l (sofarOf x) r))
 
--- The numbers of an equation of a block fit its word, and those of one with a sign.
-pub word-fits : (x : Progress) (o a b : ℕ) → KeptIn x → (equationBy x o a b .block < 128) × (equationBy x o a b .kind ≤ 1)
-word-fits x o a b k = (omega arith, k .kind)
-
+-- The numbers of an equation with a sign that is stored by itself fit its word.
 pub sign-fits : (r : Record) (k o a b : ℕ) (e : Equation) → r ≡ R.Signed k o a b → Storable r → e ≡ signedOf k o a b → (e .block < 128) × (e .kind ≤ 1)
 sign-fits r k o a b e g h f = let w : Storable (R.Signed k o a b) = rw g at h in rw f (omega arith, w .1 refl)
 
