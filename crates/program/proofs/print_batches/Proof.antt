@@ -19,22 +19,24 @@ Inv-loop input start labels equations values₀ marks₀ moves₀ index₀ queue
 abbrev μ-loop : tie.MeasureT-loop
 μ-loop input start labels equations values₀ marks₀ moves₀ index₀ queue₀ out₀ place session₀ from₀ at₀ values marks moves index queue out session from at = length input - from
 
--- The points of the program: from what is known at a later one to what was known at an earlier one.
-abbrev start-before-loop : tie.At-loop Inv-loop μ-loop → tie.Start Inv-loop μ-loop
-start-before-loop c = c .before .before .before .before .before .before .before .before .before .before
+-- The start, from the head of the loop.
+abbrev start-of : tie.At-loop Inv-loop μ-loop → tie.Start Inv-loop μ-loop
+start-of c = c .before .before .before .before .before .before .before .before .before .before
 
-abbrev in-loop-before-step : tie.After-step Inv-loop μ-loop → tie.In-loop Inv-loop μ-loop
-in-loop-before-step c = c .before .before .before .before .before .before .before .before
+-- Where the turn began, from after its step.
+abbrev in-loop-of : tie.After-step Inv-loop μ-loop → tie.In-loop Inv-loop μ-loop
+in-loop-of c = c .before .before .before .before .before .before .before .before
 
-abbrev step-before-end : tie.After-struct-known Inv-loop μ-loop → tie.After-step Inv-loop μ-loop
-step-before-end c = c .before .before .before .before .before .before .before .before .before .before .before .before .before .before
+-- After the step, from the end of the turn.
+abbrev after-step-of : tie.After-struct-known Inv-loop μ-loop → tie.After-step Inv-loop μ-loop
+after-step-of c = c .before .before .before .before .before .before .before .before .before .before .before .before .before .before
 
 -- The part that a turn takes has a byte, and it is within the input.
-turn-takes : (c : tie.After-step Inv-loop μ-loop) → (0 < c .step .result .taken) × (in-loop-before-step c .before .loop .from + c .step .result .taken ≤ length (start-before-loop (in-loop-before-step c .before) .args .input .now))
+turn-takes : (c : tie.After-step Inv-loop μ-loop) → (0 < c .step .result .taken) × (in-loop-of c .before .loop .from + c .step .result .taken ≤ length (start-of (in-loop-of c .before) .args .input .now))
 turn-takes c =
-    let in-loop = in-loop-before-step c in
+    let in-loop = in-loop-of c in
     let at-loop = in-loop .before in
-    takes _ _ _ _ _ _ _ _ _ _ _ (at-loop .loop .inv .6) (in-loop .loop-test .taken) (c .step .result) _ _ (rw (tail-part (at-loop .loop .from) (start-before-loop at-loop .args .input .now)) at (c .step .ensures))
+    takes _ _ _ _ _ _ _ _ _ _ _ (at-loop .loop .inv .6) (in-loop .loop-test .taken) (c .step .result) _ _ (rw (tail-part (at-loop .loop .from) (start-of at-loop .args .input .now)) at (c .step .ensures))
 
 loop-holds : tie.Need-loop-holds Inv-loop μ-loop
 loop-holds c =
@@ -58,29 +60,29 @@ step-requires c κs =
 
 add-from : tie.Need-add-from Inv-loop μ-loop
 add-from c =
-    let after-step = step-before-end c in
-    let at-start = start-before-loop (in-loop-before-step after-step .before) in
+    let after-step = after-step-of c in
+    let at-start = start-of (in-loop-of after-step .before) in
     record { fits = omega (arith, turn-takes after-step .1, at-start .pre .0) }
 
 loop-less : tie.Need-loop-less Inv-loop μ-loop
 loop-less c =
-    let after-step = step-before-end c in
-    omega (arith, turn-takes after-step, in-loop-before-step after-step .loop-test .taken)
+    let after-step = after-step-of c in
+    omega (arith, turn-takes after-step, in-loop-of after-step .loop-test .taken)
 
 loop-again : tie.Need-loop-again Inv-loop μ-loop
 loop-again c =
-    let kept = step-before-end c .step .kept in
-    let inv = in-loop-before-step (step-before-end c) .before .loop .inv in (
+    let kept = (after-step-of c) .step .kept in
+    let inv = in-loop-of (after-step-of c) .before .loop .inv in (
       search needs,
       search needs,
       search needs,
       search needs,
       search needs,
       search needs,
-      let after-step = step-before-end c in
-          let in-loop = in-loop-before-step after-step in
+      let after-step = after-step-of c in
+          let in-loop = in-loop-of after-step in
           let at-loop = in-loop .before in
-          goes-on _ _ _ _ _ _ _ _ _ _ _ (inv .6) (in-loop .loop-test .taken) (after-step .step .result) _ _ (rw (tail-part (at-loop .loop .from) (start-before-loop at-loop .args .input .now)) at (after-step .step .ensures)),
+          goes-on _ _ _ _ _ _ _ _ _ _ _ (inv .6) (in-loop .loop-test .taken) (after-step .step .result) _ _ (rw (tail-part (at-loop .loop .from) (start-of at-loop .args .input .now)) at (after-step .step .ensures)),
     )
 
 same-length : tie.Need-same-length Inv-loop μ-loop

@@ -10,16 +10,32 @@ use borrow.Author.Needs.{needs}
 use Rattle.program.proofs.run_in.Statement.{statement}
 use Rattle.program.proofs.run_in.Tie as tie
 
+-- What is known of the input at the start, from after the first part was cut.
+abbrev input-known-of : tie.After-first-part → tie.After-shared-slice-known
+input-known-of c = c .before .before .before .before .before .before .before .before .before
+
+-- After the first part was cut, from after the load.
+abbrev after-first-part-of : tie.After-load → tie.After-first-part
+after-first-part-of c = c .before .before .before .before .before .before .before .before .before
+
+-- After the load, from after its line.
+abbrev after-load-of : tie.After-put-load → tie.After-load
+after-load-of c = c .before .before .before .before .before .before .before .before .before .before .before .before .before .before .before .before .before
+
+-- The input holds bytes.
+input-bytes : (c : tie.After-first-part) → AreBytes (input-known-of c .before .args .input .now)
+input-bytes c =
+    let known = input-known-of c in
+    are-bytes (known .before .args .input .now) (λ i. omega (arith, known .shared-slice-known .given i))
+
+-- The line of the load has at most 16 bytes and 16 for each byte of the model's part.
+load-line : (c : tie.After-put-load) → c .put-load .result ≤ 16 + 16 * after-first-part-of (after-load-of c) .first-part .result
+load-line c =
+    let after-load = after-load-of c in
+    let after-first-part = after-first-part-of after-load in
+    short-load _ _ (input-bytes after-first-part) _ (after-first-part .first-part .ensures) (after-load .load .result) _ (after-load .load .ensures) _ (c .put-load .last .0) (c .put-load .result) (c .put-load .ensures .0) (c .put-load .ensures .1)
+
 -- The points of the program: from what is known at a later one to what was known at an earlier one.
-abbrev shared-slice-known-before-first-part : tie.After-first-part → tie.After-shared-slice-known
-shared-slice-known-before-first-part c = c .before .before .before .before .before .before .before .before .before
-
-abbrev first-part-before-load : tie.After-load → tie.After-first-part
-first-part-before-load c = c .before .before .before .before .before .before .before .before .before
-
-abbrev load-before-put-load : tie.After-put-load → tie.After-load
-load-before-put-load c = c .before .before .before .before .before .before .before .before .before .before .before .before .before .before .before .before .before
-
 abbrev put-load-before-said2 : tie.After-said2 → tie.After-put-load
 put-load-before-said2 c = c .before .before .before .before
 
@@ -30,7 +46,7 @@ abbrev put-load-before-print-batches-arg8 : tie.After-print-batches-arg8 → tie
 put-load-before-print-batches-arg8 c = put-load-before-said2 (c .before .before .before .before .before .before .before .before .before)
 
 abbrev load-before-print-batches : tie.After-print-batches → tie.After-load
-load-before-print-batches c = load-before-put-load (put-load-before-print-batches-arg8 (c .before))
+load-before-print-batches c = after-load-of (put-load-before-print-batches-arg8 (c .before))
 
 abbrev said2-before-print-batches : tie.After-print-batches → tie.After-said2
 said2-before-print-batches c = c .before .before .before .before .before .before .before .before .before .before
@@ -41,26 +57,13 @@ print-batches-before-slice-known22 c = c .before .before .before .before .before
 abbrev load-before-slice-known22 : tie.After-slice-known22 → tie.After-load
 load-before-slice-known22 c = load-before-print-batches (print-batches-before-slice-known22 c)
 
--- The input holds bytes.
-input-bytes : (c : tie.After-first-part) → AreBytes (shared-slice-known-before-first-part c .before .args .input .now)
-input-bytes c =
-    let known = shared-slice-known-before-first-part c in
-    are-bytes (known .before .args .input .now) (λ i. omega (arith, known .shared-slice-known .given i))
-
--- The line of the load has at most 16 bytes and 16 for each byte of the model's part.
-load-line : (c : tie.After-put-load) → c .put-load .result ≤ 16 + 16 * first-part-before-load (load-before-put-load c) .first-part .result
-load-line c =
-    let after-load = load-before-put-load c in
-    let after-first-part = first-part-before-load after-load in
-    short-load _ _ (input-bytes after-first-part) _ (after-first-part .first-part .ensures) (after-load .load .result) _ (after-load .load .ensures) _ (c .put-load .last .0) (c .put-load .result) (c .put-load .ensures .0) (c .put-load .ensures .1)
-
 first-part-requires : tie.Need-first-part-requires
 first-part-requires c κs = search needs
 
 slice-aggregate-load : tie.Need-slice-aggregate-load
 slice-aggregate-load c =
     let after-first-part = c .before in
-    part-within (shared-slice-known-before-first-part after-first-part .before .args .input .now) (after-first-part .first-part .result) (after-first-part .first-part .ensures)
+    part-within ((input-known-of after-first-part) .before .args .input .now) (after-first-part .first-part .result) (after-first-part .first-part .ensures)
 
 load-requires : tie.Need-load-requires
 load-requires c κs = search needs
@@ -77,8 +80,8 @@ enum-known-said-2 c = search needs
 print-batches-requires : tie.Need-print-batches-requires
 print-batches-requires c κs =
     let after-put-load = put-load-before-print-batches-arg8 c in
-    let after-first-part = first-part-before-load (load-before-put-load after-put-load) in
-    let at-start = shared-slice-known-before-first-part after-first-part .before in
+    let after-first-part = after-first-part-of (after-load-of after-put-load) in
+    let at-start = (input-known-of after-first-part) .before in
     let most = cut-most (at-start .args .input .now) in
     let cuts = after-first-part .first-part .ensures in
     (at-start .pre, omega arith, load-line after-put-load)
@@ -110,12 +113,12 @@ same-length-8 c = search needs
 returns : tie.Need-returns
 returns c =
     let after-put-load = put-load-before-known-told c in
-    let after-load = load-before-put-load after-put-load in
-    let after-first-part = first-part-before-load after-load in
+    let after-load = after-load-of after-put-load in
+    let after-first-part = after-first-part-of after-load in
     let put = after-put-load .put-load in
     let refusal = c .before .said .given in
     let short = load-line after-put-load in
-    let most = cut-most (shared-slice-known-before-first-part after-first-part .before .args .input .now) in
+    let most = cut-most ((input-known-of after-first-part) .before .args .input .now) in
     let cuts = after-first-part .first-part .ensures in
     (refused-run _ _ (input-bytes after-first-part) _ cuts (after-load .load .result) _ (after-load .load .ensures) _ (put .last .0) (put .result) (put .ensures .0) (put .ensures .1) (refusal .0 .0) (refusal .0 .1 .0) (refusal .1), omega arith)
 
@@ -158,8 +161,8 @@ returns-2 c =
     let after-print-batches = print-batches-before-slice-known22 c in
     let after-said2 = said2-before-print-batches after-print-batches in
     let after-put-load = put-load-before-said2 after-said2 in
-    let after-load = load-before-put-load after-put-load in
-    let after-first-part = first-part-before-load after-load in
+    let after-load = after-load-of after-put-load in
+    let after-first-part = after-first-part-of after-load in
     let put = after-put-load .put-load in
     let session = after-said2 .said2 .given in
     let batches = after-print-batches .print-batches .ensures in
