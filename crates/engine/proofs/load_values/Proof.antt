@@ -18,12 +18,25 @@ use Rattle.engine_values.proofs.clear.Reads as clear-reads
 use Rattle.engine_values.proofs.own_values.Reads as own-values-reads
 use Rattle.limits.proofs.pairs_of.Reads as pairs-of-reads
 
+-- The points of the program: from what is known at a later one to what was known at an earlier one.
+abbrev start-before-pairs-of : tie.After-pairs-of → tie.Start
+start-before-pairs-of c = c .before .before .before .before .before .before .before .before
+
+abbrev pairs-of-before-own-values : tie.After-own-values → tie.After-pairs-of
+pairs-of-before-own-values c = c .before .before
+
+abbrev own-values-before-move-in-rooms-arg4 : tie.After-move-in-rooms-arg4 → tie.After-own-values
+own-values-before-move-in-rooms-arg4 c = c .before .before .before .before .before .before
+
+abbrev move-in-rooms-before-clear-arg : tie.After-clear-arg → tie.After-move-in-rooms
+move-in-rooms-before-clear-arg c = c .before .before .before .before .before .before .before .before .before
+
 pairs-of-requires : tie.Need-pairs-of-requires
 pairs-of-requires c κs = search needs
 
 own-values-requires : tie.Need-own-values-requires
 own-values-requires c κs =
-    let at-start = c .before .before .before .before .before .before .before .before .before in
+    let at-start = start-before-pairs-of (c .before) in
     let a = at-start .args in
     let d = at-start .pre .0 in
     let is-pairs = c .before .pairs-of .ensures .0 in
@@ -31,36 +44,36 @@ own-values-requires c κs =
 
 move-in-rooms-requires : tie.Need-move-in-rooms-requires
 move-in-rooms-requires c κs =
-    let at-own = c .before .before .before .before .before .before in
-    let at-pairs = at-own .before .before in
-    let at-start = at-pairs .before .before .before .before .before .before .before .before in
+    let after-own-values = own-values-before-move-in-rooms-arg4 c in
+    let after-pairs-of = pairs-of-before-own-values after-own-values in
+    let at-start = start-before-pairs-of after-pairs-of in
     let a = at-start .args in
     let m = tableOf (a .sizes) (a .labels .now) (a .equations .now) (a .moves .now) (a .n) in
     let d = at-start .pre .0 in
     let rooms = at-start .pre .1 .0 in
     let ok = drawn-sound (a .sizes) (a .labels .now) (a .equations .now) (a .moves .now) (a .n) d in
-    let is-pairs = at-pairs .pairs-of .ensures .0 in
-    let is-own = at-own .own-values .ensures ∙ ap (λ (q : ℕ). fill (bits q (λ p. eqb (kindIn (a .sizes) (a .equations .now) p) 1)) (a .values .now)) is-pairs
+    let is-pairs = after-pairs-of .pairs-of .ensures .0 in
+    let is-own = after-own-values .own-values .ensures ∙ ap (λ (q : ℕ). fill (bits q (λ p. eqb (kindIn (a .sizes) (a .equations .now) p) 1)) (a .values .now)) is-pairs
     ∙ own-filled (a .sizes) (a .labels .now) (a .equations .now) (a .moves .now) (a .n) d (a .values .now) in
-    let kept = at-own .own-values .kept .1 .1 .1 .0 in
+    let kept = after-own-values .own-values .kept .1 .1 .1 .0 in
     (d, (refl, (load-starts m ok (a .values .now) _ (rooms .0) is-own, (((omega (arith, rooms .0), rooms .1), omega arith), at-start .pre .1 .1))))
 
 clear-requires : tie.Need-clear-requires
 clear-requires c κs =
-    let at-own = c .before .before .before .before .before .before .before .before .before .before .before .before .before .before .before .before in
-    let at-pairs = at-own .before .before in
-    let at-start = at-pairs .before .before .before .before .before .before .before .before in
+    let after-move-in-rooms = move-in-rooms-before-clear-arg c in
+    let after-own-values = own-values-before-move-in-rooms-arg4 (after-move-in-rooms .before) in
+    let after-pairs-of = pairs-of-before-own-values after-own-values in
+    let at-start = start-before-pairs-of after-pairs-of in
     let a = at-start .args in
     let m = tableOf (a .sizes) (a .labels .now) (a .equations .now) (a .moves .now) (a .n) in
     let d = at-start .pre .0 in
     let rooms = at-start .pre .1 .0 in
     let ok = drawn-sound (a .sizes) (a .labels .now) (a .equations .now) (a .moves .now) (a .n) d in
-    let is-pairs = at-pairs .pairs-of .ensures .0 in
-    let is-own = at-own .own-values .ensures ∙ ap (λ (q : ℕ). fill (bits q (λ p. eqb (kindIn (a .sizes) (a .equations .now) p) 1)) (a .values .now)) is-pairs
+    let is-pairs = after-pairs-of .pairs-of .ensures .0 in
+    let is-own = after-own-values .own-values .ensures ∙ ap (λ (q : ℕ). fill (bits q (λ p. eqb (kindIn (a .sizes) (a .equations .now) p) 1)) (a .values .now)) is-pairs
     ∙ own-filled (a .sizes) (a .labels .now) (a .equations .now) (a .moves .now) (a .n) d (a .values .now) in
-    let kept = at-own .own-values .kept .1 .1 .1 .0 in
-    let at-move = c .before .before .before .before .before .before .before .before .before in
-    let marked = at-move .move-in-rooms .kept .1 .1 .1 .1 .1 .1 .1 .1 .0 in
+    let kept = after-own-values .own-values .kept .1 .1 .1 .0 in
+    let marked = after-move-in-rooms .move-in-rooms .kept .1 .1 .1 .1 .1 .1 .1 .1 .0 in
     omega (arith, rooms .1)
 
 same-length : tie.Need-same-length
@@ -77,24 +90,24 @@ same-length-4 c = search needs
 
 returns : tie.Need-returns
 returns c =
-    let at-own = c .before .before .before .before .before .before .before .before .before .before .before .before .before .before .before .before .before .before .before in
-    let at-pairs = at-own .before .before in
-    let at-start = at-pairs .before .before .before .before .before .before .before .before in
+    let after-clear = c .before .before in
+    let after-move-in-rooms = move-in-rooms-before-clear-arg (after-clear .before) in
+    let after-own-values = own-values-before-move-in-rooms-arg4 (after-move-in-rooms .before) in
+    let after-pairs-of = pairs-of-before-own-values after-own-values in
+    let at-start = start-before-pairs-of after-pairs-of in
     let a = at-start .args in
     let m = tableOf (a .sizes) (a .labels .now) (a .equations .now) (a .moves .now) (a .n) in
     let d = at-start .pre .0 in
     let rooms = at-start .pre .1 .0 in
     let ok = drawn-sound (a .sizes) (a .labels .now) (a .equations .now) (a .moves .now) (a .n) d in
-    let is-pairs = at-pairs .pairs-of .ensures .0 in
-    let is-own = at-own .own-values .ensures ∙ ap (λ (q : ℕ). fill (bits q (λ p. eqb (kindIn (a .sizes) (a .equations .now) p) 1)) (a .values .now)) is-pairs
+    let is-pairs = after-pairs-of .pairs-of .ensures .0 in
+    let is-own = after-own-values .own-values .ensures ∙ ap (λ (q : ℕ). fill (bits q (λ p. eqb (kindIn (a .sizes) (a .equations .now) p) 1)) (a .values .now)) is-pairs
     ∙ own-filled (a .sizes) (a .labels .now) (a .equations .now) (a .moves .now) (a .n) d (a .values .now) in
-    let kept = at-own .own-values .kept .1 .1 .1 .0 in
-    let at-clear = c .before .before in
-    let at-move = at-clear .before .before .before .before .before .before .before .before .before .before in
-    let moved = at-move .move-in-rooms .ensures in (
+    let kept = after-own-values .own-values .kept .1 .1 .1 .0 in
+    let moved = after-move-in-rooms .move-in-rooms .ensures in (
       (
         load-leaves m ok (a .values .now) _ (rooms .0) is-own (a .marks .now) _ _ _ _ _ (moved .0),
-        load-clears m ok (a .values .now) _ (rooms .0) is-own (a .marks .now) _ _ _ _ _ _ (at-pairs .pairs-of .result) (moved .0) is-pairs (at-clear .clear .ensures),
+        load-clears m ok (a .values .now) _ (rooms .0) is-own (a .marks .now) _ _ _ _ _ _ (after-pairs-of .pairs-of .result) (moved .0) is-pairs (after-clear .clear .ensures),
       ),
       moved .1,
     )

@@ -17,6 +17,19 @@ use Rattle.engine.proofs.index_and_turn.Reads as index-and-turn-reads
 use Rattle.engine_values.proofs.clear.Reads as clear-reads
 use Rattle.limits.proofs.pairs_of.Reads as pairs-of-reads
 
+-- The points of the program: from what is known at a later one to what was known at an earlier one.
+abbrev start-before-pairs-of : tie.After-pairs-of → tie.Start
+start-before-pairs-of c = c .before .before .before .before .before .before .before .before .before
+
+abbrev pairs-of-before-clear : tie.After-clear → tie.After-pairs-of
+pairs-of-before-clear c = c .before .before .before .before
+
+abbrev clear-before-index-and-turn-arg : tie.After-index-and-turn-arg → tie.After-clear
+clear-before-index-and-turn-arg c = c .before .before .before
+
+abbrev clear-before-index-and-turn-arg8 : tie.After-index-and-turn-arg8 → tie.After-clear
+clear-before-index-and-turn-arg8 c = clear-before-index-and-turn-arg (c .before .before .before .before .before .before .before)
+
 pairs-of-requires : tie.Need-pairs-of-requires
 pairs-of-requires c κs = search needs
 
@@ -31,110 +44,110 @@ clear-requires c κs = search needs
 
 slice-aggregate-index-and-turn : tie.Need-slice-aggregate-index-and-turn
 slice-aggregate-index-and-turn c =
-    let at-clear = c .before .before .before in
-    let at-pairs = at-clear .before .before .before .before in
-    let at-start = at-pairs .before .before .before .before .before .before .before .before .before in
+    let after-clear = clear-before-index-and-turn-arg c in
+    let after-pairs-of = pairs-of-before-clear after-clear in
+    let at-start = start-before-pairs-of after-pairs-of in
     let a = at-start .args in
     let d = at-start .pre .0 in
     let rooms = at-start .pre .1 .1 .1 .0 in
-    let is-pairs = at-pairs .pairs-of .ensures .0 in
-    let cleared = at-clear .clear .kept .0 in
+    let is-pairs = after-pairs-of .pairs-of .ensures .0 in
+    let cleared = after-clear .clear .kept .0 in
     sym (length-take-le (a .sizes .states) (a .labels .now) (d .long-labels))
 
 slice-aggregate-index-and-turn-2 : tie.Need-slice-aggregate-index-and-turn-2
 slice-aggregate-index-and-turn-2 c =
-    let at-clear = c .before .before .before .before in
-    let at-pairs = at-clear .before .before .before .before in
-    let at-start = at-pairs .before .before .before .before .before .before .before .before .before in
+    let after-clear = clear-before-index-and-turn-arg (c .before) in
+    let after-pairs-of = pairs-of-before-clear after-clear in
+    let at-start = start-before-pairs-of after-pairs-of in
     let a = at-start .args in
     let d = at-start .pre .0 in
     let rooms = at-start .pre .1 .1 .1 .0 in
-    let is-pairs = at-pairs .pairs-of .ensures .0 in
-    let cleared = at-clear .clear .kept .0 in
+    let is-pairs = after-pairs-of .pairs-of .ensures .0 in
+    let cleared = after-clear .clear .kept .0 in
     sym (length-take-le (a .sizes .variables) (a .equations .now) (d .long-equations))
 
 slice-aggregate-index-and-turn-3 : tie.Need-slice-aggregate-index-and-turn-3
 slice-aggregate-index-and-turn-3 c =
-    let at-clear = c .before .before .before .before .before in
-    let at-pairs = at-clear .before .before .before .before in
-    let at-start = at-pairs .before .before .before .before .before .before .before .before .before in
+    let after-clear = clear-before-index-and-turn-arg (c .before .before) in
+    let after-pairs-of = pairs-of-before-clear after-clear in
+    let at-start = start-before-pairs-of after-pairs-of in
     let a = at-start .args in
     let d = at-start .pre .0 in
     let rooms = at-start .pre .1 .1 .1 .0 in
-    let is-pairs = at-pairs .pairs-of .ensures .0 in
-    let cleared = at-clear .clear .kept .0 in
+    let is-pairs = after-pairs-of .pairs-of .ensures .0 in
+    let cleared = after-clear .clear .kept .0 in
     sym (length-take-le (a .n) (a .moves .now) (d .long-moves))
 
 slice-aggregate-index-and-turn-4 : tie.Need-slice-aggregate-index-and-turn-4
 slice-aggregate-index-and-turn-4 c =
-    let at-clear = c .before .before .before .before .before .before in
-    let at-pairs = at-clear .before .before .before .before in
-    let at-start = at-pairs .before .before .before .before .before .before .before .before .before in
+    let after-clear = clear-before-index-and-turn-arg (c .before .before .before) in
+    let after-pairs-of = pairs-of-before-clear after-clear in
+    let at-start = start-before-pairs-of after-pairs-of in
     let a = at-start .args in
     let d = at-start .pre .0 in
     let rooms = at-start .pre .1 .1 .1 .0 in
-    let is-pairs = at-pairs .pairs-of .ensures .0 in
-    let cleared = at-clear .clear .kept .0 in
+    let is-pairs = after-pairs-of .pairs-of .ensures .0 in
+    let cleared = after-clear .clear .kept .0 in
     sym (length-take-le (a .count) (a .changes .now) (rooms .1))
 
 slice-relend-prefix-index-and-turn : tie.Need-slice-relend-prefix-index-and-turn
 slice-relend-prefix-index-and-turn c =
-    let at-clear = c .before .before .before .before .before .before in
-    let at-pairs = at-clear .before .before .before .before in
-    let at-start = at-pairs .before .before .before .before .before .before .before .before .before in
+    let after-clear = clear-before-index-and-turn-arg (c .before .before .before) in
+    let after-pairs-of = pairs-of-before-clear after-clear in
+    let at-start = start-before-pairs-of after-pairs-of in
     let a = at-start .args in
     let d = at-start .pre .0 in
     let rooms = at-start .pre .1 .1 .1 .0 in
-    let is-pairs = at-pairs .pairs-of .ensures .0 in
-    let cleared = at-clear .clear .kept .0 in
+    let is-pairs = after-pairs-of .pairs-of .ensures .0 in
+    let cleared = after-clear .clear .kept .0 in
     omega (arith, rooms .0 .0)
 
 slice-aggregate-index-and-turn-5 : tie.Need-slice-aggregate-index-and-turn-5
 slice-aggregate-index-and-turn-5 c =
-    let at-clear = c .before .before .before .before .before .before .before in
-    let at-pairs = at-clear .before .before .before .before in
-    let at-start = at-pairs .before .before .before .before .before .before .before .before .before in
+    let after-clear = clear-before-index-and-turn-arg (c .before .before .before .before) in
+    let after-pairs-of = pairs-of-before-clear after-clear in
+    let at-start = start-before-pairs-of after-pairs-of in
     let a = at-start .args in
     let d = at-start .pre .0 in
     let rooms = at-start .pre .1 .1 .1 .0 in
-    let is-pairs = at-pairs .pairs-of .ensures .0 in
-    let cleared = at-clear .clear .kept .0 in
-    sym (length-take-le (at-pairs .pairs-of .result) (a .values .now) (omega (arith, rooms .0 .0)))
+    let is-pairs = after-pairs-of .pairs-of .ensures .0 in
+    let cleared = after-clear .clear .kept .0 in
+    sym (length-take-le (after-pairs-of .pairs-of .result) (a .values .now) (omega (arith, rooms .0 .0)))
 
 slice-relend-prefix-index-and-turn-2 : tie.Need-slice-relend-prefix-index-and-turn-2
 slice-relend-prefix-index-and-turn-2 c =
-    let at-clear = c .before .before .before .before .before .before .before in
-    let at-pairs = at-clear .before .before .before .before in
-    let at-start = at-pairs .before .before .before .before .before .before .before .before .before in
+    let after-clear = clear-before-index-and-turn-arg (c .before .before .before .before) in
+    let after-pairs-of = pairs-of-before-clear after-clear in
+    let at-start = start-before-pairs-of after-pairs-of in
     let a = at-start .args in
     let d = at-start .pre .0 in
     let rooms = at-start .pre .1 .1 .1 .0 in
-    let is-pairs = at-pairs .pairs-of .ensures .0 in
-    let cleared = at-clear .clear .kept .0 in
+    let is-pairs = after-pairs-of .pairs-of .ensures .0 in
+    let cleared = after-clear .clear .kept .0 in
     omega (arith, rooms .0 .1)
 
 slice-aggregate-index-and-turn-6 : tie.Need-slice-aggregate-index-and-turn-6
 slice-aggregate-index-and-turn-6 c =
-    let at-clear = c .before .before .before .before .before .before .before .before in
-    let at-pairs = at-clear .before .before .before .before in
-    let at-start = at-pairs .before .before .before .before .before .before .before .before .before in
+    let after-clear = clear-before-index-and-turn-arg (c .before .before .before .before .before) in
+    let after-pairs-of = pairs-of-before-clear after-clear in
+    let at-start = start-before-pairs-of after-pairs-of in
     let a = at-start .args in
     let d = at-start .pre .0 in
     let rooms = at-start .pre .1 .1 .1 .0 in
-    let is-pairs = at-pairs .pairs-of .ensures .0 in
-    let cleared = at-clear .clear .kept .0 in
-    sym (length-take-le (at-pairs .pairs-of .result) (at-clear .clear .last .0) (omega (arith, rooms .0 .1)))
+    let is-pairs = after-pairs-of .pairs-of .ensures .0 in
+    let cleared = after-clear .clear .kept .0 in
+    sym (length-take-le (after-pairs-of .pairs-of .result) (after-clear .clear .last .0) (omega (arith, rooms .0 .1)))
 
 index-and-turn-requires : tie.Need-index-and-turn-requires
 index-and-turn-requires c κs =
-    let at-clear = c .before .before .before .before .before .before .before .before .before .before in
-    let at-pairs = at-clear .before .before .before .before in
-    let at-start = at-pairs .before .before .before .before .before .before .before .before .before in
+    let after-clear = clear-before-index-and-turn-arg8 c in
+    let after-pairs-of = pairs-of-before-clear after-clear in
+    let at-start = start-before-pairs-of after-pairs-of in
     let a = at-start .args in
     let d = at-start .pre .0 in
     let rooms = at-start .pre .1 .1 .1 .0 in
-    let is-pairs = at-pairs .pairs-of .ensures .0 in
-    let cleared = at-clear .clear .kept .0 in
+    let is-pairs = after-pairs-of .pairs-of .ensures .0 in
+    let cleared = after-clear .clear .kept .0 in
     let m = tableOf (a .sizes) (a .labels .now) (a .equations .now) (a .moves .now) (a .n) in
     let cs = changesOf (take (a .count) (a .changes .now)) in
     let work = at-start .pre .1 .1 .1 .1 in
@@ -145,7 +158,7 @@ index-and-turn-requires c κs =
         (
           (
             subst (λ (q : ℕ). Started m cs (take q (a .values .now))) (sym is-pairs) (at-start .pre .1 .1 .0),
-            cleared-part (at-pairs .pairs-of .result) (a .marks .now) _ (at-clear .clear .ensures) ∙ ap (λ (q : ℕ). replicate q 0) is-pairs,
+            cleared-part (after-pairs-of .pairs-of .result) (a .marks .now) _ (after-clear .clear .ensures) ∙ ap (λ (q : ℕ). replicate q 0) is-pairs,
           ),
           ((omega (arith, work .0 .0), work .0 .1), work .1),
         ),
@@ -166,18 +179,18 @@ same-length-4 c = search needs
 
 returns : tie.Need-returns
 returns c =
-    let at-clear = c .before .before .before .before .before .before .before .before .before .before .before .before .before .before .before .before .before .before .before in
-    let at-pairs = at-clear .before .before .before .before in
-    let at-start = at-pairs .before .before .before .before .before .before .before .before .before in
+    let after-index-and-turn = c .before .before .before .before .before .before .before .before in
+    let after-clear = clear-before-index-and-turn-arg8 (after-index-and-turn .before) in
+    let after-pairs-of = pairs-of-before-clear after-clear in
+    let at-start = start-before-pairs-of after-pairs-of in
     let a = at-start .args in
     let d = at-start .pre .0 in
     let rooms = at-start .pre .1 .1 .1 .0 in
-    let is-pairs = at-pairs .pairs-of .ensures .0 in
-    let cleared = at-clear .clear .kept .0 in
-    let at-turn = c .before .before .before .before .before .before .before .before in
+    let is-pairs = after-pairs-of .pairs-of .ensures .0 in
+    let cleared = after-clear .clear .kept .0 in
     let m = tableOf (a .sizes) (a .labels .now) (a .equations .now) (a .moves .now) (a .n) in
     let cs = changesOf (take (a .count) (a .changes .now)) in
-    moved-in m cs (a .values .now) (a .marks .now) (at-clear .clear .last .0) (at-pairs .pairs-of .result) _ _ _ _ _ is-pairs (at-clear .clear .ensures) (at-turn .index-and-turn .ensures)
+    moved-in m cs (a .values .now) (a .marks .now) (after-clear .clear .last .0) (after-pairs-of .pairs-of .result) _ _ _ _ _ is-pairs (after-clear .clear .ensures) (after-index-and-turn .index-and-turn .ensures)
 
 pub move-values-spec : {M : Type 1} → statement M
 move-values-spec =
