@@ -112,8 +112,8 @@ phase-requires-2 c κs =
 
 add-i : tie.Need-add-i Inv-loop μ-loop
 add-i c =
-    let in-loop = c .before .before .before .before .before .before .before .before .before .before .before .before .before .before .before .before .before .before .before .before .before .before .before .before .before .before in
-    omega (arith, in-loop .loop-test .taken)
+    let in-loop = in-loop-before-phase-arg4 (phase-before-phase-arg8 (phase2-before-slice-known12 c .before) .before) in
+    omega (arith, in-loop .loop-test .taken, (count-blocks-before-in-loop in-loop) .count-blocks)
 
 loop-less : tie.Need-loop-less Inv-loop μ-loop
 loop-less c =

@@ -111,21 +111,19 @@ visit-requires c κs =
 
 add-place-in-half : tie.Need-add-place-in-half Inv-loop μ-loop
 add-place-in-half c =
-    let in-loop = c .before .before .before .before .before .before .before .before .before in
-    let after-heads-of = in-loop .before .before .before .before in
-    let at-start = after-heads-of .before .before .before .before .before .before .before in
+    let in-loop = source-of-before-visit (c .before .before .before .before) .before .before in
+    let after-heads-of = heads-of-before-in-loop in-loop in
     let b = in-loop .before .loop .inv .below in
-    let i = at-start .pre .1 .0 .long in
+    let z = limits (start-before-heads-of after-heads-of .pre .0 .drawn) in
     let e = after-heads-of .heads-of .ensures in
     omega (arith, in-loop .loop-test .taken)
 
 mul-place-in-half-2 : tie.Need-mul-place-in-half-2 Inv-loop μ-loop
 mul-place-in-half-2 c =
-    let in-loop = c .before .before .before .before .before .before .before .before .before in
-    let after-heads-of = in-loop .before .before .before .before in
-    let at-start = after-heads-of .before .before .before .before .before .before .before in
+    let in-loop = source-of-before-visit (c .before .before .before .before) .before .before in
+    let after-heads-of = heads-of-before-in-loop in-loop in
     let b = in-loop .before .loop .inv .below in
-    let i = at-start .pre .1 .0 .long in
+    let z = limits (start-before-heads-of after-heads-of .pre .0 .drawn) in
     let e = after-heads-of .heads-of .ensures in
     omega (arith, in-loop .loop-test .taken)
 
