@@ -18,7 +18,7 @@ ghost use Rattle.laws.specs.chains.Placed.{withBlock};
 use rules::Equation;
 
 // The equation of variable x.
-fn equation_at(equations: &[u32], x: usize) -> Equation
+pub fn equation_at(equations: &[u32], x: usize) -> Equation
     requires { ⌜ x < length (now equations) ⌝ }
     ensures { λ r. ⌜ r ≡ equationIn (map unword (now (equations .entry))) x ⌝ }
 {
