@@ -26,7 +26,8 @@ use Rattle.batch_apply.specs.Kept.{Kept, appliedTo, Ready}
 use Rattle.batch_apply.specs.Struck.{below-mark}
 use Rattle.batch_apply.specs.Applied.{laid, applied-edits}
 use Rattle.session_judge.specs.Checks.{checkOf, checkedSays}
-use Rattle.session_judge.specs.Passed.{Fits, passed-work, passed-fits, passed-holds, passed-moves}
+use Rattle.session_check.specs.Fitting.{Fits}
+use Rattle.session_judge.specs.Passed.{passed-work, passed-fits, passed-holds, passed-moves}
 use Rattle.session_judge.specs.declared.Checked.{Checked}
 use Rattle.session_judge.specs.declared.Checked.the-variants as Found
 use Rattle.engine_table.specs.Lent.{tableOf, Drawn}

@@ -2,17 +2,14 @@
 use mathlib.Core.Path.{_≡_, refl, sym, ap, ap₂, _∙_, subst}
 use mathlib.Core.Logic.{inl, inr}
 use mathlib.Core.Bool.{cond}
-use mathlib.Core.List.{List, [], _∷_, _++_}
-use Prim.Native.Nat.{ℕ, zero, suc, _+_, _≤_, _<_}
-use native.Mathlib.Nat.{eq-or-lt-of-le, le-of-suc-le-suc, not-suc-le-zero}
+use mathlib.Core.List.{List, [], _∷_}
+use Prim.Native.Nat.{ℕ, suc, _+_, _≤_, _<_}
+use native.Mathlib.Nat.{eq-or-lt-of-le}
 use native.Mathlib.Decide.{decLt}
 use native.Mathlib.Omega.{arith}
-use lib.ListN.{length, getD, drop, set, length-set}
+use lib.ListN.{length, getD, set, length-set, List·getD-eq-default}
 use lib.Seq.{getD-set-same, getD-set-other}
 use lib.Dec.{ltb}
-use Rattle.laws.specs.session.Accepted.{filled-at}
-use Rattle.laws.specs.session.SessionHolds.{fill-length}
-use Rattle.lists.specs.Lists.{fill}
 use Rattle.lists.specs.Tests.{ltb-in, ltb-no, cond-yes, cond-no}
 
 -- The first k entries of a room are f's, and the others are as they were in room₀.
@@ -54,17 +51,6 @@ module _ (f : ℕ → ℕ) (room₀ : List ℕ) where
   pub filled-end : (k n : ℕ) (room : List ℕ) → Filled f room₀ k room → k ≡ n → Filled f room₀ n room
   filled-end k n room d e = subst (λ (j : ℕ). Filled f room₀ j room) e d
 
-drop-none : (n : ℕ) → drop {A = ℕ} n [] ≡ []
-drop-none zero = refl
-drop-none (suc n) = refl
-
--- What stands past the new entries of a room is as it was.
-fill-past : (new room : List ℕ) (x : ℕ) → length new ≤ x → getD (fill new room) x 0 ≡ getD room x 0
-fill-past [] room x h = refl
-fill-past (v ∷ new) room zero h = absurd (not-suc-le-zero h)
-fill-past (v ∷ new) [] (suc x) h = ap (λ (t : List ℕ). getD (new ++ t) x 0) (sym (drop-none (length new))) ∙ fill-past new [] x (le-of-suc-le-suc h)
-fill-past (v ∷ new) (w ∷ room) (suc x) h = fill-past new room x (le-of-suc-le-suc h)
-
 -- Rooms of one length with the same entries are the same.
 pub same-entries : (u v : List ℕ) → length u ≡ length v → ((x : ℕ) → getD u x 0 ≡ getD v x 0) → u ≡ v
 same-entries [] [] h f = refl
@@ -72,10 +58,10 @@ same-entries [] (y ∷ v) h f = absurd (omega arith)
 same-entries (x ∷ u) [] h f = absurd (omega arith)
 same-entries (x ∷ u) (y ∷ v) h f = ap₂ (λ (a : ℕ) (t : List ℕ). a ∷ t) (f 0) (same-entries u v (omega arith) (λ i. f (suc i)))
 
--- A room that is filled has the new entries in front.
-pub filled-list : (f : ℕ → ℕ) (room₀ new room : List ℕ) → length new ≤ length room₀ → Filled f room₀ (length new) room → ((x : ℕ) → x < length new → f x ≡ getD new x 0) → room ≡ fill new room₀
-filled-list f room₀ new room h d e =
-    same-entries room (fill new room₀) (d .size ∙ sym (fill-length new room₀ h)) (λ x. elim (decLt x (length new)) [
-      | yes l ↦ filled-below f room₀ d x l ∙ e x l ∙ sym (filled-at new room₀ x l)
-      | no l ↦ let g : length new ≤ x = omega arith in filled-past f room₀ d x g ∙ sym (fill-past new room₀ x g)
+-- A room that is filled to its end is the list of its new entries.
+pub filled-whole : (f : ℕ → ℕ) (room₀ new room : List ℕ) → length new ≡ length room₀ → Filled f room₀ (length room₀) room → ((x : ℕ) → x < length room₀ → f x ≡ getD new x 0) → room ≡ new
+filled-whole f room₀ new room h d e =
+    same-entries room new (d .size ∙ sym h) (λ x. elim (decLt x (length room₀)) [
+      | yes l ↦ filled-below f room₀ d x l ∙ e x l
+      | no l ↦ List·getD-eq-default room 0 (let s = d .size in omega arith) ∙ sym (List·getD-eq-default new 0 (omega arith))
     ])

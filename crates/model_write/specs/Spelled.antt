@@ -2,21 +2,17 @@
 use mathlib.Core.Path.{_≡_}
 use mathlib.Core.Bool.{Bool, cond}
 use mathlib.Core.List.{List, [], _∷_, map}
-use Prim.Native.Nat.{ℕ, suc, _+_, _-_, _≤_}
+use Prim.Native.Nat.{ℕ, suc, _+_, _*_, _≤_}
 use lib.Dec.{eqb}
-use lib.ListN.{length, getD}
+use lib.ListN.{length, drop}
 use lib.Seq.{sets}
-use Rattle.lists.specs.Lists.{listed}
 use Rattle.rules.specs.Model.{Model, runOf}
 use Rattle.rules.specs.declared.Equation.{Equation}
+use Rattle.rules.specs.declared.Session.{Session}
 use Rattle.rules.specs.Records.{bytes, bytesOf}
 use Rattle.rules.specs.Session.{unword}
 use Rattle.rules.specs.Spelling.{liveRecs, labelRecs, blockRec, equationRec, equationRecs, signedRec, signedRecs, moveRecs}
-use Rattle.rules.specs.declared.Sizes.{Sizes}
-
--- The entries of a room from place i up to place n; what lies past the room's end is 0.
-unfoldable pub rest : List ℕ → ℕ → ℕ → List ℕ
-rest room i n = listed i (n - i) (λ p. getD room p 0)
+use Rattle.laws.specs.bytes.SpellingLength.{labelled, equationSize}
 
 -- A room that holds these bytes from a place on.
 abbrev pub HasRoom : List ℕ → ℕ → List ℕ → Type 0
@@ -26,6 +22,13 @@ HasRoom out at bs = at + length bs ≤ length out
 abbrev pub Wrote : List ℕ → ℕ → List ℕ → List ℕ → ℕ → Type 0
 Wrote out at bs after next = (after ≡ sets out at bs) × (next ≡ at + length bs)
 
+-- A writing of `whole` that began at a place of a room and has come to another with these bytes left: the room holds them, and once they
+-- are written, so is the whole.
+pub record Writing (out₀ : List ℕ) (start : ℕ) (whole out : List ℕ) (at : ℕ) (left : List ℕ) : Type 0 where
+  pub size : length out ≡ length out₀
+  pub room : HasRoom out at left
+  pub leads : (after : List ℕ) (next : ℕ) → Wrote out at left after next → Wrote out₀ start whole after next
+
 -- The bytes that say whether the model is live: one byte where it is, else none.
 unfoldable pub liveBytes : ℕ → List ℕ
 liveBytes n = bytesOf (liveRecs n)
@@ -34,8 +37,8 @@ liveBytes n = bytesOf (liveRecs n)
 abbrev pub oneLabel : ℕ → ℕ → List ℕ
 oneLabel s v = bytesOf (labelRecs s (v ∷ []))
 
-unfoldable pub labelBytes : List ℕ → ℕ → ℕ → List ℕ
-labelBytes room i n = bytesOf (labelRecs i (rest room i n))
+unfoldable pub labelBytes : List ℕ → ℕ → List ℕ
+labelBytes labels i = bytesOf (labelRecs i (drop i labels))
 
 -- One equation's bytes, with its block's record where b blocks stand before and it is in another.
 unfoldable pub inBlock : ℕ → Equation → List Equation → List ℕ
@@ -46,15 +49,17 @@ inBlock b e l =
 unfoldable pub oneEquation : Bool → ℕ → Equation → List Equation → List ℕ
 oneEquation signs b e l = cond signs (bytes (signedRec e)) (inBlock b e l)
 
-unfoldable pub equationBytes : Bool → ℕ → List ℕ → ℕ → ℕ → List ℕ
-equationBytes signs b room i n =
-    bytesOf (cond signs (signedRecs (map unword (rest room i n))) (equationRecs b (map unword (rest room i n))))
+unfoldable pub equationBytes : Bool → ℕ → List Equation → ℕ → List ℕ
+equationBytes signs b es i = bytesOf (cond signs (signedRecs (drop i es)) (equationRecs b (drop i es)))
 
 -- The bytes of the moves from number i on, and of the end.
-unfoldable pub moveBytes : List ℕ → ℕ → ℕ → List ℕ
-moveBytes room i n = bytesOf (moveRecs (rest room i n))
+unfoldable pub moveBytes : List ℕ → ℕ → List ℕ
+moveBytes moves i = bytesOf (moveRecs (drop i moves))
 
--- The model that sizes, the flag and a move count cut out of the rooms.
-abbrev pub heldIn : Sizes → ℕ → ℕ → List ℕ → List ℕ → List ℕ → Model
-heldIn z live n labels equations moves =
-    record { sizes = z; live = live; labels = rest labels 0 (z .states); equations = map unword (rest equations 0 (z .variables)); moves = rest moves 0 n }
+-- The model of a session in rooms that are as long as their use.
+abbrev pub heldIn : Session → List ℕ → List ℕ → List ℕ → Model
+heldIn s labels equations moves = record { sizes = s .sizes; live = s .live; labels = labels; equations = map unword equations; moves = moves }
+
+-- The length of its spelling, by its labels and the counts that the session keeps.
+abbrev pub lengthBy : Session → List ℕ → ℕ
+lengthBy s labels = 8 + s .live + 7 * labelled labels + 3 * s .sizes .blocks + equationSize (s .sizes) * s .sizes .variables + 6 * s .moves

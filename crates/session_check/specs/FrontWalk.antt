@@ -1,32 +1,36 @@
--- What is asked of each of the first n entries of a room, one after the other. Assumes nothing.
+-- What is asked of each entry of a room, one after the other. Assumes nothing.
 use mathlib.Core.Path.{_≡_, sym, ap, _∙_}
 use mathlib.Core.Logic.{inl, inr}
 use mathlib.Core.Bool.{Bool, true, _&&_, and-assoc}
-use mathlib.Core.List.{List}
-use Prim.Native.Nat.{ℕ, _+_, _^_, _≤_, _<_, min}
+use mathlib.Core.List.{List, _∷_}
+use Prim.Native.Nat.{ℕ, _+_, _^_, _≤_, _<_}
+use native.Mathlib.Numerals.{add-one}
 use native.Mathlib.Omega.{arith}
 use lib.Bits.{bitOr, or-lt, or-add-and, and-le-l, and-le-r}
 use lib.Pow.{pow-pos}
-use lib.ListN.{length, getD, take, drop}
+use lib.ListN.{length, getD, drop, drop-of-length-le}
+use lib.Seq.{drop-cons}
 use lib.Dec.{ltb}
 use Rattle.lists.specs.Lists.{all}
 use Rattle.lists.specs.Tests.{tell, and-true, ltb-is, ltb-no}
 use Rattle.rules.specs.Model.{labelOk}
 use Rattle.rules.specs.declared.Sizes.{Sizes}
-use Rattle.moves.specs.Fronts.{rest-more, rest-over}
 
-module _ (f : ℕ → Bool) (l : List ℕ) (n i : ℕ) where
+-- What is left from place i on is the entry there, and what is left after it.
+pub left-more : {A : Type 0} (l : List A) (i : ℕ) (d : A) → i < length l → drop i l ≡ getD l i d ∷ drop (i + 1) l
+left-more l i d h = rw add-one (drop-cons l i d h)
+
+module _ (f : ℕ → Bool) (l : List ℕ) (i : ℕ) where
   -- What was found before and what is asked from i on: the entry at i goes over to what was found.
-  pub all-turn : (q : ℕ) (ok here whole : Bool) → q ≡ getD l i 0 → here ≡ f q → i < min n (length l)
-      → (ok && all f (drop i (take n l))) ≡ whole → (ok && here && all f (drop (i + 1) (take n l))) ≡ whole
-  all-turn q ok here whole e r h w =
-      and-assoc ok here (all f (drop (i + 1) (take n l)))
-      ∙ ap (λ (x : Bool). ok && (x && all f (drop (i + 1) (take n l)))) (r ∙ ap f e)
-      ∙ ap (λ (x : List ℕ). ok && all f x) (sym (rest-more l n i h)) ∙ w
+  pub all-turn : (ok here whole : Bool) → here ≡ f (getD l i 0) → i < length l → (ok && all f (drop i l)) ≡ whole → (ok && here && all f (drop (i + 1) l)) ≡ whole
+  all-turn ok here whole r h w =
+      and-assoc ok here (all f (drop (i + 1) l))
+      ∙ ap (λ (x : Bool). ok && (x && all f (drop (i + 1) l))) r
+      ∙ ap (λ (x : List ℕ). ok && all f x) (sym (left-more l i 0 h)) ∙ w
 
   -- At the end nothing is asked.
-  pub all-over : (ok : Bool) → min n (length l) ≤ i → (ok && all f (drop i (take n l))) ≡ ok
-  all-over ok h = rw (rest-over l n i h) (and-true ok)
+  pub all-over : (ok : Bool) → length l ≤ i → (ok && all f (drop i l)) ≡ ok
+  all-over ok h = rw (drop-of-length-le l h) (and-true ok)
 
 -- No set, and two sets together: the highest proposition of both lies below the count just where that of each does.
 pub label-none : (z : Sizes) → labelOk z 0 ≡ true

@@ -1,4 +1,5 @@
 pub mod Tested
+pub mod Fitting
 pub mod EquationWalk
 pub mod FrontWalk
 pub mod MoveWalk

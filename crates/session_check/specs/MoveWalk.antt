@@ -2,10 +2,9 @@
 use mathlib.Core.Path.{_≡_, refl, sym, ap, _∙_}
 use mathlib.Core.Bool.{Bool, true, false, _&&_, and-assoc}
 use mathlib.Core.List.{List, [], _∷_}
-use Prim.Native.Nat.{ℕ, suc, _+_, _-_, _≤_, _<_, min}
-use native.Mathlib.Decide.{decLe}
+use Prim.Native.Nat.{ℕ, suc, _+_, _-_, _≤_, _<_}
 use native.Mathlib.Omega.{arith}
-use lib.ListN.{length, getD, take, drop}
+use lib.ListN.{length, getD, drop, drop-of-length-le}
 use lib.Dec.{ltb, leb, leb·zero}
 use Rattle.lists.specs.Lists.{all}
 use Rattle.lists.specs.Tests.{and-true, and-no}
@@ -13,7 +12,7 @@ use Rattle.rules.specs.Moves.{source, action, target}
 use Rattle.rules.specs.Model.{moveOk, movesOk}
 use Rattle.rules.specs.declared.Sizes.{Sizes}
 use Rattle.moves.specs.Ascending.{ascends}
-use Rattle.moves.specs.Fronts.{rest-more, rest-over}
+use Rattle.session_check.specs.FrontWalk.{left-more}
 
 -- Source, action and target of the move lie below these counts of states and actions, and below those of a model.
 abbrev pub inside : ℕ → ℕ → ℕ → Bool
@@ -36,29 +35,23 @@ moves-split z least (q ∷ l) =
     ∙ crossed (leb least q) (inRange z q) (all (inRange z) l) (ascends (suc q) l)
 
 -- The moves from i on ascend from the one before them on.
-abbrev pub ascendFrom : List ℕ → ℕ → ℕ → Bool
-ascendFrom l n i = ascends (suc (getD l (i - 1) 0)) (drop i (take n l))
+abbrev pub ascendFrom : List ℕ → ℕ → Bool
+ascendFrom l i = ascends (suc (getD l (i - 1) 0)) (drop i l)
 
 -- Before the first there is none to be over.
-pub ascend-start : (l : List ℕ) (n : ℕ) → ascendFrom l n 1 ≡ ascends 0 (take n l)
-ascend-start l n =
-    elim (decLe 1 (min n (length l))) [
-      | yes h ↦
-          sym (ap (ascends 0) (rest-more l n 0 h) ∙ ap (λ (x : Bool). x && ascendFrom l n 1) (leb·zero (getD l 0 0)))
-      | no h ↦
-          ap (ascends (suc (getD l 0 0))) (rest-over l n 1 (omega arith))
-          ∙ sym (ap (ascends 0) (rest-over l n 0 (omega arith)))
-    ]
+pub ascend-start : (l : List ℕ) → ascendFrom l 1 ≡ ascends 0 l
+ascend-start [] = refl
+ascend-start (q ∷ l) = sym (ap (λ (x : Bool). x && ascends (suc q) l) (leb·zero q))
 
 -- With what was found before: each is over the one before it.
-pub ascend-turn : (l : List ℕ) (n i : ℕ) (ok whole : Bool) → i < min n (length l) → (ok && ascendFrom l n i) ≡ whole
-    → (ok && ltb (getD l (i - 1) 0) (getD l i 0) && ascendFrom l n (i + 1)) ≡ whole
-ascend-turn l n i ok whole h w =
+pub ascend-turn : (l : List ℕ) (i : ℕ) (ok whole : Bool) → i < length l → (ok && ascendFrom l i) ≡ whole
+    → (ok && ltb (getD l (i - 1) 0) (getD l i 0) && ascendFrom l (i + 1)) ≡ whole
+ascend-turn l i ok whole h w =
     let e : i + 1 - 1 ≡ i = omega arith in
-    ap (λ (k : ℕ). ok && ltb (getD l (i - 1) 0) (getD l i 0) && ascends (suc (getD l k 0)) (drop (i + 1) (take n l))) e
-    ∙ and-assoc ok (ltb (getD l (i - 1) 0) (getD l i 0)) (ascends (suc (getD l i 0)) (drop (i + 1) (take n l)))
-    ∙ ap (λ (x : List ℕ). ok && ascends (suc (getD l (i - 1) 0)) x) (sym (rest-more l n i h)) ∙ w
+    ap (λ (k : ℕ). ok && ltb (getD l (i - 1) 0) (getD l i 0) && ascends (suc (getD l k 0)) (drop (i + 1) l)) e
+    ∙ and-assoc ok (ltb (getD l (i - 1) 0) (getD l i 0)) (ascends (suc (getD l i 0)) (drop (i + 1) l))
+    ∙ ap (λ (x : List ℕ). ok && ascends (suc (getD l (i - 1) 0)) x) (sym (left-more l i 0 h)) ∙ w
 
 -- At the end none is left.
-pub ascend-over : (l : List ℕ) (n i : ℕ) (ok : Bool) → min n (length l) ≤ i → (ok && ascendFrom l n i) ≡ ok
-ascend-over l n i ok h = rw (rest-over l n i h) (and-true ok)
+pub ascend-over : (l : List ℕ) (i : ℕ) (ok : Bool) → length l ≤ i → (ok && ascendFrom l i) ≡ ok
+ascend-over l i ok h = rw (drop-of-length-le l h) (and-true ok)

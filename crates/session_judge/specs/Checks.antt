@@ -5,7 +5,7 @@ use mathlib.Core.List.{List, [], _∷_}
 use mathlib.Core.Logic.{inl, inr}
 use Prim.Native.Nat.{ℕ}
 use lib.ListN.{length}
-use Rattle.lists.specs.Tests.{tell, and-true}
+use Rattle.lists.specs.Tests.{tell, and-true, and-is}
 use Rattle.rules.specs.Records.{Outcome, refused, accepted}
 use Rattle.rules.specs.Rooms.{Rooms, roomsOk, lengthsOf}
 use Rattle.rules.specs.Session.{countsOk, restOk, sessionDemands}
@@ -14,6 +14,7 @@ use Rattle.rules.specs.Answers.{numberOf}
 use Rattle.rules.specs.declared.Refusal.{Refusal}
 use Rattle.rules.specs.declared.Session.{Session}
 use Rattle.session_check.specs.Tested.{countsBy, counts-by}
+use Rattle.session_check.specs.Fitting.{Fits, fits}
 use Rattle.session_judge.specs.declared.Checked.{Checked}
 use Rattle.session_judge.specs.declared.Checked.the-variants as Found
 
@@ -54,6 +55,10 @@ module _ (work : Bool) (s : Session) (l : Rooms) where
     -- 13 where a room is too short.
     pub check-rooms : (roomsOk (lengthsOf l) (s .sizes) && work) ≡ false → refused 13 0 ≡ checkOf work s l
     check-rooms b = rw (counts-by s l, a, b) refl
+
+    -- Else all that is known of counts and rooms holds.
+    pub check-fits : (roomsOk (lengthsOf l) (s .sizes) && work) ≡ true → Fits s l
+    check-fits b = fits s l (counts-by s l ∙ a) (and-is _ work .0 b .0)
 
     -- 12 where the rest is not as it must be.
     pub check-rest : (roomsOk (lengthsOf l) (s .sizes) && work) ≡ true → restOk s l ≡ false → refused 12 0 ≡ checkOf work s l

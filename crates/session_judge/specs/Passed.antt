@@ -1,49 +1,18 @@
 -- What is known of a session in which the check finds nothing wrong. Assumes nothing.
 use mathlib.Core.Path.{_≡_, sym, ap, _∙_}
 use mathlib.Core.Bool.{Bool, true}
-use Prim.Native.Nat.{_≤_}
-use native.Mathlib.Omega.{arith}
-use lib.ListN.{length}
-use Rattle.lists.specs.Tests.{tests, and-in, and-is}
-use Rattle.rules.specs.Limits.{most-states, most-variables, most-moves, sizesOk}
+use Rattle.lists.specs.Tests.{and-in, and-is}
 use Rattle.rules.specs.Model.{WellFormed}
-use Rattle.rules.specs.Rooms.{Rooms, lengthsOf, pairsOf, roomsOk}
-use Rattle.rules.specs.Session.{held, countsOk}
+use Rattle.rules.specs.Rooms.{Rooms, lengthsOf, roomsOk}
+use Rattle.rules.specs.Session.{held}
 use Rattle.rules.specs.declared.Session.{Session}
 use Rattle.laws.specs.session.SessionHolds.{sessionOk, Holds, session-holds}
 use Rattle.laws.specs.session.Accepted.{Yes, asked-out}
 use Rattle.session_check.specs.CheckedMoves as Moves
+use Rattle.session_check.specs.Fitting.{Fits, fits}
 use Rattle.session_judge.specs.Checks.{allWell, demandsWith, checkOf, checkedSays}
 use Rattle.session_judge.specs.declared.Checked.{Checked}
 use Rattle.session_judge.specs.declared.Checked.the-variants as Found
-
--- The counts are inside the limits, and the rooms are long enough for them.
-pub record Fits (s : Session) (l : Rooms) : Type 0 where
-  pub states : s .sizes .states ≤ most-states
-  pub variables : s .sizes .variables ≤ most-variables
-  pub moves : s .moves ≤ most-moves
-  pub labels-room : s .sizes .states ≤ length (l .labels)
-  pub equations-room : s .sizes .variables ≤ length (l .equations)
-  pub values-room : pairsOf (s .sizes) ≤ length (l .values)
-  pub marks-room : pairsOf (s .sizes) ≤ length (l .marks)
-  pub moves-room : s .moves ≤ length (l .moves)
-
--- The first two questions say so.
-pub fits : (s : Session) (l : Rooms) → countsOk s l ≡ true → roomsOk (lengthsOf l) (s .sizes) ≡ true → Fits s l
-unfolding countsOk sizesOk roomsOk
-fits s l a b =
-    let c = simp tests at a in
-    let r = simp tests at b in
-    record {
-      states = omega arith;
-      variables = omega arith;
-      moves = omega arith;
-      labels-room = r .0 .0 .0;
-      equations-room = r .0 .0 .1;
-      values-room = r .0 .1;
-      marks-room = r .1;
-      moves-room = omega arith;
-    }
 
 module _ (work : Bool) (s : Session) (l : Rooms) (k : Checked) (h : checkedSays k ≡ checkOf work s l) (g : k ≡ Found.Good) where
   -- All three questions are answered yes.

@@ -7,6 +7,13 @@ use borrow.Author.Needs.{needs}
 use Rattle.bytes_write.proofs.put3.Statement.{statement}
 use Rattle.bytes_write.proofs.put3.Tie as tie
 
+-- The points of the program: from what is known at a later one to what was known at an earlier one.
+abbrev put2-before-slice-known2 : tie.After-slice-known2 → tie.After-put2
+put2-before-slice-known2 c = c .before .before
+
+abbrev start-before-slice-known2 : tie.After-slice-known2 → tie.Start
+start-before-slice-known2 c = put2-before-slice-known2 c .before .before .before
+
 slice-write-out : tie.Need-slice-write-out
 slice-write-out c = search needs
 
@@ -17,11 +24,11 @@ put2-requires : tie.Need-put2-requires
 put2-requires c κs = simp length-set (omega arith)
 
 same-length : tie.Need-same-length
-same-length c = simp length-set at (c .before .before .put2 .kept .0)
+same-length c = simp length-set at (put2-before-slice-known2 c .put2 .kept .0)
 
 returns : tie.Need-returns
 returns c =
-    let a = c .before .before .before .before .before .args in
+    let a = start-before-slice-known2 c .args in
     let e : a .at + 1 ≡ suc (a .at) = omega arith in
     cc
 

@@ -1,19 +1,10 @@
--- `bytes_write::put_operator` meets its contract. Assumes nothing.
+-- The three bytes, each as it is. Assumes nothing.
 use mathlib.Core.Path.{_≡_}
-use Prim.Native.Nat.{_%_, _/_}
+use Prim.Native.Nat.{_%_}
 use native.Mathlib.Omega.{arith}
 use borrow.Author.Needs.{needs}
 use Rattle.bytes_write.proofs.put_operator.Statement.{statement}
 use Rattle.bytes_write.proofs.put_operator.Tie as tie
-
-low-requires : tie.Need-low-requires
-low-requires c κs = search needs
-
-low-requires-2 : tie.Need-low-requires-2
-low-requires-2 c κs = search needs
-
-low-requires-3 : tie.Need-low-requires-3
-low-requires-3 c κs = search needs
 
 put3-requires : tie.Need-put3-requires
 put3-requires c κs = search needs
@@ -23,13 +14,11 @@ same-length c = search needs
 
 returns : tie.Need-returns
 returns c =
-    let w = c .before .before .before .before .before .before .before .before .args .w in
-    let e : w % 256 % 256 ≡ w % 256 = omega arith in
-    let f : w / 256 % 256 % 256 ≡ w / 256 % 256 = omega arith in
-    let g : w / 256 / 256 % 256 % 256 ≡ w / 256 / 256 % 256 = omega arith in
+    let e = c .before .before .before .before .before .args .e in
+    let f : e .operator % 256 ≡ e .operator = omega arith in
+    let g : e .first % 256 ≡ e .first = omega arith in
+    let h : e .second % 256 ≡ e .second = omega arith in
     cc
 
 pub put-operator-spec : {M : Type 1} → statement M
-put-operator-spec =
-    tie.close
-    (tie.spec low-requires low-requires-2 low-requires-3 put3-requires same-length returns)
+put-operator-spec = tie.close (tie.spec put3-requires same-length returns)

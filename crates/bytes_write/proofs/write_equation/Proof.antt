@@ -1,4 +1,4 @@
--- `bytes_write::write_equation` meets its contract. Assumes nothing.
+-- The kind of the record, and the operator after it. Assumes nothing.
 use mathlib.Core.Path.{_≡_}
 use Prim.Native.Nat.{suc, _+_}
 use native.Mathlib.Omega.{arith}
@@ -7,6 +7,13 @@ use Rattle.rules.specs.Records.{widths}
 use borrow.Author.Needs.{needs}
 use Rattle.bytes_write.proofs.write_equation.Statement.{statement}
 use Rattle.bytes_write.proofs.write_equation.Tie as tie
+
+-- The points of the program: from what is known at a later one to what was known at an earlier one.
+abbrev put-operator-before-slice-known2 : tie.After-slice-known2 → tie.After-put-operator
+put-operator-before-slice-known2 c = c .before .before
+
+abbrev start-before-slice-known2 : tie.After-slice-known2 → tie.Start
+start-before-slice-known2 c = put-operator-before-slice-known2 c .before .before .before
 
 slice-write-out : tie.Need-slice-write-out
 slice-write-out c = search needs
@@ -18,12 +25,12 @@ put-operator-requires : tie.Need-put-operator-requires
 put-operator-requires c κs = simp length-set (omega arith)
 
 same-length : tie.Need-same-length
-same-length c = simp length-set at (c .before .before .put-operator .kept .0)
+same-length c = simp length-set at (put-operator-before-slice-known2 c .put-operator .kept .0)
 
 returns : tie.Need-returns
 unfolding widths
 returns c =
-    let a = c .before .before .before .before .before .args in
+    let a = start-before-slice-known2 c .args in
     let e : a .at + 1 ≡ suc (a .at) = omega arith in
     cc
 

@@ -1,21 +1,27 @@
--- `bytes_write::write_move` meets its contract. Assumes nothing.
+-- The byte of the action is told apart first; the rest is put together from what the callees ensure. Assumes nothing.
 use mathlib.Core.Path.{_≡_}
 use Prim.Native.Nat.{suc, _+_, _%_}
 use native.Mathlib.Omega.{arith}
-use borrow.Author.Needs.{needs}
 use Rattle.rules.specs.Moves.{action}
 use Rattle.rules.specs.Records.{widths}
+use borrow.Author.Needs.{needs}
 use Rattle.bytes_write.proofs.write_move.Statement.{statement}
 use Rattle.bytes_write.proofs.write_move.Tie as tie
 
-low-requires : tie.Need-low-requires
-low-requires c κs = search needs
+unpacked-requires : tie.Need-unpacked-requires
+unpacked-requires c κs = search needs
 
-low-requires-2 : tie.Need-low-requires-2
-low-requires-2 c κs = search needs
+cast-source : tie.Need-cast-source
+cast-source c = search needs
 
-low-requires-3 : tie.Need-low-requires-3
-low-requires-3 c κs = search needs
+cast-target : tie.Need-cast-target
+cast-target c = search needs
+
+byte-1-requires : tie.Need-byte-1-requires
+byte-1-requires c κs = search needs
+
+byte-2-requires : tie.Need-byte-2-requires
+byte-2-requires c κs = search needs
 
 put4-requires : tie.Need-put4-requires
 put4-requires c κs = search needs
@@ -23,11 +29,11 @@ put4-requires c κs = search needs
 add-put2 : tie.Need-add-put2
 add-put2 c = search needs
 
-low-requires-4 : tie.Need-low-requires-4
-low-requires-4 c κs = search needs
+byte-1-requires-2 : tie.Need-byte-1-requires-2
+byte-1-requires-2 c κs = search needs
 
-low-requires-5 : tie.Need-low-requires-5
-low-requires-5 c κs = search needs
+byte-2-requires-2 : tie.Need-byte-2-requires-2
+byte-2-requires-2 c κs = search needs
 
 put2-requires : tie.Need-put2-requires
 put2-requires c κs = search needs
@@ -35,13 +41,16 @@ put2-requires c κs = search needs
 same-length : tie.Need-same-length
 same-length c = search needs
 
--- The byte of the action is told apart first; the rest is put together from what the callees ensure.
 returns : tie.Need-returns
 unfolding widths
 returns c =
-    let at-action = c .before .before .before .before .before .before .before .before .before in
-    let a = at-action .before .before .before .before .before .args in
-    let third : at-action .low3 .result ≡ action (a .q) % 256 = at-action .low3 .ensures in
+    let after-unpacked = c .before .before .before .before .before .before .before .before .before .before .before .before .before .before in
+    let a = after-unpacked .before .before .args in
+    let m = after-unpacked .unpacked in
+    let from = m .ensures .0 in
+    let by = m .ensures .1 .0 in
+    let to = m .ensures .1 .1 in
+    let third : m .result .action .0 ≡ action (a .q) % 256 = omega arith in
     let e : a .at + 4 ≡ suc (suc (suc (suc (a .at)))) = omega arith in
     cc
 
@@ -49,13 +58,15 @@ pub write-move-spec : {M : Type 1} → statement M
 write-move-spec =
     tie.close
     (tie.spec
-    low-requires
-    low-requires-2
-    low-requires-3
+    unpacked-requires
+    cast-source
+    cast-target
+    byte-1-requires
+    byte-2-requires
     put4-requires
     add-put2
-    low-requires-4
-    low-requires-5
+    byte-1-requires-2
+    byte-2-requires-2
     put2-requires
     same-length
     returns)

@@ -1,20 +1,20 @@
--- `bytes_write::write_sizes` meets its contract. Assumes nothing.
+-- Each size by its bytes. Assumes nothing.
 use mathlib.Core.Path.{_≡_}
 use Prim.Native.Nat.{suc, _+_, _%_}
 use native.Mathlib.Omega.{arith}
-use borrow.Author.Needs.{needs}
 use Rattle.rules.specs.Records.{widths}
+use borrow.Author.Needs.{needs}
 use Rattle.bytes_write.proofs.write_sizes.Statement.{statement}
 use Rattle.bytes_write.proofs.write_sizes.Tie as tie
 
 cast-states : tie.Need-cast-states
 cast-states c = search needs
 
-low-requires : tie.Need-low-requires
-low-requires c κs = search needs
+byte-1-requires : tie.Need-byte-1-requires
+byte-1-requires c κs = search needs
 
-low-requires-2 : tie.Need-low-requires-2
-low-requires-2 c κs = search needs
+byte-2-requires : tie.Need-byte-2-requires
+byte-2-requires c κs = search needs
 
 put4-requires : tie.Need-put4-requires
 put4-requires c κs = search needs
@@ -30,15 +30,22 @@ same-length c = search needs
 
 returns : tie.Need-returns
 unfolding widths
-returns c = let a = c .before .before .before .before .before .before .before .before .before .before .before .before .args in let e : a .at + 4 ≡ suc (suc (suc (suc (a .at)))) = omega arith in let f : a .z .actions % 256 ≡ a .z .actions = omega arith in let g : a .z .propositions % 256 ≡ a .z .propositions = omega arith in let h : a .z .variables % 256 ≡ a .z .variables = omega arith in let i : a .z .blocks % 256 ≡ a .z .blocks = omega arith in cc
+returns c =
+    let a = c .before .before .before .before .before .before .before .before .before .before .before .before .args in
+    let e : a .at + 4 ≡ suc (suc (suc (suc (a .at)))) = omega arith in
+    let f : a .z .actions % 256 ≡ a .z .actions = omega arith in
+    let g : a .z .propositions % 256 ≡ a .z .propositions = omega arith in
+    let h : a .z .variables % 256 ≡ a .z .variables = omega arith in
+    let i : a .z .blocks % 256 ≡ a .z .blocks = omega arith in
+    cc
 
 pub write-sizes-spec : {M : Type 1} → statement M
 write-sizes-spec =
     tie.close
     (tie.spec
     cast-states
-    low-requires
-    low-requires-2
+    byte-1-requires
+    byte-2-requires
     put4-requires
     add-put3
     put3-requires

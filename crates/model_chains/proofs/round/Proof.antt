@@ -1,24 +1,32 @@
--- `model_chains::round` meets its contract. The loop's invariant: the sets below x are those of the round. Assumes nothing.
+-- `model_chains::round` meets its contract. The loop's invariant: the sets below x are those of the round; the measure: how many
+-- variables are left. Assumes nothing.
 use mathlib.Core.Path.{_≡_, refl}
+use mathlib.Core.List.{map}
 use Prim.Native.Nat.{_-_, _≤_}
 use native.Mathlib.Omega.{arith}
-use borrow.Author.Needs.{needs}
+use lib.ListN.{length}
+use Rattle.rules.specs.Session.{unword}
 use Rattle.model_chains.specs.Filled.{filled-none, filled-end}
 use Rattle.model_chains.specs.Reaching.{Round, round-next}
+use borrow.Author.Needs.{needs}
 use Rattle.model_chains.proofs.round.Statement.{statement}
 use Rattle.model_chains.proofs.round.Tie as tie
 
 abbrev Inv-loop : tie.InvT-loop
-Inv-loop equations n old new₀ x₀ new x = (x ≤ n) × Round equations old new₀ x new
+Inv-loop equations old new₀ x₀ new x = (x ≤ length equations) × Round (map unword equations) old new₀ x new
 
 abbrev μ-loop : tie.MeasureT-loop
-μ-loop equations n old new₀ x₀ new x = n - x
+μ-loop equations old new₀ x₀ new x = length equations - x
+
+-- The points of the program: from what is known at a later one to what was known at an earlier one.
+abbrev start-before-at-loop : tie.At-loop Inv-loop μ-loop → tie.Start Inv-loop μ-loop
+start-before-at-loop c = c .before .before .before .before
 
 loop-holds : tie.Need-loop-holds Inv-loop μ-loop
 loop-holds c = (omega arith, filled-none _ _)
 
-word-at-requires : tie.Need-word-at-requires Inv-loop μ-loop
-word-at-requires c κs = search needs
+equation-at-requires : tie.Need-equation-at-requires Inv-loop μ-loop
+equation-at-requires c κs = search needs
 
 row-requires : tie.Need-row-requires Inv-loop μ-loop
 row-requires c κs = search needs
@@ -37,10 +45,8 @@ loop-less c = search needs
 
 loop-again : tie.Need-loop-again Inv-loop μ-loop
 loop-again c =
-    let at-word = c .before in
-    let at-loop = at-word .before .before in
-    let ws = at-loop .before .before .before .before .args .equations .now in
-    (omega arith, round-next ws _ _ _ _ _ _ _ (at-loop .loop .inv .1) (omega arith) (at-word .word-at .ensures) (c .row .ensures) refl)
+    let at-loop = c .before .before .before in
+    (omega arith, round-next (map unword (start-before-at-loop at-loop .args .equations .now)) _ _ _ _ _ _ _ (at-loop .loop .inv .1) (omega arith) (c .before .equation-at .ensures) (c .row .ensures) refl)
 
 same-length : tie.Need-same-length Inv-loop μ-loop
 same-length c = c .before .loop .inv .1 .size
@@ -48,7 +54,7 @@ same-length c = c .before .loop .inv .1 .size
 returns : tie.Need-returns Inv-loop μ-loop
 returns c =
     let at-loop = c .before in
-    let e : at-loop .loop .x ≡ at-loop .before .before .before .before .args .n = omega arith in
+    let e : at-loop .loop .x ≡ length (start-before-at-loop at-loop .args .equations .now) = omega arith in
     filled-end _ _ _ _ _ (at-loop .loop .inv .1) e
 
 pub round-spec : {M : Type 1} → statement M
@@ -58,7 +64,7 @@ round-spec =
     Inv-loop
     μ-loop
     loop-holds
-    word-at-requires
+    equation-at-requires
     row-requires
     mul-new
     slice-write-new

@@ -1,83 +1,94 @@
--- `model_write::write_equations` meets its contract. Assumes nothing.
-use mathlib.Core.List.{List, _++_, map}
-use mathlib.Core.Path.{_≡_, refl, ap, _∙_}
-use Prim.Native.Nat.{_/_, ℕ, suc, _+_, _*_, _-_, _≤_}
+-- The loop's invariant: the equations from i on, after b blocks, are left to write; the measure: how many equations are left. Assumes
+-- nothing.
+use mathlib.Core.Path.{sym, _∙_}
+use mathlib.Core.List.{map}
+use Prim.Native.Nat.{_+_, _-_, _≤_}
 use native.Mathlib.Omega.{arith}
-use lib.ListN.{length, getD}
-use borrow.Author.Needs.{needs}
+use lib.ListN.{length, drop, length-map, List·getD-map}
 use Rattle.rules.specs.Session.{unword}
-use Rattle.model_write.specs.Spelled.{rest, HasRoom, Wrote, oneEquation, equationBytes}
-use Rattle.model_write.specs.SpelledLaws.{wrote-more, wrote-none, equation-step, equation-end, room-first, room-after}
+use Rattle.model_write.specs.Spelled.{Writing, oneEquation, equationBytes}
+use Rattle.model_write.specs.SpelledLaws.{writing-starts, writing-fits, writing-more, writing-ends, equation-step, equation-end}
+use borrow.Author.Needs.{needs}
 use Rattle.model_write.proofs.write_equations.Statement.{statement}
 use Rattle.model_write.proofs.write_equations.Tie as tie
 
 abbrev Inv-loop : tie.InvT-loop
-Inv-loop out₀ start room signs n at₀ b₀ i₀ out at b i =
-    (length out ≡ length out₀) × (i ≤ n) × (at ≤ start + 7 * i) × HasRoom out at (equationBytes signs b room i n)
-    × ((o : List ℕ) (k : ℕ) → Wrote out at (equationBytes signs b room i n) o k → Wrote out₀ start (equationBytes signs 0 room 0 n) o k)
+Inv-loop out₀ start equations signs at₀ b₀ i₀ out at b i = (i ≤ length equations) × Writing out₀ start (equationBytes signs 0 (map unword equations) 0) out at (equationBytes signs b (map unword equations) i)
 
 abbrev μ-loop : tie.MeasureT-loop
-μ-loop out₀ start room signs n at₀ b₀ i₀ out at b i = n - i
+μ-loop out₀ start equations signs at₀ b₀ i₀ out at b i = length equations - i
+
+-- The points of the program: from what is known at a later one to what was known at an earlier one.
+abbrev start-before-shared-slice-known : tie.After-shared-slice-known Inv-loop μ-loop → tie.Start Inv-loop μ-loop
+start-before-shared-slice-known c = c .before .before
+
+abbrev at-loop-before-equation-in : tie.After-equation-in Inv-loop μ-loop → tie.At-loop Inv-loop μ-loop
+at-loop-before-equation-in c = c .before .before .before
 
 loop-holds : tie.Need-loop-holds Inv-loop μ-loop
-loop-holds c = (refl, omega arith, omega arith, c .before .before .pre .0, λ o k w. w)
+loop-holds c = (omega arith, writing-starts _ _ _ (start-before-shared-slice-known c .pre .0))
 
--- The room holds the next equation and those after it.
-abbrev next-fits : (c : tie.In-loop Inv-loop μ-loop) → let l = c .before .loop in let a = c .before .before .before .before .args in let v = unword (getD (a .room .now) (l .i) 0) in
-    HasRoom (l .out) (l .at) (oneEquation (a .signs) (l .b) v (map unword (rest (a .room .now) (l .i + 1) (a .n))) ++ equationBytes (a .signs) (suc (v .block)) (a .room .now) (l .i + 1) (a .n))
-next-fits c =
-    let l = c .before .loop in
-    let a = c .before .before .before .before .args in
-    rw (equation-step (a .signs) (a .room .now) (l .b) (l .i) (a .n) (omega arith)) at (l .inv .3)
+mul-equation-in : tie.Need-mul-equation-in Inv-loop μ-loop
+mul-equation-in c = search needs
+
+shared-slice-read-equation-in : tie.Need-shared-slice-read-equation-in Inv-loop μ-loop
+shared-slice-read-equation-in c = search needs
+
+equation-in-requires : tie.Need-equation-in-requires Inv-loop μ-loop
+equation-in-requires c κs = search needs
+
+add-put-equation : tie.Need-add-put-equation Inv-loop μ-loop
+add-put-equation c = search needs
 
 put-equation-requires : tie.Need-put-equation-requires Inv-loop μ-loop
 put-equation-requires c κs =
-    let in-loop = c .before in
-    let l = in-loop .before .loop in
-    let a = in-loop .before .before .before .before .args in
-    let v = unword (getD (a .room .now) (l .i) 0) in
-    let one = oneEquation (a .signs) (l .b) v (map unword (rest (a .room .now) (l .i + 1) (a .n))) in
-    let left = equationBytes (a .signs) (suc (v .block)) (a .room .now) (l .i + 1) (a .n) in
-    (room-first one left (l .out) (l .at) (next-fits in-loop), omega arith)
+    let after-equation-in = c .before in
+    let at-loop = at-loop-before-equation-in after-equation-in in
+    let a = start-before-shared-slice-known (at-loop .before) .args in
+    let ws = a .equations .now in
+    let es = map unword ws in
+    let s = at-loop .loop in
+    let e = after-equation-in .equation-in .result in
+    let long = length-map ws unword in
+    let step = equation-step (a .signs) (s .b) es (s .i) e (omega arith) (after-equation-in .equation-in .ensures ∙ sym (List·getD-map unword ws (s .i) 0)) in
+    (writing-fits (s .inv .1) (oneEquation (a .signs) (s .b) e (drop (s .i + 1) es)) (equationBytes (a .signs) (e .block + 1) es (s .i + 1)) step, omega arith)
 
-word-at-requires : tie.Need-word-at-requires Inv-loop μ-loop
-word-at-requires c κs = search needs
+cast-b : tie.Need-cast-b Inv-loop μ-loop
+cast-b c = search needs
 
-block-after-requires : tie.Need-block-after-requires Inv-loop μ-loop
-block-after-requires c κs = search needs
+add-b : tie.Need-add-b Inv-loop μ-loop
+add-b c = search needs
 
 add-i : tie.Need-add-i Inv-loop μ-loop
-add-i c = omega arith
+add-i c = search needs
 
 loop-less : tie.Need-loop-less Inv-loop μ-loop
-loop-less c = omega arith
+loop-less c = search needs
 
 loop-again : tie.Need-loop-again Inv-loop μ-loop
 loop-again c =
-    let after-put = c .before .before .before .before in
-    let in-loop = after-put .before .before in
-    let at-loop = in-loop .before in
-    let a = at-loop .before .before .before .args in
-    let s = a .room .now in
-    let l = at-loop .loop in
-    let v = getD s (l .i) 0 in
-    let q : c .block-after .result ≡ suc (unword v .block) = c .block-after .ensures ∙ ap (λ (w : ℕ). suc (w / 256 / 256 / 256 / 2)) (c .before .word-at .ensures) in
-    let one = oneEquation (a .signs) (l .b) (unword v) (map unword (rest s (l .i + 1) (a .n))) in
-    let left = equationBytes (a .signs) (suc (unword v .block)) s (l .i + 1) (a .n) in
-    let f = after-put .put-equation .ensures .0 in
-    let fits = room-after one left (l .out) (after-put .put-equation .last .0) (l .at) (after-put .put-equation .result) (next-fits in-loop) f in
-    let step = equation-step (a .signs) s (l .b) (l .i) (a .n) (omega arith) in
-    (search needs, omega arith, omega arith, rw q fits, λ o k w. l .inv .4 o k (rw step (wrote-more one left (l .out) (after-put .put-equation .last .0) o (l .at) (after-put .put-equation .result) k f (rw q at w))))
+    let after-put-equation = c .before .before .before in
+    let after-equation-in = after-put-equation .before .before in
+    let at-loop = at-loop-before-equation-in after-equation-in in
+    let a = start-before-shared-slice-known (at-loop .before) .args in
+    let ws = a .equations .now in
+    let es = map unword ws in
+    let s = at-loop .loop in
+    let e = after-equation-in .equation-in .result in
+    let long = length-map ws unword in
+    let step = equation-step (a .signs) (s .b) es (s .i) e (omega arith) (after-equation-in .equation-in .ensures ∙ sym (List·getD-map unword ws (s .i) 0)) in
+    (omega arith, writing-more (s .inv .1) (oneEquation (a .signs) (s .b) e (drop (s .i + 1) es)) (equationBytes (a .signs) (e .block + 1) es (s .i + 1)) _ _ step (after-put-equation .put-equation .ensures))
 
 same-length : tie.Need-same-length Inv-loop μ-loop
-same-length c = c .before .loop .inv .0
+same-length c = c .before .loop .inv .1 .size
 
 returns : tie.Need-returns Inv-loop μ-loop
 returns c =
-    let a = c .before .before .before .before .args in
-    let s = a .room .now in
-    let l = c .before .loop in
-    (l .inv .4 (l .out) (l .at) (rw (equation-end (a .signs) s (l .b) (l .i) (a .n) (omega arith)) (wrote-none (l .out) (l .at))), omega arith)
+    let at-loop = c .before in
+    let at-start = start-before-shared-slice-known (at-loop .before) in
+    let ws = at-start .args .equations .now in
+    let long = length-map ws unword in
+    writing-ends (at-loop .loop .inv .1) (equation-end (at-start .args .signs) (at-loop .loop .b) (map unword ws) (at-loop .loop .i) (omega arith))
 
 pub write-equations-spec : {M : Type 1} → statement M
 write-equations-spec =
@@ -86,9 +97,13 @@ write-equations-spec =
     Inv-loop
     μ-loop
     loop-holds
+    mul-equation-in
+    shared-slice-read-equation-in
+    equation-in-requires
+    add-put-equation
     put-equation-requires
-    word-at-requires
-    block-after-requires
+    cast-b
+    add-b
     add-i
     loop-less
     loop-again

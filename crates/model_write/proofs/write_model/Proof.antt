@@ -1,135 +1,122 @@
--- `model_write::write_model` meets its contract. Assumes nothing.
-use mathlib.Core.List.{List, _++_}
-use mathlib.Core.Path.{refl}
+-- The five parts of the spelling, one after the other, each in the room that the ones before it leave. Assumes nothing.
+use mathlib.Core.Path.{_≡_, refl, sym, subst}
+use mathlib.Core.Bool.{Bool}
+use mathlib.Core.List.{List, map, _++_}
 use Prim.Native.Nat.{ℕ}
-use borrow.Author.Needs.{needs}
 use Rattle.rules.specs.Model.{signed}
-use Rattle.rules.specs.Spelling.{sizesRec}
 use Rattle.rules.specs.Records.{bytes, widths}
-use Rattle.model_write.specs.SpelledLaws.{spelled, wrote-more, room-first, room-after}
-use Rattle.model_write.specs.Spelled.{HasRoom, liveBytes, labelBytes, equationBytes, moveBytes}
+use Rattle.rules.specs.Session.{unword}
+use Rattle.rules.specs.Spelling.{sizesRec, encode}
+use Rattle.model_write.specs.Spelled.{HasRoom, Wrote, Writing, liveBytes, labelBytes, equationBytes, moveBytes, heldIn}
+use Rattle.model_write.specs.SpelledLaws.{spelled, writing-starts, writing-fits, writing-more}
+use borrow.Author.Needs.{needs}
 use Rattle.model_write.proofs.write_model.Statement.{statement}
 use Rattle.model_write.proofs.write_model.Tie as tie
 
 -- The bytes of the parts, as the arguments give them.
+abbrev sizes-of : tie.Start → List ℕ
+sizes-of c = bytes (sizesRec (c .args .session .sizes))
+
 abbrev live-of : tie.Start → List ℕ
-live-of c = liveBytes (c .args .live)
+live-of c = liveBytes (c .args .session .live)
 
 abbrev labels-of : tie.Start → List ℕ
-labels-of c = labelBytes (c .args .labels .now) 0 (c .args .z .states)
+labels-of c = labelBytes (c .args .labels .now) 0
 
 abbrev equations-of : tie.Start → List ℕ
-equations-of c = equationBytes (signed (c .args .z)) 0 (c .args .equations .now) 0 (c .args .z .variables)
+equations-of c = equationBytes (signed (c .args .session .sizes)) 0 (map unword (c .args .equations .now)) 0
 
 abbrev moves-of : tie.Start → List ℕ
-moves-of c = moveBytes (c .args .moves .now) 0 (c .args .n)
+moves-of c = moveBytes (c .args .moves .now) 0
 
--- Before each part, the room holds it and those after it.
-abbrev fits-sizes : (c : tie.Start) → HasRoom (c .args .out .now) 0 (bytes (sizesRec (c .args .z)) ++ (live-of c ++ (labels-of c ++ (equations-of c ++ moves-of c))))
-fits-sizes c =
-    let a = c .args in
-    rw (spelled (a .z) (a .live) (a .n) (a .labels .now) (a .equations .now) (a .moves .now)) at (c .pre .1)
+-- The writing of the whole, come to this room and place with these bytes left.
+abbrev Left : tie.Start → List ℕ → ℕ → List ℕ → Type 0
+Left c out at left = Writing (c .args .out .now) 0 (encode (heldIn (c .args .session) (c .args .labels .now) (c .args .equations .now) (c .args .moves .now))) out at left
 
-abbrev start-before-sizes : tie.After-write-sizes → tie.Start
-start-before-sizes c = c .before .before .before .before .before .before
+-- The five parts of the spelling, one after the other: what is left before the first, and after each.
+abbrev parts : (c : tie.Start) → let a = c .args in encode (heldIn (a .session) (a .labels .now) (a .equations .now) (a .moves .now)) ≡ sizes-of c ++ (live-of c ++ (labels-of c ++ (equations-of c ++ moves-of c)))
+parts c = let a = c .args in spelled (a .session) (a .labels .now) (a .equations .now) (a .moves .now)
 
-abbrev start-before-live : tie.After-put-live → tie.Start
-start-before-live c = start-before-sizes (c .before .before .before .before)
+abbrev begun : (c : tie.Start) → let a = c .args in Left c (a .out .now) 0 (encode (heldIn (a .session) (a .labels .now) (a .equations .now) (a .moves .now)))
+begun c = writing-starts _ _ _ (c .pre .1)
 
-abbrev start-before-labels : tie.After-write-labels → tie.Start
-start-before-labels c = start-before-live (c .before .before .before .before .before)
-
-abbrev start-before-equations : tie.After-write-equations → tie.Start
-start-before-equations c = start-before-labels (c .before .before .before .before .before .before)
-
-abbrev fits-live : (c : tie.After-write-sizes) → let s = start-before-sizes c in HasRoom (c .write-sizes .last .0) 7 (live-of s ++ (labels-of s ++ (equations-of s ++ moves-of s)))
+abbrev after-sizes : (c : tie.After-write-sizes) → let s = start-before-sizes c in Left s (c .write-sizes .last .0) 7 (live-of s ++ (labels-of s ++ (equations-of s ++ moves-of s)))
 unfolding widths
-fits-live c =
+after-sizes c =
     let s = start-before-sizes c in
-    room-after (bytes (sizesRec (s .args .z))) (live-of s ++ (labels-of s ++ (equations-of s ++ moves-of s))) (s .args .out .now) (c .write-sizes .last .0) 0 7 (fits-sizes s) (c .write-sizes .ensures, refl)
+    writing-more (begun s) (sizes-of s) (live-of s ++ (labels-of s ++ (equations-of s ++ moves-of s))) (c .write-sizes .last .0) 7 (parts s) (c .write-sizes .ensures, refl)
 
-abbrev fits-labels : (c : tie.After-put-live) → let s = start-before-live c in HasRoom (c .put-live .last .0) (c .put-live .result) (labels-of s ++ (equations-of s ++ moves-of s))
-fits-labels c =
+abbrev after-live : (c : tie.After-put-live) → let s = start-before-live c in Left s (c .put-live .last .0) (c .put-live .result) (labels-of s ++ (equations-of s ++ moves-of s))
+after-live c =
     let s = start-before-live c in
-    let p = c .before .before .before .before in
-    room-after (live-of s) (labels-of s ++ (equations-of s ++ moves-of s)) (p .write-sizes .last .0) (c .put-live .last .0) 7 (c .put-live .result) (fits-live p) (c .put-live .ensures .0)
+    writing-more (after-sizes (sizes-before-live c)) (live-of s) (labels-of s ++ (equations-of s ++ moves-of s)) (c .put-live .last .0) (c .put-live .result) refl (c .put-live .ensures)
 
-abbrev fits-equations : (c : tie.After-write-labels) → let s = start-before-labels c in HasRoom (c .write-labels .last .0) (c .write-labels .result) (equations-of s ++ moves-of s)
-fits-equations c =
+abbrev after-labels : (c : tie.After-write-labels) → let s = start-before-labels c in Left s (c .write-labels .last .0) (c .write-labels .result) (equations-of s ++ moves-of s)
+after-labels c =
     let s = start-before-labels c in
-    let p = c .before .before .before .before .before in
-    room-after (labels-of s) (equations-of s ++ moves-of s) (p .put-live .last .0) (c .write-labels .last .0) (p .put-live .result) (c .write-labels .result) (fits-labels p) (c .write-labels .ensures .0)
+    writing-more (after-live (live-before-labels c)) (labels-of s) (equations-of s ++ moves-of s) (c .write-labels .last .0) (c .write-labels .result) refl (c .write-labels .ensures)
 
-abbrev fits-moves : (c : tie.After-write-equations) → let s = start-before-equations c in HasRoom (c .write-equations .last .0) (c .write-equations .result) (moves-of s)
-fits-moves c =
+abbrev after-equations : (c : tie.After-write-equations) → let s = start-before-equations c in Left s (c .write-equations .last .0) (c .write-equations .result) (moves-of s)
+after-equations c =
     let s = start-before-equations c in
-    let p = c .before .before .before .before .before .before in
-    room-after (equations-of s) (moves-of s) (p .write-labels .last .0) (c .write-equations .last .0) (p .write-labels .result) (c .write-equations .result) (fits-equations p) (c .write-equations .ensures .0)
+    let p = labels-before-equations c in
+    let wrote = subst (λ (b : Bool). Wrote (p .write-labels .last .0) (p .write-labels .result) (equationBytes b 0 (map unword (s .args .equations .now)) 0) (c .write-equations .last .0) (c .write-equations .result)) (c .before .signed .ensures) (c .write-equations .ensures) in
+    writing-more (after-labels p) (equations-of s) (moves-of s) (c .write-equations .last .0) (c .write-equations .result) refl wrote
+
+-- The points of the program: from what is known at a later one to what was known at an earlier one.
+abbrev start-before-write-sizes-arg : tie.After-write-sizes-arg → tie.Start
+start-before-write-sizes-arg c = c .before .before .before .before .before .before
+
+abbrev write-sizes-before-put-live-arg : tie.After-put-live-arg → tie.After-write-sizes
+write-sizes-before-put-live-arg c = c .before .before .before
+
+abbrev start-before-put-live : tie.After-put-live → tie.Start
+start-before-put-live c = start-before-write-sizes-arg (write-sizes-before-put-live-arg (c .before) .before)
+
+abbrev put-live-before-write-labels-arg : tie.After-write-labels-arg → tie.After-put-live
+put-live-before-write-labels-arg c = c .before .before .before
+
+abbrev write-equations-before-write-moves-arg : tie.After-write-moves-arg → tie.After-write-equations
+write-equations-before-write-moves-arg c = c .before .before .before
 
 write-sizes-requires : tie.Need-write-sizes-requires
 unfolding widths
 write-sizes-requires c κs =
-    let s = c .before .before .before .before .before in
-    room-first (bytes (sizesRec (s .args .z))) (live-of s ++ (labels-of s ++ (equations-of s ++ moves-of s))) (s .args .out .now) 0 (fits-sizes s)
+    let at-start = start-before-write-sizes-arg c in
+    writing-fits (begun at-start) (sizes-of at-start) (live-of at-start ++ (labels-of at-start ++ (equations-of at-start ++ moves-of at-start))) (parts at-start)
 
 put-live-requires : tie.Need-put-live-requires
 put-live-requires c κs =
-    let p = c .before .before .before in
-    let s = start-before-sizes p in
-    room-first (live-of s) (labels-of s ++ (equations-of s ++ moves-of s)) (p .write-sizes .last .0) 7 (fits-live p)
-
-cast-write-labels : tie.Need-cast-write-labels
-cast-write-labels c = search needs
+    let after-write-sizes = write-sizes-before-put-live-arg c in
+    let at-start = start-before-write-sizes-arg (after-write-sizes .before) in
+    writing-fits (after-sizes after-write-sizes) (live-of at-start) (labels-of at-start ++ (equations-of at-start ++ moves-of at-start)) refl
 
 write-labels-requires : tie.Need-write-labels-requires
 write-labels-requires c κs =
-    let p = c .before .before .before .before in
-    let s = start-before-live p in
-    (room-first (labels-of s) (equations-of s ++ moves-of s) (p .put-live .last .0) (p .put-live .result) (fits-labels p), (s .pre .0 .0, s .pre .0 .2))
+    let after-put-live = put-live-before-write-labels-arg c in
+    let at-start = start-before-put-live after-put-live in
+    (writing-fits (after-live after-put-live) (labels-of at-start) (equations-of at-start ++ moves-of at-start) refl, at-start .pre .0 .0)
 
-cast-write-equations : tie.Need-cast-write-equations
-cast-write-equations c = search needs
+signed-requires : tie.Need-signed-requires
+signed-requires c κs = search needs
 
 write-equations-requires : tie.Need-write-equations-requires
 write-equations-requires c κs =
-    let p = c .before .before .before .before .before in
-    let s = start-before-labels p in
-    (room-first (equations-of s) (moves-of s) (p .write-labels .last .0) (p .write-labels .result) (fits-equations p), s .pre .0 .1)
+    let after-write-labels = c .before .before .before .before in
+    let at-start = start-before-put-live (put-live-before-write-labels-arg (after-write-labels .before)) in
+    let fits = writing-fits (after-labels after-write-labels) (equations-of at-start) (moves-of at-start) refl in
+    (subst (λ (b : Bool). HasRoom (after-write-labels .write-labels .last .0) (after-write-labels .write-labels .result) (equationBytes b 0 (map unword (at-start .args .equations .now)) 0)) (sym (c .signed .ensures)) fits, at-start .pre .0 .1)
 
 write-moves-requires : tie.Need-write-moves-requires
-write-moves-requires c κs = let p = c .before .before .before in (fits-moves p, start-before-equations p .pre .0 .3)
+write-moves-requires c κs = after-equations (write-equations-before-write-moves-arg c) .room
 
 same-length : tie.Need-same-length
 same-length c = search needs
 
--- The five parts, one after the other.
 returns : tie.Need-returns
-unfolding widths
 returns c =
-    let at-moves = c .before .before in
-    let at-equations = at-moves .before .before .before .before in
-    let at-labels = at-equations .before .before .before .before .before .before in
-    let at-live = at-labels .before .before .before .before .before in
-    let at-sizes = at-live .before .before .before .before in
-    let at-start = start-before-sizes at-sizes in
-    let a = at-start .args in
-    let sizes = bytes (sizesRec (a .z)) in
-    let live = live-of at-start in
-    let labels = labels-of at-start in
-    let equations = equations-of at-start in
-    let moves = moves-of at-start in
-    let after-sizes = at-sizes .write-sizes .last .0 in
-    let after-live = at-live .put-live .last .0 in
-    let after-labels = at-labels .write-labels .last .0 in
-    let after-equations = at-equations .write-equations .last .0 in
-    let i = at-live .put-live .result in
-    let j = at-labels .write-labels .result in
-    let k = at-equations .write-equations .result in
-    let fourth = wrote-more equations moves after-labels after-equations _ j k _ (at-equations .write-equations .ensures .0) (at-moves .write-moves .ensures) in
-    let third = wrote-more labels (equations ++ moves) after-live after-labels _ i j _ (at-labels .write-labels .ensures .0) fourth in
-    let second = wrote-more live (labels ++ (equations ++ moves)) after-sizes after-live _ 7 i _ (at-live .put-live .ensures .0) third in
-    let first = wrote-more sizes (live ++ (labels ++ (equations ++ moves))) (a .out .now) after-sizes _ 0 7 _ (at-sizes .write-sizes .ensures, refl) second in
-    rw (spelled (a .z) (a .live) (a .n) (a .labels .now) (a .equations .now) (a .moves .now)) first
+    let after-write-moves = c .before .before in
+    after-equations (write-equations-before-write-moves-arg (after-write-moves .before)) .leads _ _ (after-write-moves .write-moves .ensures)
 
 pub write-model-spec : {M : Type 1} → statement M
 write-model-spec =
@@ -137,9 +124,8 @@ write-model-spec =
     (tie.spec
     write-sizes-requires
     put-live-requires
-    cast-write-labels
     write-labels-requires
-    cast-write-equations
+    signed-requires
     write-equations-requires
     write-moves-requires
     same-length

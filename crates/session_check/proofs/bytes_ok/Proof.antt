@@ -1,9 +1,10 @@
--- What was found of the bytes before i, and what is asked of the others. Assumes nothing.
+-- The loop's invariant: what was found of the bytes before i, and what is asked of the others, is what is asked of all; the measure: how
+-- many bytes are left. Assumes nothing.
 use mathlib.Core.Path.{_≡_, refl, sym, _∙_}
 use mathlib.Core.Bool.{_&&_}
 use Prim.Native.Nat.{_-_}
 use native.Mathlib.Omega.{arith}
-use lib.ListN.{take, drop}
+use lib.ListN.{length, drop}
 use lib.Dec.{leb}
 use Rattle.lists.specs.Lists.{all}
 use Rattle.session_check.specs.FrontWalk.{all-turn, all-over}
@@ -12,13 +13,10 @@ use Rattle.session_check.proofs.bytes_ok.Statement.{statement}
 use Rattle.session_check.proofs.bytes_ok.Tie as tie
 
 abbrev Inv-loop : tie.InvT-loop
-Inv-loop room n most end i₀ ok₀ i ok = (ok && all (λ v. leb v most) (drop i (take n room))) ≡ all (λ v. leb v most) (take n room)
+Inv-loop room most i₀ ok₀ i ok = (ok && all (λ v. leb v most) (drop i room)) ≡ all (λ v. leb v most) room
 
 abbrev μ-loop : tie.MeasureT-loop
-μ-loop room n most end i₀ ok₀ i ok = end - i
-
-least-requires : tie.Need-least-requires Inv-loop μ-loop
-least-requires c κs = search needs
+μ-loop room most i₀ ok₀ i ok = length room - i
 
 loop-holds : tie.Need-loop-holds Inv-loop μ-loop
 loop-holds c = refl
@@ -35,27 +33,16 @@ loop-less c = search needs
 loop-again : tie.Need-loop-again Inv-loop μ-loop
 loop-again c =
     let at-loop = c .before .before in
-    let a = at-loop .before .before .before .args in
-    let s = at-loop .loop in
-    all-turn (λ v. leb v (a .most)) (a .room .now) (a .n) (s .i) _ (s .ok) _ _ refl refl (omega arith) (s .inv)
+    let at-start = at-loop .before in
+    all-turn (λ v. leb v (at-start .args .most)) (at-start .args .room .now) (at-loop .loop .i) (at-loop .loop .ok) _ _ refl (omega arith) (at-loop .loop .inv)
 
 returns : tie.Need-returns Inv-loop μ-loop
 returns c =
     let at-loop = c .before in
-    let a = at-loop .before .before .before .args in
-    let s = at-loop .loop in
-    sym (all-over (λ v. leb v (a .most)) (a .room .now) (a .n) (s .i) (s .ok) (omega arith)) ∙ s .inv
+    let at-start = at-loop .before in
+    sym (all-over (λ v. leb v (at-start .args .most)) (at-start .args .room .now) (at-loop .loop .i) (at-loop .loop .ok) (omega arith)) ∙ at-loop .loop .inv
 
 pub bytes-ok-spec : {M : Type 1} → statement M
 bytes-ok-spec =
     tie.close
-    (tie.spec
-    Inv-loop
-    μ-loop
-    least-requires
-    loop-holds
-    shared-slice-read-ok
-    add-i
-    loop-less
-    loop-again
-    returns)
+    (tie.spec Inv-loop μ-loop loop-holds shared-slice-read-ok add-i loop-less loop-again returns)

@@ -4,15 +4,6 @@ use borrow.Author.Needs.{needs}
 use Rattle.session_check.proofs.equation_ok.Statement.{statement}
 use Rattle.session_check.proofs.equation_ok.Tie as tie
 
-cast-o : tie.Need-cast-o
-cast-o c = search needs
-
-cast-first : tie.Need-cast-first
-cast-first c = search needs
-
-cast-second : tie.Need-cast-second
-cast-second c = search needs
-
 goes-on-requires : tie.Need-goes-on-requires
 goes-on-requires c κs = search needs
 
@@ -28,4 +19,4 @@ returns c = rw (c .before .before .goes-on .ensures, c .before .operands-ok .ens
 
 pub equation-ok-spec : {M : Type 1} → statement M
 equation-ok-spec =
-    tie.close (tie.spec cast-o cast-first cast-second goes-on-requires operands-ok-requires names-ok-requires returns)
+    tie.close (tie.spec goes-on-requires operands-ok-requires names-ok-requires returns)

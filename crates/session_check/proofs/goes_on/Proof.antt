@@ -2,18 +2,18 @@
 use mathlib.Core.Path.{_≡_}
 use Prim.Native.Nat.{suc}
 use borrow.Author.Tests.{eq-eqb, ne-eqb}
-use Rattle.rules.specs.Session.{unword}
+use native.Mathlib.Omega.{arith}
 use Rattle.session_check.specs.Tested.{goesOn}
 use borrow.Author.Needs.{needs}
-use native.Mathlib.Omega.{arith}
 use Rattle.session_check.proofs.goes_on.Statement.{statement}
 use Rattle.session_check.proofs.goes_on.Tie as tie
 
-block-of-requires : tie.Need-block-of-requires
-block-of-requires c κs = search needs
+-- The points of the program: from what is known at a later one to what was known at an earlier one.
+abbrev start-before-struct-known2 : tie.After-struct-known2 → tie.Start
+start-before-struct-known2 c = c .before .before
 
-kind-of-requires : tie.Need-kind-of-requires
-kind-of-requires c κs = search needs
+cast-block : tie.Need-cast-block
+cast-block c = search needs
 
 cast-blocks : tie.Need-cast-blocks
 cast-blocks c = search needs
@@ -23,16 +23,17 @@ add-if1 c = search needs
 
 returns : tie.Need-returns
 unfolding goesOn
-returns c = let a = c .before .before .before .before .args in
-    let e : suc (unword (a .w) .block) ≡ a .b = omega (arith, c .if1 .taken, c .before .before .before .block-of .ensures) in
-    rw (eq-eqb (suc (unword (a .w) .block)) (a .b) e, c .before .before .kind-of .ensures)
+returns c =
+    let a = start-before-struct-known2 (c .before .before) .args in
+    let e : suc (a .e .block) ≡ a .b = omega (arith, c .before .if1 .taken) in
+    rw (eq-eqb (suc (a .e .block)) (a .b) e)
 
 returns-2 : tie.Need-returns-2
 unfolding goesOn
-returns-2 c = let a = c .before .before .before .before .args in
-    let e : suc (unword (a .w) .block) ≡ a .b → ⊥ = λ x. c .if1 .left (omega (arith, c .before .before .before .block-of .ensures)) in
-    rw (ne-eqb (suc (unword (a .w) .block)) (a .b) e, c .before .before .before .block-of .ensures .0, c .before .before .kind-of .ensures)
+returns-2 c =
+    let a = start-before-struct-known2 (c .before .before) .args in
+    let e : suc (a .e .block) ≡ a .b → ⊥ = λ x. c .before .if1 .left (omega arith) in
+    rw (ne-eqb (suc (a .e .block)) (a .b) e)
 
 pub goes-on-spec : {M : Type 1} → statement M
-goes-on-spec =
-    tie.close (tie.spec block-of-requires kind-of-requires cast-blocks add-if1 returns returns-2)
+goes-on-spec = tie.close (tie.spec cast-block cast-blocks add-if1 returns returns-2)

@@ -1,9 +1,10 @@
--- What the sets before i are together, and what is asked of the others. Assumes nothing.
+-- The loop's invariant: what is asked of the sets before i together, and of each of the others, is what is asked of all; the measure:
+-- how many sets are left. Assumes nothing.
 use mathlib.Core.Path.{_≡_, refl, sym, ap, _∙_}
 use mathlib.Core.Bool.{Bool, _&&_}
 use Prim.Native.Nat.{_+_, _-_}
 use native.Mathlib.Omega.{arith}
-use lib.ListN.{getD, take, drop}
+use lib.ListN.{length, getD, drop}
 use Rattle.lists.specs.Lists.{all}
 use Rattle.rules.specs.Model.{labelOk}
 use Rattle.session_check.specs.FrontWalk.{all-turn, all-over, label-none, label-both}
@@ -12,18 +13,19 @@ use Rattle.session_check.proofs.labels_ok.Statement.{statement}
 use Rattle.session_check.proofs.labels_ok.Tie as tie
 
 abbrev Inv-loop : tie.InvT-loop
-Inv-loop sizes labels n end i₀ together₀ i together = (labelOk sizes together && all (labelOk sizes) (drop i (take n labels))) ≡ all (labelOk sizes) (take n labels)
+Inv-loop sizes labels i₀ together₀ i together = (labelOk sizes together && all (labelOk sizes) (drop i labels)) ≡ all (labelOk sizes) labels
 
 abbrev μ-loop : tie.MeasureT-loop
-μ-loop sizes labels n end i₀ together₀ i together = end - i
+μ-loop sizes labels i₀ together₀ i together = length labels - i
 
-least-requires : tie.Need-least-requires Inv-loop μ-loop
-least-requires c κs = search needs
+-- The points of the program: from what is known at a later one to what was known at an earlier one.
+abbrev start-before-at-loop : tie.At-loop Inv-loop μ-loop → tie.Start Inv-loop μ-loop
+start-before-at-loop c = c .before .before
 
 loop-holds : tie.Need-loop-holds Inv-loop μ-loop
 loop-holds c =
-    let a = c .before .before .args in
-    ap (λ (x : Bool). x && all (labelOk (a .sizes)) (take (a .n) (a .labels .now))) (label-none (a .sizes))
+    let at-start = c .before in
+    ap (λ (x : Bool). x && all (labelOk (at-start .args .sizes)) (at-start .args .labels .now)) (label-none (at-start .args .sizes))
 
 mul-together : tie.Need-mul-together Inv-loop μ-loop
 mul-together c = search needs
@@ -40,11 +42,12 @@ loop-less c = search needs
 loop-again : tie.Need-loop-again Inv-loop μ-loop
 loop-again c =
     let at-loop = c .before .before in
-    let a = at-loop .before .before .before .args in
+    let at-start = start-before-at-loop at-loop in
+    let z = at-start .args .sizes in
+    let l = at-start .args .labels .now in
     let s = at-loop .loop in
-    let q = getD (a .labels .now) (s .i) 0 in
-    ap (λ (x : Bool). x && all (labelOk (a .sizes)) (drop (s .i + 1) (take (a .n) (a .labels .now)))) (label-both (a .sizes) (s .together) q)
-    ∙ all-turn (labelOk (a .sizes)) (a .labels .now) (a .n) (s .i) q (labelOk (a .sizes) (s .together)) _ _ refl refl (omega arith) (s .inv)
+    ap (λ (x : Bool). x && all (labelOk z) (drop (s .i + 1) l)) (label-both z (s .together) (getD l (s .i) 0))
+    ∙ all-turn (labelOk z) l (s .i) (labelOk z (s .together)) _ _ refl (omega arith) (s .inv)
 
 label-ok-requires : tie.Need-label-ok-requires Inv-loop μ-loop
 label-ok-requires c κs = search needs
@@ -52,9 +55,9 @@ label-ok-requires c κs = search needs
 returns : tie.Need-returns Inv-loop μ-loop
 returns c =
     let at-loop = c .before .before in
-    let a = at-loop .before .before .before .args in
-    let s = at-loop .loop in
-    c .label-ok .ensures ∙ sym (all-over (labelOk (a .sizes)) (a .labels .now) (a .n) (s .i) (labelOk (a .sizes) (s .together)) (omega arith)) ∙ s .inv
+    let at-start = start-before-at-loop at-loop in
+    let z = at-start .args .sizes in
+    c .label-ok .ensures ∙ sym (all-over (labelOk z) (at-start .args .labels .now) (at-loop .loop .i) (labelOk z (at-loop .loop .together)) (omega arith)) ∙ at-loop .loop .inv
 
 pub labels-ok-spec : {M : Type 1} → statement M
 labels-ok-spec =
@@ -62,7 +65,6 @@ labels-ok-spec =
     (tie.spec
     Inv-loop
     μ-loop
-    least-requires
     loop-holds
     mul-together
     shared-slice-read-together

@@ -1,9 +1,10 @@
--- What was found of the moves before i, and that the others ascend from the last of these on. Assumes nothing.
-use mathlib.Core.Path.{_≡_, refl, sym, _∙_}
+-- The loop's invariant: what was found of the moves before i, and that the others ascend from the last of these on, is that all
+-- ascend; the measure: how many moves are left. Assumes nothing.
+use mathlib.Core.Path.{_≡_, sym, _∙_}
 use mathlib.Core.Bool.{_&&_}
 use Prim.Native.Nat.{_-_, _≤_}
 use native.Mathlib.Omega.{arith}
-use lib.ListN.{take}
+use lib.ListN.{length}
 use Rattle.moves.specs.Ascending.{ascends}
 use Rattle.session_check.specs.MoveWalk.{ascendFrom, ascend-start, ascend-turn, ascend-over}
 use borrow.Author.Needs.{needs}
@@ -11,16 +12,13 @@ use Rattle.session_check.proofs.moves_ascend.Statement.{statement}
 use Rattle.session_check.proofs.moves_ascend.Tie as tie
 
 abbrev Inv-loop : tie.InvT-loop
-Inv-loop moves n end i₀ ok₀ i ok = (1 ≤ i) × ((ok && ascendFrom moves n i) ≡ ascends 0 (take n moves))
+Inv-loop moves i₀ ok₀ i ok = (1 ≤ i) × ((ok && ascendFrom moves i) ≡ ascends 0 moves)
 
 abbrev μ-loop : tie.MeasureT-loop
-μ-loop moves n end i₀ ok₀ i ok = end - i
-
-least-requires : tie.Need-least-requires Inv-loop μ-loop
-least-requires c κs = search needs
+μ-loop moves i₀ ok₀ i ok = length moves - i
 
 loop-holds : tie.Need-loop-holds Inv-loop μ-loop
-loop-holds c = let a = c .before .before .args in (omega arith, ascend-start (a .moves .now) (a .n))
+loop-holds c = (omega arith, ascend-start (c .args .moves .now))
 
 sub-ok : tie.Need-sub-ok Inv-loop μ-loop
 sub-ok c = search needs
@@ -46,16 +44,12 @@ loop-less c = search needs
 loop-again : tie.Need-loop-again Inv-loop μ-loop
 loop-again c =
     let at-loop = c .before .before .before in
-    let a = at-loop .before .before .before .args in
-    let s = at-loop .loop in
-    (omega arith, ascend-turn (a .moves .now) (a .n) (s .i) (s .ok) _ (omega arith) (s .inv .1))
+    (omega arith, ascend-turn (at-loop .before .args .moves .now) (at-loop .loop .i) (at-loop .loop .ok) _ (omega arith) (at-loop .loop .inv .1))
 
 returns : tie.Need-returns Inv-loop μ-loop
 returns c =
     let at-loop = c .before in
-    let a = at-loop .before .before .before .args in
-    let s = at-loop .loop in
-    sym (ascend-over (a .moves .now) (a .n) (s .i) (s .ok) (omega arith)) ∙ s .inv .1
+    sym (ascend-over (at-loop .before .args .moves .now) (at-loop .loop .i) (at-loop .loop .ok) (omega arith)) ∙ at-loop .loop .inv .1
 
 pub moves-ascend-spec : {M : Type 1} → statement M
 moves-ascend-spec =
@@ -63,7 +57,6 @@ moves-ascend-spec =
     (tie.spec
     Inv-loop
     μ-loop
-    least-requires
     loop-holds
     sub-ok
     mul-ok

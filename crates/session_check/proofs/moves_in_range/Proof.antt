@@ -1,9 +1,10 @@
--- What was found of the moves before i, and what is asked of the others. Assumes nothing.
+-- The loop's invariant: what was found of the moves before i, and what is asked of the others, is what is asked of all; the measure: how
+-- many moves are left. Assumes nothing.
 use mathlib.Core.Path.{_≡_, refl, sym, _∙_}
 use mathlib.Core.Bool.{_&&_}
 use Prim.Native.Nat.{_-_}
 use native.Mathlib.Omega.{arith}
-use lib.ListN.{take, drop}
+use lib.ListN.{length, drop}
 use Rattle.lists.specs.Lists.{all}
 use Rattle.rules.specs.Model.{moveOk}
 use Rattle.session_check.specs.FrontWalk.{all-turn, all-over}
@@ -13,13 +14,14 @@ use Rattle.session_check.proofs.moves_in_range.Statement.{statement}
 use Rattle.session_check.proofs.moves_in_range.Tie as tie
 
 abbrev Inv-loop : tie.InvT-loop
-Inv-loop moves n end states actions i₀ ok₀ i ok = (ok && all (inside states actions) (drop i (take n moves))) ≡ all (inside states actions) (take n moves)
+Inv-loop moves states actions i₀ ok₀ i ok = (ok && all (inside states actions) (drop i moves)) ≡ all (inside states actions) moves
 
 abbrev μ-loop : tie.MeasureT-loop
-μ-loop moves n end states actions i₀ ok₀ i ok = end - i
+μ-loop moves states actions i₀ ok₀ i ok = length moves - i
 
-least-requires : tie.Need-least-requires Inv-loop μ-loop
-least-requires c κs = search needs
+-- The points of the program: from what is known at a later one to what was known at an earlier one.
+abbrev start-before-at-loop : tie.At-loop Inv-loop μ-loop → tie.Start Inv-loop μ-loop
+start-before-at-loop c = c .before .before .before .before
 
 cast-states : tie.Need-cast-states Inv-loop μ-loop
 cast-states c = search needs
@@ -48,17 +50,17 @@ loop-less c = search needs
 loop-again : tie.Need-loop-again Inv-loop μ-loop
 loop-again c =
     let at-loop = c .before .before .before in
-    let a = at-loop .before .before .before .before .before .args in
-    let s = at-loop .loop in
-    all-turn (inside (a .sizes .states) (a .sizes .actions)) (a .moves .now) (a .n) (s .i) _ (s .ok) (c .in-range .result) _ refl (c .in-range .ensures) (omega arith) (s .inv)
+    let at-start = start-before-at-loop at-loop in
+    let z = at-start .args .sizes in
+    all-turn (inside (z .states) (z .actions)) (at-start .args .moves .now) (at-loop .loop .i) (at-loop .loop .ok) _ _ (c .in-range .ensures) (omega arith) (at-loop .loop .inv)
 
 returns : tie.Need-returns Inv-loop μ-loop
 unfolding moveOk
 returns c =
     let at-loop = c .before in
-    let a = at-loop .before .before .before .before .before .args in
-    let s = at-loop .loop in
-    sym (all-over (inside (a .sizes .states) (a .sizes .actions)) (a .moves .now) (a .n) (s .i) (s .ok) (omega arith)) ∙ s .inv
+    let at-start = start-before-at-loop at-loop in
+    let z = at-start .args .sizes in
+    sym (all-over (inside (z .states) (z .actions)) (at-start .args .moves .now) (at-loop .loop .i) (at-loop .loop .ok) (omega arith)) ∙ at-loop .loop .inv
 
 pub moves-in-range-spec : {M : Type 1} → statement M
 moves-in-range-spec =
@@ -66,7 +68,6 @@ moves-in-range-spec =
     (tie.spec
     Inv-loop
     μ-loop
-    least-requires
     cast-states
     cast-actions
     loop-holds

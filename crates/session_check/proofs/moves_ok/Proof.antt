@@ -1,7 +1,6 @@
 -- To be in range and to ascend is all that is asked of the moves. Assumes nothing.
 use mathlib.Core.Path.{sym, ap₂, _∙_}
 use mathlib.Core.Bool.{Bool, _&&_}
-use lib.ListN.{take}
 use Rattle.session_check.specs.MoveWalk.{moves-split}
 use borrow.Author.Needs.{needs}
 use Rattle.session_check.proofs.moves_ok.Statement.{statement}
@@ -15,9 +14,9 @@ moves-ascend-requires c κs = search needs
 
 returns : tie.Need-returns
 returns c =
-    let a = c .before .before .before .args in
+    let at-start = c .before .before .before in
     ap₂ (λ (x y : Bool). x && y) (c .before .moves-in-range .ensures) (c .moves-ascend .ensures)
-    ∙ sym (moves-split (a .sizes) 0 (take (a .n) (a .moves .now)))
+    ∙ sym (moves-split (at-start .args .sizes) 0 (at-start .args .moves .now))
 
 pub moves-ok-spec : {M : Type 1} → statement M
 moves-ok-spec = tie.close (tie.spec moves-in-range-requires moves-ascend-requires returns)

@@ -1,27 +1,24 @@
--- A walk from the front: what is counted over all moves is what is counted over those left, from the count so far on. Assumes
--- nothing.
+-- The loop's invariant: what is counted over all moves is what is counted over those left, from the count so far on; the measure: how
+-- many moves are left. Assumes nothing.
 use mathlib.Core.Path.{_≡_, refl, sym, ap, _∙_}
 use Prim.Native.Nat.{ℕ, _-_, _+_}
 use native.Mathlib.Omega.{arith}
-use lib.ListN.{take, drop}
-use borrow.Author.Needs.{needs}
+use lib.ListN.{length, drop}
 use Rattle.laws.specs.moves.Hanging.{movingOver}
 use Rattle.session_check.specs.LiveWalk.{moving-turn, moving-end}
+use borrow.Author.Needs.{needs}
 use Rattle.session_check.proofs.moving.Statement.{statement}
 use Rattle.session_check.proofs.moving.Tie as tie
 
 abbrev Inv-loop : tie.InvT-loop
-Inv-loop moves n end i₀ r₀ i r = movingOver r (drop i (take n moves)) ≡ movingOver 0 (take n moves)
+Inv-loop moves i₀ r₀ i r = movingOver r (drop i moves) ≡ movingOver 0 moves
 
 abbrev μ-loop : tie.MeasureT-loop
-μ-loop moves n end i₀ r₀ i r = end - i
+μ-loop moves i₀ r₀ i r = length moves - i
 
 -- The points of the program: from what is known at a later one to what was known at an earlier one.
-abbrev start-before-loop : tie.At-loop Inv-loop μ-loop → tie.Start Inv-loop μ-loop
-start-before-loop c = c .before .before .before
-
-least-requires : tie.Need-least-requires Inv-loop μ-loop
-least-requires c κs = search needs
+abbrev start-before-at-loop : tie.At-loop Inv-loop μ-loop → tie.Start Inv-loop μ-loop
+start-before-at-loop c = c .before .before
 
 loop-holds : tie.Need-loop-holds Inv-loop μ-loop
 loop-holds c = refl
@@ -47,17 +44,15 @@ loop-less c = search needs
 loop-again : tie.Need-loop-again Inv-loop μ-loop
 loop-again c =
     let at-loop = c .before .before .before .before in
-    let a = start-before-loop at-loop .args in
+    let l = start-before-at-loop at-loop .args .moves .now in
     let s = at-loop .loop in
-    ap (λ (k : ℕ). movingOver k (drop (s .i + 1) (take (a .n) (a .moves .now)))) (c .moving-with .ensures)
-    ∙ moving-turn (a .moves .now) (a .n) (s .i) (s .r) _ _ (omega arith) (c .before .unpacked .ensures .0) (s .inv)
+    ap (λ (k : ℕ). movingOver k (drop (s .i + 1) l)) (c .moving-with .ensures)
+    ∙ moving-turn l (s .i) (s .r) _ _ (omega arith) (c .before .unpacked .ensures .0) (s .inv)
 
 returns : tie.Need-returns Inv-loop μ-loop
 returns c =
     let at-loop = c .before in
-    let a = start-before-loop at-loop .args in
-    let s = at-loop .loop in
-    sym (moving-end (a .moves .now) (a .n) (s .i) (s .r) (omega arith)) ∙ s .inv
+    sym (moving-end (start-before-at-loop at-loop .args .moves .now) (at-loop .loop .i) (at-loop .loop .r) (omega arith)) ∙ at-loop .loop .inv
 
 pub moving-spec : {M : Type 1} → statement M
 moving-spec =
@@ -65,7 +60,6 @@ moving-spec =
     (tie.spec
     Inv-loop
     μ-loop
-    least-requires
     loop-holds
     mul-unpacked
     shared-slice-read-unpacked

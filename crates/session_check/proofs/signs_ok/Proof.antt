@@ -1,12 +1,10 @@
--- `session_check::signs_ok` meets its contract. Assumes nothing.
-use native.Mathlib.Omega.{arith}
+-- The equations one by one, and their chains. Assumes nothing.
+use lib.ListN.{length-map}
+use Rattle.rules.specs.Session.{unword}
+use Rattle.session_check.specs.SignedWords.{signs-by}
 use borrow.Author.Needs.{needs}
-use Rattle.session_check.specs.SignedWords.{signs-short, signs-by}
 use Rattle.session_check.proofs.signs_ok.Statement.{statement}
 use Rattle.session_check.proofs.signs_ok.Tie as tie
-
-returns : tie.Need-returns
-returns c = signs-short _ _ _ (c .before .before .pre .0) (c .if1 .taken)
 
 each-sign-ok-requires : tie.Need-each-sign-ok-requires
 each-sign-ok-requires c κs = search needs
@@ -14,9 +12,10 @@ each-sign-ok-requires c κs = search needs
 chains-ok-requires : tie.Need-chains-ok-requires
 chains-ok-requires c κs = search needs
 
-returns-2 : tie.Need-returns-2
-returns-2 c =
-    signs-by _ _ _ _ _ (c .before .before .before .before .pre .0) (omega (arith, c .before .before .if1 .left)) (c .before .each-sign-ok .ensures) (c .chains-ok .ensures)
+returns : tie.Need-returns
+returns c =
+    let at-start = c .before .before .before in
+    signs-by _ _ _ _ _ (length-map (at-start .args .equations .now) unword) (at-start .pre .0) (c .before .each-sign-ok .ensures) (c .chains-ok .ensures)
 
 pub signs-ok-spec : {M : Type 1} → statement M
-signs-ok-spec = tie.close (tie.spec returns each-sign-ok-requires chains-ok-requires returns-2)
+signs-ok-spec = tie.close (tie.spec each-sign-ok-requires chains-ok-requires returns)

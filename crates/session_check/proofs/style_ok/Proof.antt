@@ -1,6 +1,6 @@
--- `session_check::style_ok` meets its contract. Assumes nothing.
-use borrow.Author.Needs.{needs}
+-- By the style that the sizes tell. Assumes nothing.
 use Rattle.session_check.specs.SignedWords.{style-signs, style-blocks}
+use borrow.Author.Needs.{needs}
 use Rattle.session_check.proofs.style_ok.Statement.{statement}
 use Rattle.session_check.proofs.style_ok.Tie as tie
 
