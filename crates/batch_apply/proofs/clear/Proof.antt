@@ -31,9 +31,8 @@ loop-less c = omega arith
 
 loop-again : tie.Need-loop-again Inv-loop μ-loop
 loop-again c =
-    let at-loop = c .before in
-    let a = at-loop .before .args in
-    let s = at-loop .loop in
+    let a = c .before .before .args in
+    let s = c .before .loop in
     (simp length-set (s .inv .0), omega arith, clear-on (s .moves) (s .i) (a .end) (omega arith) (omega arith) ∙ s .inv .2)
 
 same-length : tie.Need-same-length Inv-loop μ-loop
