@@ -1,11 +1,12 @@
 -- A list, or its first n entries, from place i on: what a walk over them has still to do. Assumes nothing.
-use mathlib.Core.Path.{_≡_, ap, _∙_}
+use mathlib.Core.Path.{_≡_, refl, sym, ap, _∙_}
 use mathlib.Core.List.{List, [], _∷_}
 use Prim.Native.Nat.{ℕ, _+_, _-_, _≤_, _<_, min}
+use native.Mathlib.Decide.{decLe}
 use native.Mathlib.Numerals.{add-one}
 use native.Mathlib.Omega.{arith}
 use lib.ListN.{length, getD, take, drop, length-take, drop-of-length-le}
-use lib.Seq.{drop-cons, getD-take}
+use lib.Seq.{take-all, take-length, drop-cons, getD-take}
 
 -- What is left of a whole list: the next entry, and the rest.
 pub left-more : (l : List ℕ) (i : ℕ) → i < length l → drop i l ≡ getD l i 0 ∷ drop (i + 1) l
@@ -26,3 +27,11 @@ rest-more l n i h =
 -- At the end nothing is left.
 pub rest-over : (l : List ℕ) (n i : ℕ) → min n (length l) ≤ i → drop i (take n l) ≡ []
 rest-over l n i h = let k : length (take n l) ≤ i = rw length-take h in drop-of-length-le (take n l) k
+
+-- Cut to no more than there are, the first n entries are the same.
+pub take-least : (l : List ℕ) (n : ℕ) → take (min n (length l)) l ≡ take n l
+take-least l n =
+    elim (decLe n (length l)) [
+      | yes h ↦ let e : min n (length l) ≡ n = omega arith in rw e refl
+      | no h ↦ let e : min n (length l) ≡ length l = omega arith in rw e (take-length l ∙ sym (take-all n l (omega arith)))
+    ]

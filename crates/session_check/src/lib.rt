@@ -59,9 +59,10 @@ fn bytes_ok(room: &[u8], n: usize, most: u8) -> bool
 fn in_range(states: u32, actions: u32, q: u32) -> bool
     ensures { λ r. ⌜ r ≡ inside states actions q ⌝ }
 {
-    (moves::source_of(q) < states)
-        & (moves::action_of(q) < actions)
-        & (moves::target_of(q) < states)
+    let from = words::source_of(q);
+    let by = words::action_of(q);
+    let to = words::target_of(q);
+    ((from.0 as u32) < states) & ((by.0 as u32) < actions) & ((to.0 as u32) < states)
 }
 
 // Whether the first n moves are in range.
@@ -109,8 +110,8 @@ fn moving(moves: &[u32], n: usize) -> u32
     let mut i: usize = 0;
     let mut r: u32 = 0;
     while i < end {
-        let m = moves::unpacked(moves[i]);
-        r = limits::moving_with(r, m.source);
+        let from = words::source_of(moves[i]);
+        r = limits::moving_with(r, from);
         i = i + 1;
     }
     r
@@ -274,8 +275,9 @@ pub fn rest_ok(
 {
     let sizes = session.sizes;
     let pairs = limits::pairs_of(sizes);
+    let n = moves::least(session.moves as usize, moves.len());
     model_ok(session, labels, equations, moves)
         & bytes_ok(values, pairs, 1)
         & bytes_ok(marks, pairs, 3)
-        & (session.stamp == moves::stamp_of(moves, session.moves as usize))
+        & (session.stamp == moves::stamp_of(&moves[..n]))
 }

@@ -17,8 +17,8 @@ abbrev μ-loop : tie.MeasureT-loop
 μ-loop moves n end i₀ r₀ i r = end - i
 
 -- The points of the program: from what is known at a later one to what was known at an earlier one.
-abbrev start-before-loop : tie.At-loop Inv-loop μ-loop → tie.Start Inv-loop μ-loop
-start-before-loop c = c .before .before .before
+abbrev start-before-at-loop : tie.At-loop Inv-loop μ-loop → tie.Start Inv-loop μ-loop
+start-before-at-loop c = c .before .before .before
 
 least-requires : tie.Need-least-requires Inv-loop μ-loop
 least-requires c κs = search needs
@@ -26,14 +26,14 @@ least-requires c κs = search needs
 loop-holds : tie.Need-loop-holds Inv-loop μ-loop
 loop-holds c = refl
 
-mul-unpacked : tie.Need-mul-unpacked Inv-loop μ-loop
-mul-unpacked c = search needs
+mul-source-of : tie.Need-mul-source-of Inv-loop μ-loop
+mul-source-of c = search needs
 
-shared-slice-read-unpacked : tie.Need-shared-slice-read-unpacked Inv-loop μ-loop
-shared-slice-read-unpacked c = search needs
+shared-slice-read-source-of : tie.Need-shared-slice-read-source-of Inv-loop μ-loop
+shared-slice-read-source-of c = search needs
 
-unpacked-requires : tie.Need-unpacked-requires Inv-loop μ-loop
-unpacked-requires c κs = search needs
+source-of-requires : tie.Need-source-of-requires Inv-loop μ-loop
+source-of-requires c κs = search needs
 
 moving-with-requires : tie.Need-moving-with-requires Inv-loop μ-loop
 moving-with-requires c κs = search needs
@@ -47,16 +47,15 @@ loop-less c = search needs
 loop-again : tie.Need-loop-again Inv-loop μ-loop
 loop-again c =
     let at-loop = c .before .before .before .before in
-    let a = start-before-loop at-loop .args in
+    let a = start-before-at-loop at-loop .args in
     let s = at-loop .loop in
     ap (λ (k : ℕ). movingOver k (drop (s .i + 1) (take (a .n) (a .moves .now)))) (c .moving-with .ensures)
-    ∙ moving-turn (a .moves .now) (a .n) (s .i) (s .r) _ _ (omega arith) (c .before .unpacked .ensures .0) (s .inv)
+    ∙ moving-turn (a .moves .now) (a .n) (s .i) (s .r) _ _ (omega arith) (c .before .source-of .ensures) (s .inv)
 
 returns : tie.Need-returns Inv-loop μ-loop
 returns c =
-    let at-loop = c .before in
-    let a = start-before-loop at-loop .args in
-    let s = at-loop .loop in
+    let a = start-before-at-loop (c .before) .args in
+    let s = c .before .loop in
     sym (moving-end (a .moves .now) (a .n) (s .i) (s .r) (omega arith)) ∙ s .inv
 
 pub moving-spec : {M : Type 1} → statement M
@@ -67,9 +66,9 @@ moving-spec =
     μ-loop
     least-requires
     loop-holds
-    mul-unpacked
-    shared-slice-read-unpacked
-    unpacked-requires
+    mul-source-of
+    shared-slice-read-source-of
+    source-of-requires
     moving-with-requires
     add-i
     loop-less
