@@ -15,25 +15,9 @@
      changes a const room meanwhile.
    For any such rooms, whatever they hold, each call ends and answers, and what it answers and leaves is proved.
 
-   The answer is one number. Its low 32 bits are the refusal's number, 1 to 13 or 16, or 0 for accepted. Its high 32 bits are, of
-   a refusal, its place in the bytes (modulo 2^32), and of an acceptance what each call says below. A refusal changes nothing
+   The answer is one number. Its low 32 bits are the refusal's number (the first table below), or 0 for accepted. Its high 32 bits
+   are, of a refusal, its place in the bytes (modulo 2^32), and of an acceptance what each call says below. A refusal changes nothing
    in any room, the session's and the report's included.
-
-   refusal  meaning
-   1        an unknown kind of record, or the bytes end inside a record or before the end record
-   2        a known kind where it is not due; any byte after the end record
-   3        a size outside its limits, a block with a wrong number of variables, a 65th change
-   4        a number not below its count, an unknown operator or sign, an unused byte not 0, an empty or too high set
-   5        an equation names a variable of a later block, or lies on a closed chain that holds both signs
-   6        a label or a move not strictly after the one before
-   7, 8     insert of a move that is present, delete of one that is absent
-   9        a batch names one move twice
-   10       more moves than 1,024 or than the move room holds
-   11       the batch's stamp is not the table's
-   12       the session is no model that load accepts, or holds a value over 1, a mark over 3 or a wrong stamp
-   13       a room is shorter than the sizes need; the session's room has fewer than 8 places or the report's fewer than 3
-            (asked before all else)
-   16       a live model in which some state has no move: of a load at the end record, of a batch at place 0
 
    A model has one of two styles, which the blocks of its sizes record decide. With 1 to 8 blocks each block (record 3) is
    followed by its equations (records 4). With 0 blocks each equation has a sign of its own (record 11: sign, operator, first,
@@ -80,6 +64,27 @@
 #ifdef __cplusplus
 extern "C" {
 #endif
+
+/* The refusals. 13 also says that the session's room has fewer than 8 places or the report's fewer than 3, which is asked before all
+   else. The place of 16 is the end record of a load, and 0 of a batch. */
+enum {
+    HUEPAXOCHI_BROKEN = 1, /* an unknown kind of record, or the bytes end inside a record or before the end record */
+    HUEPAXOCHI_NOT_DUE = 2, /* a known kind where it is not due; any byte after the end record */
+    HUEPAXOCHI_BAD_SIZE = 3, /* a size outside its limits, a block with a wrong number of variables, a 65th change */
+    HUEPAXOCHI_BAD_NUMBER = 4, /* a number not below its count, an unknown operator or sign, an unused byte not 0, an empty or too
+                                  high set */
+    HUEPAXOCHI_TANGLED = 5, /* an equation names a variable of a later block, or lies on a closed chain that holds both signs */
+    HUEPAXOCHI_OUT_OF_ORDER = 6, /* a label or a move not strictly after the one before */
+    HUEPAXOCHI_PRESENT = 7, /* insert of a move that is present */
+    HUEPAXOCHI_ABSENT = 8, /* delete of a move that is absent */
+    HUEPAXOCHI_NAMED_TWICE = 9, /* a batch names one move twice */
+    HUEPAXOCHI_FULL = 10, /* more moves than 1,024 or than the move room holds */
+    HUEPAXOCHI_WRONG_STAMP = 11, /* the batch's stamp is not the table's */
+    HUEPAXOCHI_NOT_A_MODEL = 12, /* the session is no model that load accepts, or holds a value over 1, a mark over 3 or a wrong
+                                    stamp */
+    HUEPAXOCHI_SHORT_ROOM = 13, /* a room is shorter than the sizes need */
+    HUEPAXOCHI_HANGS = 16 /* a live model in which some state has no move */
+};
 
 /* How long the rooms to work in must be. A table of 10 states and 3 actions with 4 variables in a move room of 50 places needs 80 of
    the index and 41 of the queue. */

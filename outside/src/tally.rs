@@ -5,12 +5,6 @@ use std::collections::HashSet;
 use crate::boundary::{Answer, Call, CALLS, NAMES};
 use crate::rooms::{Needs, Rooms, BLOCKS, LIVE, REPORT};
 
-/// The numbers of all refusals.
-const REFUSALS: [usize; 14] = [1, 2, 3, 4, 5, 6, 7, 8, 9, 10, 11, 12, 13, 16];
-
-/// How many numbers there are up to the highest refusal, 0 for accepted too.
-const NUMBERS: usize = 17;
-
 /// The number that only a live model is refused with.
 const HANGS: usize = 16;
 
@@ -21,6 +15,30 @@ const DUE: [&[usize]; CALLS] = [
     &[0, 12, 13],
     &[0, 4, 12, 13],
 ];
+
+/// How many numbers there are up to the highest refusal, 0 for accepted too.
+const NUMBERS: usize = highest() + 1;
+
+/// The highest number that a call can answer with.
+const fn highest() -> usize {
+    let (mut most, mut call, mut at) = (0, 0, 0);
+    while call < CALLS {
+        if at == DUE[call].len() {
+            (call, at) = (call + 1, 0);
+            continue;
+        }
+        if DUE[call][at] > most {
+            most = DUE[call][at];
+        }
+        at += 1;
+    }
+    most
+}
+
+/// Whether some call can be refused with a number.
+fn is_refusal(number: &usize) -> bool {
+    *number > 0 && DUE.iter().any(|numbers| numbers.contains(number))
+}
 
 /// The models by style and flag, by their numbers here.
 const MODELS: [&str; 4] = [
@@ -127,9 +145,9 @@ impl Tally {
 
     /// The calls, how many were accepted, and how many refused by number, in one line.
     pub fn line(&self) -> String {
-        let refused: Vec<String> = REFUSALS
-            .iter()
-            .map(|number| format!("{number}: {}", self.answered(*number)))
+        let refused: Vec<String> = (0..NUMBERS)
+            .filter(is_refusal)
+            .map(|number| format!("{number}: {}", self.answered(number)))
             .collect();
         let of_call = |call: usize| self.counts.iter().flat_map(move |model| model[call]);
         let made = |call: usize| format!("{} {}", of_call(call).sum::<u64>(), NAMES[call]);

@@ -11,6 +11,7 @@ use Rattle.lists.specs.Tests.{or-out, eqb-is, ltb-is}
 use Rattle.rules.specs.Limits.{most-changes}
 use Rattle.rules.specs.declared.Sizes.{Sizes}
 use Rattle.bytes_read.specs.PartsAt.{stands-at}
+use Rattle.rules.specs.Records.{widths}
 use Rattle.bytes_read.specs.Places.{moveAt, bodyLen, recordOf, recordAt}
 use Rattle.bytes_read.specs.declared.Read.the-variants.{Got}
 use Rattle.batch_read.specs.Going.{Onward, Going}
@@ -46,7 +47,7 @@ module _ (z : Sizes) (s : List ℕ) (p : ℕ) where
 
   -- A good change is one turn of the reading.
   change-turned : (x : ChangeRun) → GoodChange s z x → Turned z s p (x .count) (x .at) (turnAt x)
-  unfolding bodyLen recordOf
+  unfolding bodyLen widths recordOf
   change-turned x g =
       let m = moveAt s (x .at + 1) in
       elim (g .kind) [

@@ -6,14 +6,11 @@ use mathlib.Core.List.{List, [], _∷_}
 use Prim.Native.Nat.{ℕ, suc, _+_}
 use native.Mathlib.Omega.{arith}
 use native.Mathlib.Nat.{zero-add}
-use lib.Dec.{eqb, ltb}
+use lib.Dec.{ltb}
 use lib.ListN.{length, set}
 use lib.Seq.{sets}
-use types.Run.{OneOf, miss}
-use denote.Enum.Declared.{tagOf}
 use borrow.Author.Tests.{lt-ltb}
-use Rattle.lists.specs.Tests.{tell}
-use Rattle.rules.proofs.Record.{the-type}
+use Rattle.lists.specs.Tests.{tell, or-no}
 use Rattle.rules.specs.Batch.{Batch, first, after, stepBatch, putBatch, emptyBatch, readBatch}
 use Rattle.rules.specs.Limits.{most-changes}
 use Rattle.rules.specs.Model.{moveOk}
@@ -26,6 +23,7 @@ use Rattle.rules.specs.declared.Refusal.{Refusal}
 use Rattle.rules.specs.declared.Refusal.the-variants as Why
 use Rattle.rules.specs.declared.Sizes.{Sizes}
 use Rattle.words.specs.Words.{packOf, codeOf}
+use Rattle.laws.specs.bytes.Kinds.{Other, other-kind, other-kinds}
 use Rattle.bytes_read.specs.PartsAt.{partsAt, PartsBy, parts-at}
 use Rattle.bytes_read.specs.Places.{recordAt}
 use Rattle.bytes_read.specs.declared.Read.{Read}
@@ -95,33 +93,10 @@ module _ (z : Sizes) (s : List ℕ) (stamp n at k : ℕ) (r : Record) (got : rec
         ]
       ]
 
--- Records that are never due after the stamp, and those that are not due as the first.
-not-due : (z : Sizes) (n : ℕ) (r : Record) → OneOf (0 ∷ 1 ∷ 2 ∷ 3 ∷ 4 ∷ 6 ∷ 9 ∷ 10 ∷ []) (tagOf the-type r) → stepBatch z (after n) (numbersOf r) ≡ no 2
+-- A record of any other kind than the end and the changes is not due after the stamp.
+not-due : (z : Sizes) (n : ℕ) (r : Record) → Other (6 ∷ 8 ∷ 9 ∷ []) r → stepBatch z (after n) (numbersOf r) ≡ no 2
 unfolding stepBatch
-not-due z n (R.Sizes a) m = refl
-not-due z n (R.Label a b) m = refl
-not-due z n (R.Block a b) m = refl
-not-due z n (R.Equation a b d) m = refl
-not-due z n (R.Move a) m = refl
-not-due z n R.End m = absurd (miss (0 ∷ 1 ∷ 2 ∷ 3 ∷ 4 ∷ 6 ∷ 9 ∷ 10 ∷ []) 5 tt m)
-not-due z n (R.Stamp a) m = refl
-not-due z n (R.Insert a) m = absurd (miss (0 ∷ 1 ∷ 2 ∷ 3 ∷ 4 ∷ 6 ∷ 9 ∷ 10 ∷ []) 7 tt m)
-not-due z n (R.Delete a) m = absurd (miss (0 ∷ 1 ∷ 2 ∷ 3 ∷ 4 ∷ 6 ∷ 9 ∷ 10 ∷ []) 8 tt m)
-not-due z n R.Live m = refl
-not-due z n (R.Signed a b d e) m = refl
-
-no-stamp : (r : Record) → OneOf (0 ∷ 1 ∷ 2 ∷ 3 ∷ 4 ∷ 5 ∷ 7 ∷ 8 ∷ 9 ∷ 10 ∷ []) (tagOf the-type r) → eqb (numbersOf r .kind) 7 ≡ false
-no-stamp (R.Sizes a) m = refl
-no-stamp (R.Label a b) m = refl
-no-stamp (R.Block a b) m = refl
-no-stamp (R.Equation a b d) m = refl
-no-stamp (R.Move a) m = refl
-no-stamp R.End m = refl
-no-stamp (R.Stamp a) m = absurd (miss (0 ∷ 1 ∷ 2 ∷ 3 ∷ 4 ∷ 5 ∷ 7 ∷ 8 ∷ 9 ∷ 10 ∷ []) 6 tt m)
-no-stamp (R.Insert a) m = refl
-no-stamp (R.Delete a) m = refl
-no-stamp R.Live m = refl
-no-stamp (R.Signed a b d e) m = refl
+not-due z n r m = let k = simp or-no at (other-kinds (6 ∷ 8 ∷ 9 ∷ []) r m) in rw (k .0, k .1 .0, k .1 .1 .0) refl
 
 -- An insert, a delete, the end, and any other record.
 pub turned-insert : (z : Sizes) (s : List ℕ) (stamp n at k : ℕ) (r : Record) (m : Move) → recordAt s at ≡ Got r k → r ≡ R.Insert m → Turned z s stamp n at (changeTurn z stamp n m true at k)
@@ -142,7 +117,7 @@ turned-end z s stamp n at k r got q =
       | inr t ↦ rw t (rw (w .2, e, t) (let x : n ≡ n + 0 = omega arith in rw (← x) refl), rw (w .2) refl)
     ]
 
-pub turned-other : (z : Sizes) (s : List ℕ) (stamp n at k : ℕ) (r : Record) → recordAt s at ≡ Got r k → OneOf (0 ∷ 1 ∷ 2 ∷ 3 ∷ 4 ∷ 6 ∷ 9 ∷ 10 ∷ []) (tagOf the-type r)
+pub turned-other : (z : Sizes) (s : List ℕ) (stamp n at k : ℕ) (r : Record) → recordAt s at ≡ Got r k → Other (6 ∷ 8 ∷ 9 ∷ []) r
     → Turned z s stamp n at (T.Stop (B.Refused Why.NotDue at))
 turned-other z s stamp n at k r got m = turned-no z s stamp n at k r got Why.NotDue (not-due z n r m)
 
@@ -178,10 +153,10 @@ first-broken z s e =
       | inr b ↦ let k : partsAt s 0 ≡ ends 0 = h ∙ rw b refl in (rw k refl, rw k refl)
     ]
 
-pub first-other : (z : Sizes) (s : List ℕ) (k : ℕ) (r : Record) → recordAt s 0 ≡ Got r k → OneOf (0 ∷ 1 ∷ 2 ∷ 3 ∷ 4 ∷ 5 ∷ 7 ∷ 8 ∷ 9 ∷ 10 ∷ []) (tagOf the-type r)
+pub first-other : (z : Sizes) (s : List ℕ) (k : ℕ) (r : Record) → recordAt s 0 ≡ Got r k → Other (7 ∷ []) r
     → Began z s (T.Stop (B.Refused Why.NotDue 0))
 unfolding readBatch run stepBatch codesOf
 first-other z s k r got m =
     let w = there z s 0 0 0 k r got in
-    let e = no-stamp r m in
+    let e = other-kind 7 r m in
     (sym (rw (w .2, e) refl), sym (rw (w .2, e) refl))

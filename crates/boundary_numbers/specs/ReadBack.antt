@@ -7,7 +7,7 @@ use native.Mathlib.Omega.{arith}
 use lib.ListN.{getD}
 use lib.Dec.{leb}
 use Rattle.lists.specs.Lists.{fill}
-use Rattle.lists.specs.Tests.{no-way, leb-is, tests}
+use Rattle.lists.specs.Tests.{no-way, leb-is, tests, same-test}
 use Rattle.rules.specs.Limits.{sizesOk}
 use Rattle.rules.specs.declared.Sizes.{Sizes}
 use Rattle.rules.specs.declared.Session.{Session}
@@ -46,20 +46,15 @@ sizesAs room = record {
   blocks = getD room 4 0;
 }
 
--- Two tests that follow from each other are one.
-same : (x y : Bool) → (x ≡ true → y ≡ true) → (y ≡ true → x ≡ true) → x ≡ y
-same true y f g = sym (f refl)
-same false y f g = sym (no-way y (λ e. absurd (false≢true (g e))))
-
--- Below what it is cut to, a number and what it is cut to pass the same tests.
+-- Below what it is cut to, a number and what it is cut to pass the same-test tests.
 cut-below : (n most limit : ℕ) → limit < most → leb (min n most) limit ≡ leb n limit
 cut-below n most limit h =
-    same (leb (min n most) limit) (leb n limit) (λ e. let k = leb-is (min n most) limit .0 e in leb-is n limit .1 (omega arith))
+    same-test (leb (min n most) limit) (leb n limit) (λ e. let k = leb-is (min n most) limit .0 e in leb-is n limit .1 (omega arith))
     (λ e. let k = leb-is n limit .0 e in leb-is (min n most) limit .1 (omega arith))
 
 cut-above : (n most least : ℕ) → least ≤ most → leb least (min n most) ≡ leb least n
 cut-above n most least h =
-    same (leb least (min n most)) (leb least n) (λ e. let k = leb-is least (min n most) .0 e in leb-is least n .1 (omega arith))
+    same-test (leb least (min n most)) (leb least n) (λ e. let k = leb-is least (min n most) .0 e in leb-is least n .1 (omega arith))
     (λ e. let k = leb-is least n .0 e in leb-is least (min n most) .1 (omega arith))
 
 -- So the sizes read are inside the limits exactly where the numbers are, and the flag read is 0 or 1 exactly where its number is.

@@ -61,7 +61,7 @@ pub fn session_of(room: &[u32]) -> Session
 
 // The paper's number for a refusal.
 pub fn number_of(why: Refusal) -> u32
-    ensures { λ r. ⌜ (r ≡ numberOf why) × (r ≤ 16) ⌝ }
+    ensures { λ r. ⌜ r ≡ numberOf why ⌝ }
 {
     match why {
         Refusal::Broken => 1,

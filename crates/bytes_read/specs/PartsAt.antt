@@ -1,20 +1,22 @@
 -- Reading by places of the byte list is reading record by record. Assumes nothing.
 use mathlib.Core.Path.{_≡_, refl, sym, ap, _∙_}
 use mathlib.Core.Logic.{inl, inr}
-use mathlib.Core.Bool.{true, false, cond, false≢true}
+use mathlib.Core.Bool.{true, false, cond}
 use mathlib.Core.List.{List, [], _∷_}
 use Prim.Native.Nat.{ℕ, zero, suc, _+_, _-_, _*_, _≤_, _<_}
+use native.Mathlib.Nat.{add-assoc}
 use native.Mathlib.Omega.{arith}
 use lib.ListN.{length, getD, drop, length-drop, drop-of-length-le}
 use lib.Seq.{drop-cons, drop-drop}
-use lib.Dec.{eqb, ltb, leb}
-use Rattle.lists.specs.Tests.{tests, tell, and-is, leb-is, ltb-is, ltb-no, eqb-no}
-use Rattle.rules.specs.Records.{widths, known, bodyOf, number, reads, Rec, Parts, ends, broken, part, partsFrom, numbersOf}
+use lib.Dec.{ltb, leb}
+use Rattle.lists.specs.Cases.{same-at}
+use Rattle.lists.specs.Tests.{all-at, tell, leb-is, ltb-is, ltb-no}
+use Rattle.rules.specs.Records.{kinds, widths, known, bodyOf, number, reads, Rec, Parts, ends, broken, part, partsFrom, numbersOf}
 use Rattle.rules.specs.declared.Record.{Record}
 use Rattle.laws.specs.bytes.RecordLaws.{skipped}
 use Rattle.bytes_read.specs.declared.Read.{Read}
 use Rattle.bytes_read.specs.declared.Read.the-variants.{Got, Broken}
-use Rattle.bytes_read.specs.Places.{le16, le32, moveAt, bodyLen, recordOf, recordAt}
+use Rattle.bytes_read.specs.Places.{le16, le32, bodyLen, recordOf, recordAt}
 
 -- What stands from a place on.
 abbrev pub partsAt : List ℕ → ℕ → Parts
@@ -46,77 +48,19 @@ number4 s p =
     let c = number2 s (suc (suc p)) in
     a ∙ rw (b, c, f, e) (omega arith)
 
-abbrev ofKind : ℕ → List ℕ → Rec
-ofKind k l = record { kind = k; body = l }
-
-move-body : (s : List ℕ) (b : ℕ)
-    → reads (2 ∷ 1 ∷ 2 ∷ []) (drop b s) ≡ (moveAt s b .source .0 ∷ moveAt s b .action .0 ∷ moveAt s b .target .0 ∷ [])
-move-body s b = let e : b + 2 + 1 ≡ b + 3 = omega arith in simp (drop-drop, number1, number2, e)
-
--- There is no kind over 11.
-unknown : (k : ℕ) → known (suc (suc (suc (suc (suc (suc (suc (suc (suc (suc (suc (suc k)))))))))))) ≡ true → ⊥
-unknown k h = let f = simp and-is at h in let g = ltb-is (suc (suc (suc (suc (suc (suc (suc (suc (suc (suc (suc (suc k)))))))))))) 12 .0 (f .1) in omega arith
-
 -- The enum's kind and numbers are those of the record's bytes.
 enum-numbers : (k : ℕ) (s : List ℕ) (b : ℕ) → known k ≡ true → numbersOf (recordOf k s b) ≡ record { kind = k; body = reads (widths k) (drop b s) }
 unfolding recordOf widths
-enum-numbers zero s b h = absurd (false≢true h)
-enum-numbers (suc zero) s b h =
-    let e3 : b + 2 + 1 ≡ b + 3 = omega arith in
-    let e4 : b + 3 + 1 ≡ b + 4 = omega arith in
-    let e5 : b + 4 + 1 ≡ b + 5 = omega arith in
-    simp (drop-drop, number1, number2, e3, e4, e5)
-enum-numbers (suc (suc zero)) s b h = simp (drop-drop, number2, number4)
-enum-numbers (suc (suc (suc zero))) s b h = simp (drop-drop, number1)
-enum-numbers (suc (suc (suc (suc zero)))) s b h = let e : b + 1 + 1 ≡ b + 2 = omega arith in simp (drop-drop, number1, e)
-enum-numbers (suc (suc (suc (suc (suc zero))))) s b h = ap (ofKind 5) (sym (move-body s b))
-enum-numbers (suc (suc (suc (suc (suc (suc zero)))))) s b h = refl
-enum-numbers (suc (suc (suc (suc (suc (suc (suc zero))))))) s b h = simp number4
-enum-numbers (suc (suc (suc (suc (suc (suc (suc (suc zero)))))))) s b h = ap (ofKind 8) (sym (move-body s b))
-enum-numbers (suc (suc (suc (suc (suc (suc (suc (suc (suc zero))))))))) s b h = ap (ofKind 9) (sym (move-body s b))
-enum-numbers (suc (suc (suc (suc (suc (suc (suc (suc (suc (suc zero)))))))))) s b h = refl
-enum-numbers (suc (suc (suc (suc (suc (suc (suc (suc (suc (suc (suc zero))))))))))) s b h =
-    let e2 : b + 1 + 1 ≡ b + 2 = omega arith in
-    let e3 : b + 2 + 1 ≡ b + 3 = omega arith in
-    simp (drop-drop, number1, e2, e3)
-enum-numbers (suc (suc (suc (suc (suc (suc (suc (suc (suc (suc (suc (suc k)))))))))))) s b h = absurd (unknown k h)
+enum-numbers k s b h = same-at (λ i. numbersOf (recordOf i s b)) (λ i. record { kind = i; body = reads (widths i) (drop b s) }) kinds k (simp (drop-drop, number1, number2, number4, add-assoc)) h
 
--- The length of a known kind's body is the sum of its widths; an unknown kind's is over 6.
-body-known : (k : ℕ) → known k ≡ true → (bodyLen k ≡ bodyOf (widths k)) × (bodyLen k ≤ 6)
+-- The length of a known kind's body is the sum of its widths; an unknown kind's is 255.
+body-known : (k : ℕ) → known k ≡ true → (bodyLen k ≡ bodyOf (widths k)) × (bodyLen k ≤ 254)
 unfolding bodyLen widths
-body-known zero h = absurd (false≢true h)
-body-known (suc zero) h = (refl, omega arith)
-body-known (suc (suc zero)) h = (refl, omega arith)
-body-known (suc (suc (suc zero))) h = (refl, omega arith)
-body-known (suc (suc (suc (suc zero)))) h = (refl, omega arith)
-body-known (suc (suc (suc (suc (suc zero))))) h = (refl, omega arith)
-body-known (suc (suc (suc (suc (suc (suc zero)))))) h = (refl, omega arith)
-body-known (suc (suc (suc (suc (suc (suc (suc zero))))))) h = (refl, omega arith)
-body-known (suc (suc (suc (suc (suc (suc (suc (suc zero)))))))) h = (refl, omega arith)
-body-known (suc (suc (suc (suc (suc (suc (suc (suc (suc zero))))))))) h = (refl, omega arith)
-body-known (suc (suc (suc (suc (suc (suc (suc (suc (suc (suc zero)))))))))) h = (refl, omega arith)
-body-known (suc (suc (suc (suc (suc (suc (suc (suc (suc (suc (suc zero))))))))))) h = (refl, omega arith)
-body-known (suc (suc (suc (suc (suc (suc (suc (suc (suc (suc (suc (suc k)))))))))))) h = absurd (unknown k h)
+body-known k h = let b = leb-is (bodyOf (widths k)) 254 .0 (all-at (λ i. leb (bodyOf (widths i)) 254) kinds k refl h) in (rw h refl, rw h b)
 
 body-unknown : (k : ℕ) → known k ≡ false → bodyLen k ≡ 255
 unfolding bodyLen
-body-unknown zero h = refl
-body-unknown (suc zero) h = absurd (false≢true (sym h))
-body-unknown (suc (suc zero)) h = absurd (false≢true (sym h))
-body-unknown (suc (suc (suc zero))) h = absurd (false≢true (sym h))
-body-unknown (suc (suc (suc (suc zero)))) h = absurd (false≢true (sym h))
-body-unknown (suc (suc (suc (suc (suc zero))))) h = absurd (false≢true (sym h))
-body-unknown (suc (suc (suc (suc (suc (suc zero)))))) h = absurd (false≢true (sym h))
-body-unknown (suc (suc (suc (suc (suc (suc (suc zero))))))) h = absurd (false≢true (sym h))
-body-unknown (suc (suc (suc (suc (suc (suc (suc (suc zero)))))))) h = absurd (false≢true (sym h))
-body-unknown (suc (suc (suc (suc (suc (suc (suc (suc (suc zero))))))))) h = absurd (false≢true (sym h))
-body-unknown (suc (suc (suc (suc (suc (suc (suc (suc (suc (suc zero)))))))))) h = absurd (false≢true (sym h))
-body-unknown (suc (suc (suc (suc (suc (suc (suc (suc (suc (suc (suc zero))))))))))) h = absurd (false≢true (sym h))
-body-unknown (suc (suc (suc (suc (suc (suc (suc (suc (suc (suc (suc (suc k)))))))))))) h =
-    rw (off 1 (omega arith), off 2 (omega arith), off 3 (omega arith), off 4 (omega arith), off 5 (omega arith), off 6 (omega arith), off 7 (omega arith), off 8 (omega arith), off 9 (omega arith), off 10 (omega arith), off 11 (omega arith)) refl
-  where
-    off : (j : ℕ) → j < 12 → eqb (suc (suc (suc (suc (suc (suc (suc (suc (suc (suc (suc (suc k)))))))))))) j ≡ false
-    off j l = eqb-no _ j .1 (λ e. omega arith)
+body-unknown k h = rw h refl
 
 -- What a read record, or the lack of one, says of the parts.
 abbrev pub PartsBy : List ℕ → ℕ → Read → Type 0
@@ -140,10 +84,10 @@ parts-at s p =
           let d : drop p s ≡ k ∷ drop (suc p) s = drop-cons s p 0 h in
           let n : length (drop (suc p) s) ≡ length s - (p + 1) = length-drop (suc p) s ∙ omega arith in
           elim (tell true (known k)) [
-            | inr u ↦ let e : leb (bodyLen k) 6 ≡ false = rw (body-unknown k u) refl in rw (t, e) (rw (t, d, u) refl)
+            | inr u ↦ let e : leb (bodyLen k) 254 ≡ false = rw (body-unknown k u) refl in rw (t, e) (rw (t, d, u) refl)
             | inl u ↦
                 let b = body-known k u in
-                let e : leb (bodyLen k) 6 ≡ true = leb-is _ _ .1 (b .1) in
+                let e : leb (bodyLen k) 254 ≡ true = leb-is _ _ .1 (b .1) in
                 elim (tell true (leb (bodyLen k) (length s - (p + 1)))) [
                   | inr v ↦ rw (t, e, v) (rw (t, d, n, u, ← b .0, v) refl)
                   | inl v ↦
@@ -160,10 +104,10 @@ parts-at s p =
     ]
 
 -- A record that is whole in the bytes is read, by its kind and the length of its body.
-pub stands-at : (s : List ℕ) (p k w : ℕ) → getD s p 0 ≡ k → bodyLen k ≡ w → w ≤ 6 → p + 1 + w ≤ length s → recordAt s p ≡ Got (recordOf k s (p + 1)) (p + 1 + w)
+pub stands-at : (s : List ℕ) (p k w : ℕ) → getD s p 0 ≡ k → bodyLen k ≡ w → w ≤ 254 → p + 1 + w ≤ length s → recordAt s p ≡ Got (recordOf k s (p + 1)) (p + 1 + w)
 unfolding recordAt
 stands-at s p k w e f g h =
-    rw (e, f, ltb-is p (length s) .1 (omega arith), leb-is w 6 .1 g, leb-is w (length s - (p + 1)) .1 (omega arith)) refl
+    rw (e, f, ltb-is p (length s) .1 (omega arith), leb-is w 254 .1 g, leb-is w (length s - (p + 1)) .1 (omega arith)) refl
 
 -- What is read where a record stands: its kind is the byte there, and its body is what follows.
 pub record There (s : List ℕ) (p : ℕ) (r : Record) (n : ℕ) : Type 0 where
@@ -174,10 +118,10 @@ pub record There (s : List ℕ) (p : ℕ) (r : Record) (n : ℕ) : Type 0 where
 not-broken : (r : Record) (n : ℕ) → Broken ≡ Got r n → ⊥
 not-broken r n e = let z : _≡_ {A = ℕ} 0 1 = cc in omega arith
 
-by-body : (s : List ℕ) (p k n : ℕ) (r : Record) → getD s p 0 ≡ k → leb (bodyLen k) 6 ≡ true → Got (recordOf k s (p + 1)) (p + 1 + bodyLen k) ≡ Got r n → There s p r n
+by-body : (s : List ℕ) (p k n : ℕ) (r : Record) → getD s p 0 ≡ k → leb (bodyLen k) 254 ≡ true → Got (recordOf k s (p + 1)) (p + 1 + bodyLen k) ≡ Got r n → There s p r n
 by-body s p k n r e f g =
     elim (tell true (known k)) [
-      | inr u ↦ let h = leb-is (bodyLen k) 6 .0 f in let w = body-unknown k u in absurd (omega arith)
+      | inr u ↦ let h = leb-is (bodyLen k) 254 .0 f in let w = body-unknown k u in absurd (omega arith)
       | inl u ↦
           let a : recordOf k s (p + 1) ≡ r = cc in
           let b : p + 1 + bodyLen k ≡ n = cc in
@@ -192,7 +136,7 @@ read-there s p n r got =
       | inr e ↦ absurd (not-broken r n (rw e at got))
       | inl e ↦
           let a = rw e at got in
-          elim (tell true (leb (bodyLen (getD s p 0)) 6)) [
+          elim (tell true (leb (bodyLen (getD s p 0)) 254)) [
             | inr f ↦ absurd (not-broken r n (rw f at a))
             | inl f ↦
                 let b = rw f at a in

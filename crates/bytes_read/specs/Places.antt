@@ -4,6 +4,7 @@ use mathlib.Core.List.{List}
 use Prim.Native.Nat.{ℕ, _+_, _-_, _*_}
 use lib.ListN.{length, getD}
 use lib.Dec.{eqb, ltb, leb}
+use Rattle.rules.specs.Records.{known, widths, bodyOf}
 use Rattle.rules.specs.declared.Move.{Move}
 use Rattle.rules.specs.declared.Sizes.{Sizes}
 use Rattle.rules.specs.declared.Record.{Record}
@@ -29,19 +30,7 @@ sizesAt s b =
 
 -- The length of a body by its kind; 255 for a kind that is not known.
 unfoldable pub bodyLen : ℕ → ℕ
-bodyLen k =
-    cond (eqb k 1) 6
-    (cond (eqb k 2) 6
-    (cond (eqb k 3) 2
-    (cond (eqb k 4) 3
-    (cond (eqb k 5) 5
-    (cond (eqb k 6) 0
-    (cond (eqb k 7) 4
-    (cond (eqb k 8) 5
-    (cond (eqb k 9) 5
-    (cond (eqb k 10) 0
-    (cond (eqb k 11) 4
-    255))))))))))
+bodyLen k = cond (known k) (bodyOf (widths k)) 255
 
 -- The record of a kind whose body stands at b.
 unfoldable pub recordOf : ℕ → List ℕ → ℕ → Record
@@ -62,7 +51,7 @@ recordOf k s b =
 unfoldable pub recordAt : List ℕ → ℕ → Read
 recordAt s at =
     cond (ltb at (length s))
-    (cond (leb (bodyLen (getD s at 0)) 6)
+    (cond (leb (bodyLen (getD s at 0)) 254)
     (cond (leb (bodyLen (getD s at 0)) (length s - (at + 1)))
     (Got (recordOf (getD s at 0) s (at + 1)) (at + 1 + bodyLen (getD s at 0)))
     Broken)

@@ -122,7 +122,7 @@ fn record_at(bytes: &[u8], at: usize) -> Read
     }
     let kind = bytes[at];
     let n = body_len(kind);
-    if 6 < n {
+    if 254 < n {
         return Read::Broken;
     }
     let b = at + 1;

@@ -5,6 +5,7 @@ ghost use mathlib.Core.Path.{_≡_};
 ghost use mathlib.Core.Bool.{true};
 ghost use Prim.Native.Nat.{ℕ, _+_, _≤_, _<_};
 ghost use lib.ListN.{getD, length, take, replicate};
+ghost use Rattle.rules.specs.Limits.{most-changes};
 ghost use Rattle.rules.specs.Batch.{changesOk};
 ghost use Rattle.rules.specs.Rooms.{pairsOf, indexNeeds, queueNeeds, indexAfter, queueAfter};
 ghost use Rattle.rules.specs.Calls.{valueAt, bits};
@@ -260,7 +261,7 @@ pub fn update(
     requires { ⌜ Drawn sizes (now labels) (now equations) (now moves) n ⌝ }
     requires { ⌜ changesOk sizes (changesOf (take count (now changes))) ≡ true ⌝ }
     requires { ⌜ Started (tableOf sizes (now labels) (now equations) (now moves) n) (changesOf (take count (now changes))) (take (pairsOf sizes) (now values)) ⌝ }
-    requires { ⌜ ((pairsOf sizes ≤ length (now values)) × (pairsOf sizes ≤ length (now marks))) × ((count ≤ 64) × (count ≤ length (now changes))) ⌝ }
+    requires { ⌜ ((pairsOf sizes ≤ length (now values)) × (pairsOf sizes ≤ length (now marks))) × ((count ≤ most-changes) × (count ≤ length (now changes))) ⌝ }
     requires { ⌜ (indexNeeds sizes (length (now moves)) ≤ length (now index)) × (queueNeeds sizes ≤ length (now queue)) ⌝ }
     ensures { λ r. ⌜ (Leaves (tableOf sizes (now (labels .entry)) (now (equations .entry)) (now (moves .entry)) n) (turnAll (tableOf sizes (now (labels .entry)) (now (equations .entry)) (now (moves .entry)) n) (changesOf (take count (now (changes .entry)))) (valueAt (now (values .entry))))
         (now (values .entry)) (now (marks .entry)) (now (values .exit)) (now (marks .exit)) (r .visits .shift) (r .visits .settle) (r .net))

@@ -17,14 +17,6 @@ pub record Chained (key : ℕ → ℕ) (heads links : ℕ) (ws : List ℕ) (n : 
   pub ends : (t : ℕ) → heads + t < links → getD r (heads + t) 0 ≡ lastTo key ws t n
   pub steps : (j : ℕ) → j < n → getD r (links + j) 0 ≡ lastTo key ws (key (getD ws j 0)) j
 
--- Chains stay where the room does not change between its first head and its last link.
-pub chained-kept : (key : ℕ → ℕ) (heads links : ℕ) (ws : List ℕ) (n : ℕ) (r q : List ℕ) → heads ≤ links
-    → ((i : ℕ) → heads ≤ i → i < links + n → getD q i 0 ≡ getD r i 0) → Chained key heads links ws n r → Chained key heads links ws n q
-chained-kept key heads links ws n r q o same c = record {
-  ends = λ t h. same (heads + t) (omega arith) (omega arith) ∙ c .ends t h;
-  steps = λ j h. same (links + j) (omega arith) (omega arith) ∙ c .steps j h;
-}
-
 module _ (key : ℕ → ℕ) (heads links : ℕ) (ws : List ℕ) where
   -- The head that is found becomes the link of the word at j, and the number one more than j the head.
   pub link-made : (j : ℕ) (r q p : List ℕ) (k head last : ℕ) → k ≡ key (getD ws j 0) → head ≡ heads + k → last ≡ getD r head 0

@@ -41,7 +41,3 @@ indexed t r q d long none e =
       long = let l = linked-long (keyOf z) 0 (headsOf z) (t .moves) n r in omega arith;
       chained = chained (keyOf z) 0 (headsOf z) (t .moves) r (λ i h. ap (λ (j : ℕ). getD r j 0) (zero-add i) ∙ none i (omega arith)) n long (λ j h. let k = d .inside j h in omega arith);
     })
-
--- Only sizes and moves play a part in it.
-pub indexed-same : {z : Sizes} {labels equations moves others room : List ℕ} (words : List ℕ) → Indexed (tableIn z labels equations moves) room → Indexed (tableIn z others words moves) room
-indexed-same words i = record { long = i .long; chained = i .chained }

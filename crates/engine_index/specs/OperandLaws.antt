@@ -11,6 +11,7 @@ use native.Mathlib.Omega.{arith}
 use lib.ListN.{length, getD, set, length-set}
 use lib.Seq.{getD-set-same, getD-set-other}
 use lib.Dec.{eqb, ltb, leb}
+use Rattle.lists.specs.Sums.{bit-le}
 use Rattle.lists.specs.Lists.{bit}
 use Rattle.lists.specs.TableLaws.{listed-is}
 use Rattle.lists.specs.Tests.{tell, not-not, and-is, and-left, and-true, eqb-in, eqb-out, eqb-no, ltb-is, ltb-no, leb-is}
@@ -23,10 +24,6 @@ use Rattle.engine_table.specs.Limits.{limits}
 use Rattle.engine_table.specs.GivesWords.{join-names, step-names}
 use Rattle.engine_index.specs.Chains.{lastTo}
 use Rattle.engine_index.specs.Operands.{operandAt, ofSlot, isSlot, nameAt, namesOf, lastNamed, isStep, easyBit, slotWord, linkOf, wordBefore, putFirst, Blank, NamedUpTo, Naming, Slot}
-
-pub bit-low : (b : Bool) → bit b ≤ 1
-bit-low true = omega arith
-bit-low false = omega arith
 
 module _ (equations : List ℕ) where
   -- The name of a slot, in the list of all.
@@ -218,7 +215,7 @@ module _ (z : Sizes) (equations : List ℕ) where
         let f = n .few in
         let row : y * z .states ≤ most-variables * most-states = mul-le-mul {n₂ = most-variables} {m₂ = most-states} (omega arith) (n .states) in
         let heads = heads-low (isStep (unword (getD equations y 0))) refl in
-        let b = bit-low (isStep (unword (getD equations y 0))) in
+        let b = bit-le (isStep (unword (getD equations y 0))) in
         omega arith
       where
         heads-low : (b : Bool) → isStep (unword (getD equations y 0)) ≡ b → cond b (unword (getD equations y 0) .first * z .states) 0 ≤ most-actions * most-states

@@ -5,12 +5,13 @@ use Prim.Native.Nat.{ℕ, _+_, _*_, _/_, _%_, _≤_, _<_}
 use native.Mathlib.Nat.{mul-le-mul}
 use native.Mathlib.Omega.{arith}
 use lib.Dec.{eqb}
+use Rattle.lists.specs.Sums.{bit-le}
+use Rattle.lists.specs.TableLaws.{bit-back}
 use Rattle.lists.specs.Lists.{bit}
 use Rattle.rules.specs.Limits.{most-states, most-variables}
 use Rattle.rules.specs.declared.Equation.{Equation}
 use Rattle.rules.specs.declared.Sizes.{Sizes}
 use Rattle.engine_index.specs.Operands.{isStep, easyBit, slotWord, linkIn, stepIn, easyIn, waitsIn, ownerIn, rowIn, headsIn}
-use Rattle.engine_index.specs.OperandLaws.{bit-low}
 
 -- The parts of a word.
 pub record Parts (o link : ℕ) (step : Bool) (easy y row heads : ℕ) : Type 0 where
@@ -21,10 +22,6 @@ pub record Parts (o link : ℕ) (step : Bool) (easy y row heads : ℕ) : Type 0 
   pub is-owner : ownerIn o ≡ y
   pub is-row : rowIn o ≡ row
   pub is-heads : headsIn o ≡ heads
-
-bit-is : (b : Bool) → eqb (bit b) 1 ≡ b
-bit-is true = refl
-bit-is false = refl
 
 -- The two lowest bytes, and what stands above them.
 lower : (o link step easy high : ℕ) → link < 256 → step ≤ 1 → easy ≤ 1 → o ≡ link + 256 * (1 + 2 * step + 4 * easy) + 65536 * high
@@ -56,5 +53,5 @@ pub slot-parts : (z : Sizes) (e : Equation) (y link : ℕ) → z .states ≤ mos
 unfolding slotWord
 slot-parts z e y link low hy hl =
     let row : y * z .states ≤ 64 * most-states = mul-le-mul {n₂ = 64} {m₂ = most-states} (omega arith) low in
-    subst (λ (b : Bool). Parts (slotWord z e y link) link b (easyBit e) y (y * z .states) (cond (isStep e) (e .first * z .states) 0)) (bit-is (isStep e))
-    (parts (slotWord z e y link) link (bit (isStep e)) (easyBit e) y (y * z .states) (cond (isStep e) (e .first * z .states) 0) hl (bit-low (isStep e)) (omega arith) hy (omega arith) refl)
+    subst (λ (b : Bool). Parts (slotWord z e y link) link b (easyBit e) y (y * z .states) (cond (isStep e) (e .first * z .states) 0)) (bit-back (isStep e))
+    (parts (slotWord z e y link) link (bit (isStep e)) (easyBit e) y (y * z .states) (cond (isStep e) (e .first * z .states) 0) hl (bit-le (isStep e)) (omega arith) hy (omega arith) refl)

@@ -6,6 +6,7 @@ use Prim.Native.Nat.{ℕ, zero, suc, _+_, _-_, _*_, _≤_, _<_}
 use native.Mathlib.Omega.{arith}
 use lib.ListN.{length, getD, length-map}
 use lib.Dec.{eqb}
+use Rattle.lists.specs.Tests.{is-bit}
 use Rattle.lists.specs.Lists.{bit, is}
 use Rattle.systems.specs.machine.Machine.{asks}
 use Rattle.systems.specs.lists.ListMachine.{valOf, marksIn, Job}
@@ -21,7 +22,7 @@ use Rattle.engine_table.specs.Table.{Table, modelOf, Drawn, wordAt, ownIn, pair
 use Rattle.engine_rows.specs.Rooms.{Bits, Packed, Tells, Told}
 use Rattle.engine_phase.specs.Course.{On, on-vals, on-bits, on-marks, on-small, on-told, on-hits}
 use Rattle.engine_phase.specs.Phase.{Somewhere, Leads, jobIn, RowLeft, row-none, leads-row}
-use Rattle.engine_phase.specs.PutRow.{turnsFrom, turnsIn, is-byte, hits-same, row-same}
+use Rattle.engine_phase.specs.PutRow.{turnsFrom, turnsIn, hits-same, row-same}
 
 -- The byte of the other value of a kind.
 pub other-byte : (kind : ℕ) → kind ≤ 1 → 1 - kind ≡ bit (not (eqb kind 1))
@@ -89,7 +90,7 @@ module _ {t : Table} (dr : Drawn t) (cs : List Change) (i : ℕ) (ph : Bool) (lo
       look-tests : (s : ℕ) → s < t .sizes .states → turnsIn values from bad (y * t .sizes .states) (y * t .sizes .states + s) ≡ test (y * t .sizes .states + s)
       unfolding turnsIn
       look-tests s h =
-          ap₂ _&&_ (ap (eqb (getD values (y * t .sizes .states + s) 0)) is-from ∙ sym (is-byte (turnsFrom ph (ownIn t y)) (getD values (y * t .sizes .states + s) 0) (look-bits (y * t .sizes .states + s))))
+          ap₂ _&&_ (ap (eqb (getD values (y * t .sizes .states + s) 0)) is-from ∙ sym (is-bit (turnsFrom ph (ownIn t y)) (getD values (y * t .sizes .states + s) 0) (look-bits (y * t .sizes .states + s))))
           (ap (λ (k : ℕ). eqb (getD bad k 0) 1) (let k : y * t .sizes .states + s - y * t .sizes .states ≡ s = omega arith in k))
           ∙ sym (tells .yes e s h)
 

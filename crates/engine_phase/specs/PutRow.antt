@@ -33,13 +33,6 @@ turnsFrom false own = not own
 unfoldable pub turnsIn : List ℕ → ℕ → List ℕ → ℕ → ℕ → Bool
 turnsIn values from bad p q = eqb (getD values q 0) from && eqb (getD bad (q - p) 0) 1
 
--- A value is b where its byte is the byte of b.
-pub is-byte : (b : Bool) (v : ℕ) → v ≤ 1 → is b (eqb v 1) ≡ eqb v (bit b)
-is-byte true v h = refl
-is-byte false zero h = refl
-is-byte false (suc zero) h = refl
-is-byte false (suc (suc v)) h = absurd (omega arith)
-
 -- Tests that agree on a row leave the same.
 module _ (f g : ℕ → Bool) (p : ℕ) where
   pub hits-same : (n : ℕ) → ((s : ℕ) → s < n → f (p + s) ≡ g (p + s)) → hits f p n ≡ hits g p n

@@ -23,7 +23,7 @@ ghost use Rattle.engine_index.specs.Indexed.{Indexed};
 ghost use Rattle.engine_index.specs.Operands.{Named};
 ghost use Rattle.engine_rows.specs.Rooms.{Bits, Packed, Tells, Told};
 ghost use Rattle.engine_turn.specs.Scene.{sketch};
-ghost use Rattle.engine_turn.specs.Turns.{roundOf};
+ghost use Rattle.engine_turn.specs.Turns.{roundAt};
 ghost use Rattle.engine_phase.specs.Phase.{RowLeft, Somewhere, Leads, jobIn, blockAfter};
 ghost use Rattle.engine_phase.specs.PutRow.{turnsIn, turnsFrom};
 ghost use Rattle.engine_phase.specs.NextRow.{NextOf};
@@ -248,10 +248,10 @@ fn turn_round(
     from: u8,
 ) -> Spread
     requires { ⌜ Indexed (sketch sizes (now equations) (now moves)) (now index) × Named (sketch sizes (now equations) (now moves)) (now operand) ⌝ }
-    requires { ⌜ Waiting sizes (now equations) (now moves) settling from front (roundOf (now values) (now marks) (now queue) (at .tail) (at .visits)) ⌝ }
+    requires { ⌜ Waiting sizes (now equations) (now moves) settling from front (roundAt (now values) (now marks) (now queue) at) ⌝ }
     ensures { λ r. ⌜ Rounded sizes (now (equations .entry)) (now (moves .entry)) settling from front (at .tail)
-        (roundOf (now (values .entry)) (now (marks .entry)) (now (queue .entry)) (at .tail) (at .visits))
-        (roundOf (now (values .exit)) (now (marks .exit)) (now (queue .exit)) (r .tail) (r .visits)) ⌝ }
+        (roundAt (now (values .entry)) (now (marks .entry)) (now (queue .entry)) at)
+        (roundAt (now (values .exit)) (now (marks .exit)) (now (queue .exit)) r) ⌝ }
 {
     let end = at.tail;
     let mut r = at;

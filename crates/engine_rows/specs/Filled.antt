@@ -8,6 +8,7 @@ use native.Mathlib.Omega.{arith}
 use lib.ListN.{length, getD, set, length-set, replicate, length-replicate, getD-replicate, List·getD-eq-default}
 use mir.Val.{boolByte}
 use lib.Seq.{getD-set-same, getD-set-other, ext-getD}
+use Rattle.lists.specs.Ranges.{some-no}
 use Rattle.words.specs.WordLaws.{byte-bit}
 use Rattle.lists.specs.Lists.{bit, listed, someBelow}
 use Rattle.lists.specs.TableLaws.{listed-is, listed-length}
@@ -70,22 +71,12 @@ listed-bits n g p =
       | no h ↦ let e = List·getD-eq-default l 0 {n = p} (omega arith) in omega arith
     ]
 
--- Where none passes the test, each does not.
-pub none-below : (n : ℕ) (g : ℕ → Bool) → someBelow n g ≡ false → (s : ℕ) → s < n → g s ≡ false
-none-below zero g e s h = absurd (omega arith)
-none-below (suc n) g e s h =
-    let o = or-no (someBelow n g) (g n) .0 e in
-    elim (ℕ-discrete s n) [
-      | yes q ↦ ap g q ∙ o .1
-      | no q ↦ none-below n g (o .0) s (omega arith)
-    ]
-
 -- And then each bit is 0.
 pub none-listed : (n : ℕ) (g : ℕ → Bool) → someBelow n g ≡ false → (s : ℕ) → getD (listed 0 n (λ s. bit (g s))) s 0 ≡ 0
 none-listed n g e s =
     let l = listed 0 n (λ s. bit (g s)) in
     let k = listed-length 0 n (λ s. bit (g s)) in
     elim (decLt s n) [
-      | yes h ↦ listed-is n (λ s. bit (g s)) s h ∙ ap bit (none-below n g e s h)
+      | yes h ↦ listed-is n (λ s. bit (g s)) s h ∙ ap bit (some-no n g e s h)
       | no h ↦ List·getD-eq-default l 0 {n = s} (omega arith)
     ]

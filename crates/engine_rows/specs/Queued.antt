@@ -24,6 +24,7 @@ use Rattle.rules.specs.declared.Sizes.{Sizes}
 use Rattle.laws.specs.model.ModelLeaners.{map-append}
 use Rattle.words.specs.Words.{waitingOf, variableIn, stateIn}
 use Rattle.engine_table.specs.Table.{pairIn, waiter}
+use Rattle.engine_table.specs.EquationWords.{waiter-at}
 use Rattle.engine_rows.specs.Rooms.{Packed}
 use Rattle.engine_rows.specs.RowLoops.{markAt, Queued}
 
@@ -138,13 +139,6 @@ queued-room y g before tail p a q b n top queue eq en v room =
     let l = v .long in
     omega arith
 
--- A waiting pair is the pair that it was made of.
-waits-as : (z : Sizes) (y s : ℕ) → s < 1024 → waiter z (waitingOf y s) ≡ pairIn z y s
-waits-as z y s h =
-    let a : variableIn (waitingOf y s) ≡ y = omega arith in
-    let b : stateIn (waitingOf y s) ≡ s = omega arith in
-    ap (λ (x : ℕ). x * z .states + stateIn (waitingOf y s)) a ∙ ap (λ (x : ℕ). y * z .states + x) b
-
 -- The states of a row that wait stand for the pairs of the row.
 pub waiting-hits : (z : Sizes) (y : ℕ) (f g : ℕ → Bool) (n : ℕ) → n ≤ 1024 → ((s : ℕ) → s < n → g s ≡ f (y * z .states + s))
     → map (waiter z) (map (waitingOf y) (hits g 0 n)) ≡ hits f (y * z .states) n
@@ -156,7 +150,7 @@ waiting-hits z y f g (suc n) l e =
           ap (λ (k : List ℕ). map (waiter z) (map (waitingOf y) k)) (hits-yes g 0 n (ap g (zero-add n) ∙ t) ∙ ap (λ (k : ℕ). hits g 0 n ++ (k ∷ [])) (zero-add n))
           ∙ ap (map (waiter z)) (map-append (waitingOf y) (hits g 0 n) (n ∷ [])) ∙ map-append (waiter z) (map (waitingOf y) (hits g 0 n)) (waitingOf y n ∷ [])
           ∙ ap (λ (k : List ℕ). k ++ (waiter z (waitingOf y n) ∷ [])) ih
-          ∙ ap (λ (k : ℕ). hits f (y * z .states) n ++ (k ∷ [])) (waits-as z y n (omega arith))
+          ∙ ap (λ (k : ℕ). hits f (y * z .states) n ++ (k ∷ [])) (waiter-at z y n (omega arith))
           ∙ sym (hits-yes f (y * z .states) n (sym (e n (omega arith)) ∙ t))
       | inr t ↦
           ap (λ (k : List ℕ). map (waiter z) (map (waitingOf y) k)) (hits-no g 0 n (ap g (zero-add n) ∙ t)) ∙ ih
@@ -281,13 +275,3 @@ between-front l (suc k) h =
     let one : k + 1 ≡ suc k = add-one k in
     ap (between l 0) (sym one) ∙ between-split l k 1 0 ∙ ap (λ (i : ℕ). between l 0 k ++ (getD l i 0 ∷ [])) (zero-add k)
     ∙ ap (λ (m : List ℕ). m ++ (getD l k 0 ∷ [])) (between-front l k (omega arith)) ∙ sym (take-suc l k 0 h)
-
--- The same for what waits from the front on, as the machine says it.
-pub row-between : (z : Sizes) (y : ℕ) (f g : ℕ → Bool) (n tail r : ℕ) (before queue : List ℕ) → n ≤ 1024 → ((s : ℕ) → s < n → g s ≡ f (y * z .states + s))
-    → tail ≤ length before → r ≤ length queue → take r queue ≡ take tail before ++ map (waitingOf y) (hits g 0 n)
-    → between (map (waiter z) queue) 0 r ≡ between (map (waiter z) before) 0 tail ++ hits f (y * z .states) n
-row-between z y f g n tail r before queue l e ht hr front =
-    let a = length-map before (waiter z) in
-    let b = length-map queue (waiter z) in
-    between-front (map (waiter z) queue) r (omega arith) ∙ row-waits z y f g n tail r before queue l e front
-    ∙ ap (λ (m : List ℕ). m ++ hits f (y * z .states) n) (sym (between-front (map (waiter z) before) tail (omega arith)))

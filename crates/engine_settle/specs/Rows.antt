@@ -22,11 +22,6 @@ use Rattle.engine_settle.specs.Told.{told, oneHas, leadsOne, Asked, Fail
 use Rattle.engine_settle.specs.Sources.{Linked, linked}
 use Rattle.engine_settle.specs.Settles.{tells-fails, tells-none, tells-constant, fails-constant, label-names, fails-label, fails-join, fails-step}
 
--- A truth value as a byte is at most 1.
-pub byte-small : (x : Bool) → boolByte x ≤ 1
-byte-small true = omega arith
-byte-small false = omega arith
-
 -- What decides an equation with the operator o makes it give this; and this is what the places of a row become then.
 abbrev pub decides : ℕ → ℕ
 decides o = 1 - o % 2

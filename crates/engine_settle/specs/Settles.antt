@@ -9,6 +9,7 @@ use lib.ListN.{length, getD, take, drop, replicate, length-replicate, getD-repli
 use lib.Seq.{ext-getD}
 use lib.Dec.{eqb}
 use mir.Val.{boolByte}
+use Rattle.lists.specs.Ranges.{some-no}
 use Rattle.lists.specs.Lists.{is, any, bit, listed, someBelow}
 use Rattle.lists.specs.TableLaws.{listed-is, listed-length}
 use Rattle.lists.specs.Tests.{tests, and-is, and-no, ltb-is, ltb-no}
@@ -24,7 +25,6 @@ use Rattle.engine_table.specs.Limits.{move-inside}
 use Rattle.engine_table.specs.GivesWords.{two, operands-read, operator-below, targets-read, gives-constant, gives-proposition, gives-join, gives-step}
 use Rattle.engine_table.specs.AsksWords.{asks-settle}
 use Rattle.engine_rows.specs.Rooms.{Bits, Tells}
-use Rattle.engine_rows.specs.Filled.{none-below}
 use Rattle.engine_rows.specs.Queued.{part-at}
 use Rattle.engine_settle.specs.Told.{told, oneHas, leadsOne, SetWhere, Fails, settleTest}
 use Rattle.engine_settle.specs.Targets.{any-same}
@@ -147,7 +147,7 @@ module _ {t : Table} (y : ℕ) (values : List ℕ) where
           let p = pairIn (t .sizes) y s in
           let off = ap (λ (x : ℕ). is (eqb x 1) (valueAt values p)) (sym ek) ∙ sym (value-is (getD values p 0) k (small p) hk)
           ∙ ap (λ (x : ℕ). eqb x k) (sym (ap (λ (q : List ℕ). getD q s 0) er ∙ part-at (y * t .sizes .states) (t .sizes .states) values s i))
-          ∙ none-below (t .sizes .states) (λ s. eqb (getD row s 0) k) none s i in
+          ∙ some-no (t .sizes .states) (λ s. eqb (getD row s 0) k) none s i in
           asks-settle d y s h i values ∙ ap (λ (b : Bool). b && is (not (ownIn t y)) (gives (modelOf t) (valueAt values) p)) off;
     }
 

@@ -11,11 +11,11 @@ use native.Mathlib.Omega.{arith}
 use lib.ListN.{length, getD}
 use lib.Arith.{digits-div, digits-mod}
 use lib.Dec.{eqb, ltb}
+use Rattle.lists.specs.Ranges.{some-no}
 use Rattle.lists.specs.Lists.{any, someBelow}
 use Rattle.lists.specs.Tests.{tell, no-way, and-left, and-right, and-no, or-no, eqb-no, eqb-out, eqb-in, ltb-is, ltb-no, ltb-in}
 use Rattle.rules.specs.Moves.{source, action, target}
 use Rattle.rules.specs.Values.{state, own}
-use Rattle.engine_rows.specs.Filled.{none-below}
 use Rattle.engine_settle.specs.Told.{leadsOne, SetWhere}
 use Rattle.engine_settle.specs.Sources.{keyBy, comes, oneComes}
 
@@ -56,7 +56,7 @@ pub none-leads : (moves : List ℕ) (a : ℕ) (row : List ℕ) (c : ℕ) → ((j
 none-leads moves a row c inside none s =
     any-none (λ q. own (state s) (record { 0 = a }) q && eqb (getD row (target q) 0) c) moves (λ j k.
     let q = getD moves j 0 in
-    and-no (own (state s) (record { 0 = a }) q) (none-below (length row) (λ t. eqb (getD row t 0) c) none (target q) (inside j k)))
+    and-no (own (state s) (record { 0 = a }) q) (some-no (length row) (λ t. eqb (getD row t 0) c) none (target q) (inside j k)))
 
 -- Two numbers of an action and a target are the same where both are.
 key-is : (n a t b u : ℕ) → u < n → t < n → eqb (b * n + u) (a * n + t) ≡ (eqb b a && eqb u t)

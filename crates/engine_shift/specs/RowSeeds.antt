@@ -6,6 +6,7 @@ use Prim.Native.Nat.{ℕ, _+_, _*_, _/_, _<_}
 use native.Mathlib.Omega.{arith}
 use lib.ListN.{length, getD, replicate, length-replicate}
 use lib.Dec.{eqb, ltb}
+use Rattle.lists.specs.Ranges.{some-no}
 use Rattle.lists.specs.Lists.{is, any, all, someBelow}
 use Rattle.lists.specs.Tests.{or-no, and-no, and-is, ltb-is}
 use Rattle.lists.specs.Entries.{zeros-at}
@@ -14,7 +15,6 @@ use Rattle.rules.specs.Model.{movesOk}
 use Rattle.rules.specs.Calls.{valueAt}
 use Rattle.rules.specs.declared.Sizes.{Sizes}
 use Rattle.engine_rows.specs.Rooms.{Bits, Tells}
-use Rattle.engine_rows.specs.Filled.{none-below}
 use Rattle.engine_shift.specs.Anys.{targets-in}
 use Rattle.engine_shift.specs.Adds.{Adds, zeros-bits}
 use Rattle.engine_shift.specs.Seeds.{oddAt, goneTo, wasNot, ofKind, touches, touchesAt, earlierIn, leadsGone, joinSeeds, stepSeeds, Shows}
@@ -81,7 +81,7 @@ module _ (z : Sizes) (equations values marks : List ℕ) (i k : ℕ) where
   may-once x s h =
       let odds : ℕ → Bool = λ s. oddAt marks (x * z .states + s) in
       asked-once (earlierIn equations x i) (someBelow (z .states) odds) (goneTo values marks k (x * z .states + s))
-      (λ e. ap (λ (c : Bool). c && eqb (getD values (x * z .states + s) 0) k) (none-below (z .states) odds e s h))
+      (λ e. ap (λ (c : Bool). c && eqb (getD values (x * z .states + s) 0) k) (some-no (z .states) odds e s h))
 
   -- An "or" or an "and" of the variables x and y.
   pub join-shown : (x y s : ℕ) (one two : Bool) → one ≡ mayIn z equations marks x i → two ≡ mayIn z equations marks y i → s < z .states
@@ -114,7 +114,7 @@ module _ (z : Sizes) (equations values marks : List ℕ) (i k : ℕ) where
         every (q ∷ l) f =
             let g = simp and-is at f in
             ap (λ (c : Bool). ((eqb (source q) s && eqb (action q) a) && (c && eqb (getD values (x * z .states + target q) 0) k)) || any (λ q. (eqb (source q) s && eqb (action q) a) && goneTo values marks k (x * z .states + target q)) l)
-            (none-below (z .states) (λ u. oddAt marks (x * z .states + u)) e (target q) (ltb-is (target q) (z .states) .0 (g .0)))
+            (some-no (z .states) (λ u. oddAt marks (x * z .states + u)) e (target q) (ltb-is (target q) (z .states) .0 (g .0)))
             ∙ ap (λ (c : Bool). c || any (λ q. (eqb (source q) s && eqb (action q) a) && goneTo values marks k (x * z .states + target q)) l) (and-no (eqb (source q) s && eqb (action q) a) refl)
             ∙ every l (g .1)
 

@@ -109,7 +109,3 @@ module _ {z : Sizes} {moves index : List ℕ} (m : MovesIn z moves index) where
   pub source-in : (j : ℕ) → j < length moves → source (getD moves j 0) < z .states
   unfolding moveOk
   source-in j h = let f = simp tests at (move-at z 0 moves j (m .ok) h) in omega arith
-
--- The place of an action and a target among the heads.
-pub key-in : (z : Sizes) (a t : ℕ) → a < z .actions → t < z .states → a * z .states + t < headsOf z
-key-in z a t h l = let k = mul-le-mul-right (z .states) h in omega arith

@@ -1,5 +1,5 @@
 -- The equation, the block and the kind of a pair are what the words in the rooms say. Assumes nothing.
-use mathlib.Core.Path.{_≡_, ap, _∙_}
+use mathlib.Core.Path.{_≡_, refl, ap, _∙_}
 use mathlib.Core.Bool.{Bool}
 use mathlib.Core.List.{List}
 use Prim.Native.Nat.{ℕ, _+_, _*_, _/_, _%_, _≤_, _<_}
@@ -14,9 +14,16 @@ use Rattle.rules.specs.Rooms.{pairsOf}
 use Rattle.rules.specs.Session.{unword}
 use Rattle.rules.specs.Values.{variable, blockOf, greatestIn, greatest}
 use Rattle.rules.specs.Values as values
+use Rattle.rules.specs.declared.Sizes.{Sizes}
+use Rattle.words.specs.Words.{waitingOf}
+use Rattle.words.specs.WordLaws.{variable-waiting, state-waiting}
 use Rattle.laws.specs.chains.OneKind.{greatest-is}
 use Rattle.laws.specs.model.ModelSystem.{frame, block-at, Sound, sound}
-use Rattle.engine_table.specs.Table.{Table, modelOf, Drawn, wordAt, ownIn, pairIn}
+use Rattle.engine_table.specs.Table.{Table, modelOf, Drawn, wordAt, ownIn, pairIn, waiter}
+
+-- A number of the queue stands for the pair that it was made of.
+pub waiter-at : (z : Sizes) (y s : ℕ) → s < 1024 → waiter z (waitingOf y s) ≡ pairIn z y s
+waiter-at z y s h = rw (variable-waiting y s h, state-waiting y s h) refl
 
 module _ {t : Table} (d : Drawn t) where
   -- The equation of a variable is what its word says.

@@ -3,7 +3,6 @@ pub mod EquationWords
 pub mod Limits
 pub mod Part
 pub mod SliceWalks
-pub mod Bits
 pub mod GivesWords
 pub mod AsksWords
 pub mod Lent

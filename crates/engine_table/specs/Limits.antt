@@ -51,13 +51,3 @@ module _ {t : Table} (d : Drawn t) where
       let o = move-at (t .sizes) 0 (t .moves) j (simp and-is at (d .model) .0 .1) h in
       let k = simp tests at o in
       (omega arith, (omega arith, omega arith))
-
-  -- The block in a variable's word is one of at most as many as there are variables.
-  pub block-few : (x : ℕ) → x < t .sizes .variables → wordAt t x .block < most-variables
-  block-few x h =
-      let m = modelOf t in
-      let c = drawn-sound d .names .count in
-      let b = variable-block (m .equations) x (omega arith) in
-      let e = ap (λ (f : Equation). f .block) (formula-word d x) in
-      let l = blocks-few m (d .model) in
-      omega arith

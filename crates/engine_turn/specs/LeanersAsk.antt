@@ -8,7 +8,7 @@ use native.Mathlib.Omega.{arith}
 use lib.ListN.{getD}
 use lib.Dec.{eqb, ltb}
 use Rattle.lists.specs.Lists.{is, bit, any}
-use Rattle.lists.specs.Tests.{_∈_, tell, not-not, and-true, eqb-out, eqb-no, ltb-is, ltb-no}
+use Rattle.lists.specs.Tests.{_∈_, tell, not-not, and-true, eqb-out, eqb-no, ltb-is, ltb-no, any-same, is-bit}
 use Rattle.systems.specs.machine.Machine.{own}
 use Rattle.systems.specs.machine.HardPairs.{hard-asks}
 use Rattle.rules.specs.Moves.{target}
@@ -27,13 +27,6 @@ use Rattle.engine_index.specs.Operands.{easyBit}
 use Rattle.engine_turn.specs.Scene.{Scene, sceneOf, hasFrom, fails, asksFor}
 use Rattle.engine_turn.specs.VisitLaws.{fails-join, fails-step}
 use Rattle.engine_turn.specs.Turns.{askOf}
-
--- A bit is that of a truth value where it is that truth value.
-is-bit : (b : Bool) (v : ℕ) → v ≤ 1 → is b (eqb v 1) ≡ eqb v (bit b)
-is-bit true v h = refl
-is-bit false zero h = refl
-is-bit false (suc zero) h = refl
-is-bit false (suc (suc v)) h = absurd (omega arith)
 
 -- The operators from 4 on say in their last bit whether they are an "and".
 kind-by : (labels : List ℕ) (s : State) (a b o : ℕ) → 4 ≤ o → o < 8 → kindBy labels s (getD (terms a b) o (constant false)) ≡ eqb (o % 2) 1
@@ -79,10 +72,6 @@ neither false false w = refl
 none-of : (b v : Bool) → is (not b) (is (not (not b)) v) ≡ not v
 none-of true v = refl
 none-of false v = refl
-
-any-same : (f g : ℕ → Bool) (l : List ℕ) → ((q : ℕ) → f q ≡ g q) → any f l ≡ any g l
-any-same f g [] e = refl
-any-same f g (q ∷ l) e = ap₂ {C = Bool} (λ (a b : Bool). a || b) (e q) (any-same f g l e)
 
 module _ {t : Table} (d : Drawn t) (values : List ℕ) (bits : Bits values) (y s : ℕ) (hy : y < t .sizes .variables) (l : s < t .sizes .states)
     (uses : 4 ≤ wordAt t y .operator) where

@@ -19,20 +19,13 @@ use Rattle.rules.specs.declared.Sizes.{Sizes}
 use Rattle.laws.specs.model.ModelLeaners.{sources, leanersVia, leanersOn, leanersTo, leanersOf, map-append}
 use Rattle.words.specs.Words.{waitingOf, variableIn, stateIn}
 use Rattle.engine_table.specs.Table.{Table, modelOf, Drawn, wordAt, pairIn, waiter}
-use Rattle.engine_table.specs.EquationWords.{formula-word, variable-of, state-of}
+use Rattle.engine_table.specs.EquationWords.{formula-word, variable-of, state-of, waiter-at}
 use Rattle.engine_table.specs.Limits.{limits, move-inside}
 use Rattle.engine_table.specs.GivesWords.{operator-below}
 use Rattle.engine_index.specs.Indexed.{keyOf}
 use Rattle.engine_index.specs.Operands.{nameAt, namesOf}
 use Rattle.engine_index.specs.OperandLaws.{name-at}
 use Rattle.engine_turn.specs.Scene.{along, sourceOf, sourcesIn, pairsBy, leanersIn}
-
--- A number of the queue stands for its pair.
-pub waiter-at : (z : Sizes) (y s : ℕ) → s < 1024 → waiter z (waitingOf y s) ≡ pairIn z y s
-waiter-at z y s h =
-    let d : variableIn (waitingOf y s) ≡ y = omega arith in
-    let m : stateIn (waitingOf y s) ≡ s = omega arith in
-    rw (d, m) refl
 
 -- Two actions and two states are the same where their places among the heads are.
 key-same : (n a b s t : ℕ) → s < n → t < n → eqb (a * n + s) (b * n + t) ≡ (eqb a b && eqb s t)

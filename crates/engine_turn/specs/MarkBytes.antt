@@ -8,11 +8,6 @@ use mir.Val.{boolByte}
 use Rattle.lists.specs.Tests.{ltb-is, ltb-no, eqb-no}
 use Rattle.systems.specs.machine.Machine.{free, nextMark}
 
--- The byte of the phase is 0 or 1.
-pub phase-small : (ph : Bool) → boolByte ph ≤ 1
-phase-small true = omega arith
-phase-small false = omega arith
-
 -- A pair is free where its mark is below one more than the byte of the phase.
 pub free-byte : (ph : Bool) (m : ℕ) → ltb m (1 + boolByte ph) ≡ free ph m
 free-byte true m = refl

@@ -20,7 +20,7 @@ use Rattle.engine_index.specs.Indexed.{headsOf}
 use Rattle.engine_index.specs.MovesIndexed.{key-inside}
 use Rattle.engine_index.specs.ChainWalks.{last-le}
 use Rattle.engine_index.specs.Operands.{ofSlot, nameAt, namesOf, lastNamed, isStep, easyBit, slotWord, linkIn, stepIn, easyIn, ownerIn, headsIn, linkOf, wordBefore, Named}
-use Rattle.engine_index.specs.OperandLaws.{bit-low, slot-uses, drawn-names}
+use Rattle.engine_index.specs.OperandLaws.{slot-uses, drawn-names}
 use Rattle.engine_index.specs.WordParts.{Parts, slot-parts}
 use Rattle.engine_turn.specs.Scene.{Scene, Standing, sketch, equationOf, sourcesIn, pairsBy, Leaner, Along, Leans, HeadOf, OperandOf}
 use Rattle.engine_turn.specs.Inside.{step-inside}

@@ -18,6 +18,7 @@ use Rattle.engine_table.specs.Table.{Table, tableIn, Drawn, pairIn, waiter}
 use Rattle.engine_table.specs.Part.{ownMoves}
 use Rattle.engine_index.specs.Indexed.{keyOf}
 use Rattle.engine_index.specs.Operands.{isStep, easyBit, namesOf, slotWord, linkIn, waitsIn, ownerIn, rowIn}
+use Rattle.engine_turn.specs.declared.Spread.{Spread}
 
 -- A table without labels.
 abbrev pub sketch : Sizes → List ℕ → List ℕ → Table
@@ -71,6 +72,10 @@ pub record Line : Type 0 where
 
 abbrev pub lineOf : List ℕ → List ℕ → ℕ → ℕ → Line
 lineOf marks queue tail visits = record { marks = marks; queue = queue; tail = tail; visits = visits }
+
+-- The same, where a spread says how far the queue goes and how many visits there were.
+abbrev pub lineAt : List ℕ → List ℕ → Spread → Line
+lineAt marks queue at = lineOf marks queue (at .tail) (at .visits)
 
 -- The pair waits, and does not.
 abbrev pub waited : Sizes → Bool → ℕ → Line → Line
@@ -157,6 +162,9 @@ pub record OperandOf (c : Scene) (o : ℕ) : Type 0 where
 -- A run of visits of the pairs in a list stays inside numbers of 32 bits.
 abbrev pub Bounded : ℕ → ℕ → List ℕ → Type 0
 Bounded tail visits l = (tail + length l < 4294967296) × (visits + length l < 4294967296)
+
+abbrev pub BoundedAt : Spread → List ℕ → Type 0
+BoundedAt at l = Bounded (at .tail) (at .visits) l
 
 -- The queue has places for all that come to wait where the pairs of a list are visited.
 abbrev pub Room : Scene → Bool → List ℕ → Line → Type 0

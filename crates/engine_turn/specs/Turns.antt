@@ -15,6 +15,7 @@ use Rattle.laws.specs.model.ModelSystem.{frame}
 use Rattle.laws.specs.model.ModelLeaners.{leanersOf}
 use Rattle.engine_table.specs.Table.{Table, tableIn, modelOf, Drawn, ownIn, waiter}
 use Rattle.engine_rows.specs.Rooms.{Packed, pileIn}
+use Rattle.engine_turn.specs.declared.Spread.{Spread}
 
 -- The marks and the queue, and how many visits there were.
 pub record Visit : Type 0 where
@@ -48,6 +49,9 @@ pub record Round : Type 0 where
 
 abbrev pub roundOf : List ℕ → List ℕ → List ℕ → ℕ → ℕ → Round
 roundOf values marks queue tail visits = record { values = values; marks = marks; queue = queue; tail = tail; visits = visits }
+
+abbrev pub roundAt : List ℕ → List ℕ → List ℕ → Spread → Round
+roundAt values marks queue at = roundOf values marks queue (at .tail) (at .visits)
 
 -- The visit that a round stands for, where the queue is read from a place on.
 abbrev pub visitIn : Sizes → ℕ → Round → Visit

@@ -16,8 +16,8 @@ ghost use Rattle.engine_table.specs.Table.{modelOf, waiter};
 ghost use Rattle.engine_rows.specs.Rooms.{Bits, Packed};
 ghost use Rattle.engine_index.specs.Indexed.{headsOf, Indexed};
 ghost use Rattle.engine_index.specs.Operands.{ownerIn, Named};
-ghost use Rattle.engine_turn.specs.Turns.{Sketched, FromValue, roundOf, RoomFor, Turned};
-ghost use Rattle.engine_turn.specs.Scene.{sceneOf, Standing, fails, lineOf, visitAll, Leaner, Along, Leans, HeadOf, OperandOf, Bounded, Room, sourcesIn, pairsBy, leanersIn, sketch};
+ghost use Rattle.engine_turn.specs.Turns.{Sketched, FromValue, roundAt, RoomFor, Turned};
+ghost use Rattle.engine_turn.specs.Scene.{sceneOf, Standing, fails, lineAt, visitAll, Leaner, Along, Leans, HeadOf, OperandOf, BoundedAt, Room, sourcesIn, pairsBy, leanersIn, sketch};
 
 // Where a run of visits stands: the end of the queue, and the number of visits so far.
 pub struct Spread {
@@ -127,10 +127,10 @@ fn visit(
     requires { ⌜ Leans (sceneOf sizes (now equations) (now moves) (now values) from) settling asks o × (s .0 < sizes .states) ⌝ }
     requires { ⌜ (length (now marks) ≡ pairsOf sizes) × ((at .tail < 4294967296) × (at .visits < 4294967296)) ⌝ }
     requires { ⌜ Along (sceneOf sizes (now equations) (now moves) (now values) from) step (ownerIn o) (s .0) j ⌝ }
-    requires { ⌜ Room (sceneOf sizes (now equations) (now moves) (now values) from) settling (waitingOf (ownerIn o) (s .0) ∷ []) (lineOf (now marks) (now queue) (at .tail) (at .visits)) ⌝ }
-    ensures { λ r. ⌜ lineOf (now (marks .exit)) (now (queue .exit)) (r .tail) (r .visits)
+    requires { ⌜ Room (sceneOf sizes (now equations) (now moves) (now values) from) settling (waitingOf (ownerIn o) (s .0) ∷ []) (lineAt (now marks) (now queue) at) ⌝ }
+    ensures { λ r. ⌜ lineAt (now (marks .exit)) (now (queue .exit)) r
         ≡ visitAll (sceneOf sizes (now (equations .entry)) (now (moves .entry)) (now (values .entry)) from) settling (waitingOf (ownerIn o) (s .0) ∷ [])
-        (lineOf (now (marks .entry)) (now (queue .entry)) (at .tail) (at .visits)) ⌝ }
+        (lineAt (now (marks .entry)) (now (queue .entry)) at) ⌝ }
 {
     let tail = at.tail;
     let count = at.visits + 1;
@@ -181,11 +181,11 @@ fn visit_sources(
     requires { ⌜ Standing (sceneOf sizes (now equations) (now moves) (now values) from) ⌝ }
     requires { ⌜ Indexed (sketch sizes (now equations) (now moves)) (now index) ⌝ }
     requires { ⌜ Leans (sceneOf sizes (now equations) (now moves) (now values) from) settling asks o × HeadOf (sceneOf sizes (now equations) (now moves) (now values) from) (ownerIn o) head ⌝ }
-    requires { ⌜ (head < headsOf sizes) × ((length (now marks) ≡ pairsOf sizes) × Bounded (at .tail) (at .visits) (sourcesIn sizes (now moves) (ownerIn o) head)) ⌝ }
-    requires { ⌜ Room (sceneOf sizes (now equations) (now moves) (now values) from) settling (sourcesIn sizes (now moves) (ownerIn o) head) (lineOf (now marks) (now queue) (at .tail) (at .visits)) ⌝ }
-    ensures { λ r. ⌜ lineOf (now (marks .exit)) (now (queue .exit)) (r .tail) (r .visits)
+    requires { ⌜ (head < headsOf sizes) × ((length (now marks) ≡ pairsOf sizes) × BoundedAt at (sourcesIn sizes (now moves) (ownerIn o) head)) ⌝ }
+    requires { ⌜ Room (sceneOf sizes (now equations) (now moves) (now values) from) settling (sourcesIn sizes (now moves) (ownerIn o) head) (lineAt (now marks) (now queue) at) ⌝ }
+    ensures { λ r. ⌜ lineAt (now (marks .exit)) (now (queue .exit)) r
         ≡ visitAll (sceneOf sizes (now (equations .entry)) (now (moves .entry)) (now (values .entry)) from) settling (sourcesIn sizes (now (moves .entry)) (ownerIn o) head)
-        (lineOf (now (marks .entry)) (now (queue .entry)) (at .tail) (at .visits)) ⌝ }
+        (lineAt (now (marks .entry)) (now (queue .entry)) at) ⌝ }
 {
     let links = engine_index::heads_of(sizes);
     let mut s = at;
@@ -232,11 +232,11 @@ fn visit_operand(
     requires { ⌜ Standing (sceneOf sizes (now equations) (now moves) (now values) from) ⌝ }
     requires { ⌜ Indexed (sketch sizes (now equations) (now moves)) (now index) ⌝ }
     requires { ⌜ OperandOf (sceneOf sizes (now equations) (now moves) (now values) from) o ⌝ }
-    requires { ⌜ (s .0 < sizes .states) × ((length (now marks) ≡ pairsOf sizes) × Bounded (at .tail) (at .visits) (pairsBy sizes (now equations) (now moves) (s .0) (ownerIn o))) ⌝ }
-    requires { ⌜ Room (sceneOf sizes (now equations) (now moves) (now values) from) settling (pairsBy sizes (now equations) (now moves) (s .0) (ownerIn o)) (lineOf (now marks) (now queue) (at .tail) (at .visits)) ⌝ }
-    ensures { λ r. ⌜ lineOf (now (marks .exit)) (now (queue .exit)) (r .tail) (r .visits)
+    requires { ⌜ (s .0 < sizes .states) × ((length (now marks) ≡ pairsOf sizes) × BoundedAt at (pairsBy sizes (now equations) (now moves) (s .0) (ownerIn o))) ⌝ }
+    requires { ⌜ Room (sceneOf sizes (now equations) (now moves) (now values) from) settling (pairsBy sizes (now equations) (now moves) (s .0) (ownerIn o)) (lineAt (now marks) (now queue) at) ⌝ }
+    ensures { λ r. ⌜ lineAt (now (marks .exit)) (now (queue .exit)) r
         ≡ visitAll (sceneOf sizes (now (equations .entry)) (now (moves .entry)) (now (values .entry)) from) settling (pairsBy sizes (now (equations .entry)) (now (moves .entry)) (s .0) (ownerIn o))
-        (lineOf (now (marks .entry)) (now (queue .entry)) (at .tail) (at .visits)) ⌝ }
+        (lineAt (now (marks .entry)) (now (queue .entry)) at) ⌝ }
 {
     let asks = settling & engine_index::easy_in(o);
     if !engine_index::step_in(o) {
@@ -294,11 +294,11 @@ fn visit_leaners(
     requires { ⌜ Standing (sceneOf sizes (now equations) (now moves) (now values) from) ⌝ }
     requires { ⌜ Indexed (sketch sizes (now equations) (now moves)) (now index) ⌝ }
     requires { ⌜ Named (sketch sizes (now equations) (now moves)) (now operand) ⌝ }
-    requires { ⌜ (x .0 < sizes .variables) × ((s .0 < sizes .states) × ((length (now marks) ≡ pairsOf sizes) × Bounded (at .tail) (at .visits) (leanersIn sizes (now equations) (now moves) (x .0) (s .0)))) ⌝ }
-    requires { ⌜ Room (sceneOf sizes (now equations) (now moves) (now values) from) settling (leanersIn sizes (now equations) (now moves) (x .0) (s .0)) (lineOf (now marks) (now queue) (at .tail) (at .visits)) ⌝ }
-    ensures { λ r. ⌜ lineOf (now (marks .exit)) (now (queue .exit)) (r .tail) (r .visits)
+    requires { ⌜ (x .0 < sizes .variables) × ((s .0 < sizes .states) × ((length (now marks) ≡ pairsOf sizes) × BoundedAt at (leanersIn sizes (now equations) (now moves) (x .0) (s .0)))) ⌝ }
+    requires { ⌜ Room (sceneOf sizes (now equations) (now moves) (now values) from) settling (leanersIn sizes (now equations) (now moves) (x .0) (s .0)) (lineAt (now marks) (now queue) at) ⌝ }
+    ensures { λ r. ⌜ lineAt (now (marks .exit)) (now (queue .exit)) r
         ≡ visitAll (sceneOf sizes (now (equations .entry)) (now (moves .entry)) (now (values .entry)) from) settling (leanersIn sizes (now (equations .entry)) (now (moves .entry)) (x .0) (s .0))
-        (lineOf (now (marks .entry)) (now (queue .entry)) (at .tail) (at .visits)) ⌝ }
+        (lineAt (now (marks .entry)) (now (queue .entry)) at) ⌝ }
 {
     let to = x.0 as usize;
     let mut r = at;
@@ -350,12 +350,12 @@ pub fn turn(
     requires { ⌜ (length (now values) ≡ pairsOf sizes) × (length (now marks) ≡ pairsOf sizes) ⌝ }
     requires { ⌜ Bits (now values) × (Packed sizes (now queue) (at .tail) × (front < at .tail)) ⌝ }
     requires { ⌜ FromValue (sketch sizes (now equations) (now moves)) settling (now values) (getD (now queue) front 0) ⌝ }
-    requires { ⌜ Bounded (at .tail) (at .visits) (leanersOf (modelOf (sketch sizes (now equations) (now moves))) (waiter sizes (getD (now queue) front 0))) ⌝ }
+    requires { ⌜ BoundedAt at (leanersOf (modelOf (sketch sizes (now equations) (now moves))) (waiter sizes (getD (now queue) front 0))) ⌝ }
     requires { ⌜ from ≡ getD (now values) (waiter sizes (getD (now queue) front 0)) 0 ⌝ }
-    requires { ⌜ RoomFor sizes (now equations) (now moves) settling front (getD (now queue) front 0) (roundOf (now values) (now marks) (now queue) (at .tail) (at .visits)) ⌝ }
+    requires { ⌜ RoomFor sizes (now equations) (now moves) settling front (getD (now queue) front 0) (roundAt (now values) (now marks) (now queue) at) ⌝ }
     ensures { λ r. ⌜ Turned sizes (now (equations .entry)) (now (moves .entry)) settling front (getD (now (queue .entry)) front 0)
-        (roundOf (now (values .entry)) (now (marks .entry)) (now (queue .entry)) (at .tail) (at .visits))
-        (roundOf (now (values .exit)) (now (marks .exit)) (now (queue .exit)) (r .tail) (r .visits)) ⌝ }
+        (roundAt (now (values .entry)) (now (marks .entry)) (now (queue .entry)) at)
+        (roundAt (now (values .exit)) (now (marks .exit)) (now (queue .exit)) r) ⌝ }
 {
     let w = queue[front];
     let x = words::variable_of(w);

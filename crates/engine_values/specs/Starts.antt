@@ -162,11 +162,6 @@ own-filled z labels equations moves n d room =
     (listed-same 0 (pairsOf z) (λ p. bit (eqb (kindIn z equations p) 1)) (λ p. bit (own (frame m) p))
     (λ p h. ap bit (sym (own-kind z labels equations moves n d p (omega arith)))))
 
--- A truth value as a byte is small.
-pub byte-small : (b : Bool) → boolByte b ≤ 1
-byte-small true = omega arith
-byte-small false = omega arith
-
 -- One pair more.
 pub trues-more : (n : ℕ) (v : Values) (from r x : ℕ) → from + r ≡ trues n v → x ≡ bit (v n) → from + (r + x) ≡ trues (n + 1) v
 trues-more n v from r x e f = rw (add-one, ← e, f) (sym (add-assoc from r (bit (v n))))

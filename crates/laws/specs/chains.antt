@@ -1,3 +1,4 @@
+-- Chains of variables and their components: what the tests on equations say.
 pub mod ChainLaws
 pub mod Components
 pub mod ComponentCount

@@ -1,6 +1,7 @@
 pub mod Lists
 pub mod Smallest
 pub mod Tests
+pub mod Cases
 pub mod TableLaws
 pub mod Sums
 pub mod Sets

@@ -1,13 +1,13 @@
 -- Tests as facts: what it means that a test on numbers, on truth values or on a list came out true or false.
 -- Assumes nothing.
-use mathlib.Core.Path.{_≡_, refl, sym, ap, _∙_, subst}
+use mathlib.Core.Path.{_≡_, refl, sym, ap, ap₂, _∙_, subst}
 use mathlib.Core.Logic.{_⊎_, inl, inr, _↔_, _≢_}
 use mathlib.Core.Bool.{Bool, true, false, not, cond, _&&_, _||_, true≢false, false≢true}
 use mathlib.Core.List.{List, [], _∷_, List·Memᴰ, List·Memᴰ·head, List·Memᴰ·tail}
-use Prim.Native.Nat.{ℕ, _≤_, _<_}
+use Prim.Native.Nat.{ℕ, zero, suc, _≤_, _<_}
 use native.Mathlib.Omega.{arith}
 use lib.Dec.{T, eqb, ltb, leb, eqb→eq, eqb-refl, ltb→lt, lt→ltb, leb→le, le→leb, nltb→le}
-use Rattle.lists.specs.Lists.{is, any, all, elem}
+use Rattle.lists.specs.Lists.{is, any, all, elem, bit}
 
 infix 20 _∈_
 abbrev pub _∈_ : ℕ → List ℕ → Type 0
@@ -218,3 +218,21 @@ passed {r} e t = sym e ∙ sym (not-not r) ∙ ap not t
 -- A number over the most is not at most that.
 pub leb-no : (m n : ℕ) → n < m → leb m n ≡ false
 leb-no m n h = no-way (leb m n) (λ e. let k = leb-is m n .0 e in omega arith)
+
+-- Tests that say the same of each number say the same of a list.
+pub any-same : (f g : ℕ → Bool) (l : List ℕ) → ((q : ℕ) → f q ≡ g q) → any f l ≡ any g l
+any-same f g [] h = refl
+any-same f g (q ∷ l) h = ap₂ _||_ (h q) (any-same f g l h)
+
+-- Tests that follow from each other are one.
+pub same-test : (x y : Bool) → (x ≡ true → y ≡ true) → (y ≡ true → x ≡ true) → x ≡ y
+same-test true y f g = sym (f refl)
+same-test false true f g = absurd (true≢false (sym (g refl)))
+same-test false false f g = refl
+
+-- A byte that is 0 or 1 says a truth value where it is its bit.
+pub is-bit : (b : Bool) (v : ℕ) → v ≤ 1 → is b (eqb v 1) ≡ eqb v (bit b)
+is-bit true v h = refl
+is-bit false zero h = refl
+is-bit false (suc zero) h = refl
+is-bit false (suc (suc v)) h = absurd (omega arith)

@@ -1,23 +1,19 @@
 -- A turn and its question, from what code has in hand. Assumes nothing.
 use mathlib.Core.Path.{_≡_, refl, sym, ap, _∙_}
 use mathlib.Core.Logic.{inl, inr}
-use mathlib.Core.Bool.{Bool, true, false}
-use mathlib.Core.List.{List, [], _∷_}
+use mathlib.Core.Bool.{true, false}
+use mathlib.Core.List.{List}
 use Prim.Native.Nat.{ℕ, _-_, _*_, _≤_, _<_}
-use lib.Dec.{eqb, ltb}
+use lib.Dec.{ltb}
 use lib.ListN.{length}
-use types.Run.{OneOf, miss}
-use denote.Enum.Declared.{tagOf}
 use Rattle.lists.specs.Lists.{lowest}
 use Rattle.lists.specs.Tests.{tell, and-in, and-no, eqb-is, eqb-no, ltb-in, ltb-no}
 use Rattle.model_chains.specs.Stored.{held}
-use Rattle.rules.proofs.Record.{the-type}
 use Rattle.rules.specs.Load.{inside}
 use Rattle.rules.specs.Model.{guilty}
 use Rattle.rules.specs.declared.Equation.{Equation}
 use Rattle.rules.specs.Rooms.{Lengths}
 use Rattle.rules.specs.declared.Record.{Record}
-use Rattle.rules.specs.declared.Record.the-variants as R
 use Rattle.rules.specs.declared.Refusal.the-variants as Why
 use Rattle.bytes_read.specs.declared.Read.{Read}
 use Rattle.model_judge.specs.Asking.{Spelled, isSigned, asksAfter, lowestTo, answeredTurn, askedTurn, Askable, Ready, Asked}
@@ -30,20 +26,6 @@ use Rattle.model_judge.specs.declared.Progress.{Progress}
 use Rattle.model_judge.specs.declared.ReadModel.the-variants as M
 use Rattle.model_judge.specs.declared.OneTurn.{OneTurn}
 use Rattle.model_judge.specs.declared.OneTurn.the-variants as T
-
--- A record of any other case is no equation with a sign.
-pub other-case : (r : Record) → OneOf (0 ∷ 1 ∷ 2 ∷ 3 ∷ 4 ∷ 5 ∷ 6 ∷ 7 ∷ 8 ∷ 9 ∷ []) (tagOf the-type r) → isSigned r ≡ false
-other-case (R.Sizes z) m = refl
-other-case (R.Label s v) m = refl
-other-case (R.Block k n) m = refl
-other-case (R.Equation o a b) m = refl
-other-case (R.Move v) m = refl
-other-case R.End m = refl
-other-case (R.Stamp n) m = refl
-other-case (R.Insert v) m = refl
-other-case (R.Delete v) m = refl
-other-case R.Live m = refl
-other-case (R.Signed k o a b) m = absurd (miss (0 ∷ 1 ∷ 2 ∷ 3 ∷ 4 ∷ 5 ∷ 6 ∷ 7 ∷ 8 ∷ 9 ∷ []) 10 tt m)
 
 -- The question, asked of words that hold the equations: a guilty one, and none.
 module _ (s : List ℕ) (r : Record) (y : Progress) (n k : ℕ) (ws : List ℕ) (low : ℕ) (few : k ≤ 32) (w : Words s n k k ws) (l : low ≡ lowest k (guilty (held k ws))) where

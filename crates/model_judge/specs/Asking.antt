@@ -10,10 +10,9 @@ use Rattle.lists.specs.Lists.{lowest}
 use Rattle.rules.specs.Load.{State, before, signedOf, inside, step, put, last}
 use Rattle.rules.specs.Model.{Model, guilty}
 use Rattle.rules.specs.declared.Equation.{Equation}
-use Rattle.rules.specs.Records.{Outcome, run}
+use Rattle.rules.specs.Records.{Outcome, run, numbersOf}
 use Rattle.rules.specs.Rooms.{Lengths}
 use Rattle.rules.specs.declared.Record.{Record}
-use Rattle.rules.specs.declared.Record.the-variants as R
 use Rattle.rules.specs.declared.Refusal.the-variants as Why
 use Rattle.bytes_read.specs.PartsAt.{partsAt}
 use Rattle.bytes_read.specs.Places.{recordAt}
@@ -52,17 +51,7 @@ pub record Spelled (s : List ℕ) (n k : ℕ) : Type 0 where
 
 -- Chains are asked after the last equation with a sign.
 abbrev pub isSigned : Record → Bool
-isSigned (R.Sizes z) = false
-isSigned (R.Label s v) = false
-isSigned (R.Block k n) = false
-isSigned (R.Equation o a b) = false
-isSigned (R.Move m) = false
-isSigned R.End = false
-isSigned (R.Stamp n) = false
-isSigned (R.Insert m) = false
-isSigned (R.Delete m) = false
-isSigned R.Live = false
-isSigned (R.Signed k o a b) = true
+isSigned r = eqb (numbersOf r .kind) 11
 
 abbrev pub asksAfter : Record → Progress → Bool
 asksAfter r y = isSigned r && eqb (y .blocks .equations) (y .sizes .variables)

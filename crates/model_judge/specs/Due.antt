@@ -1,116 +1,112 @@
 -- Which records are due where, and that any other is refusal 2. Assumes nothing.
-use mathlib.Core.Path.{_≡_, refl, ap, _∙_}
-use mathlib.Core.Logic.{inl, inr}
-use mathlib.Core.Bool.{Bool, true, false, cond, not, _&&_, _||_}
-use mathlib.Core.List.{List, [], _∷_}
+use mathlib.Core.Path.{_≡_, refl, ap}
+use mathlib.Core.Bool.{Bool, true, false, cond, not, _&&_}
+use mathlib.Core.List.{[], _∷_}
 use Prim.Native.Nat.{ℕ, _<_}
 use native.Mathlib.Omega.{arith}
 use lib.Dec.{eqb, ltb}
-use types.Run.{OneOf}
-use denote.Enum.Declared.{tagOf}
-use borrow.Author.Tests.{lt-ltb, le-ltb, eq-eqb, ne-eqb, not-true}
-use Rattle.lists.specs.Lists.{all}
-use Rattle.lists.specs.Tests.{and-is, and-in, and-no, eqb-is}
-use Rattle.rules.specs.Load.{Sofar, inside, movesDue, labelDemands, blockDemands, equationDemands, signedDemands, moveDemands, endDemands, liveDemands, afterLive, signedOf, afterLabel, afterBlock, afterEquation, afterSigned, afterMove}
+use borrow.Author.Tests.{lt-ltb, le-ltb, eq-eqb, ne-eqb}
+use Rattle.lists.specs.Tests.{and-is, and-in, and-no, or-no, eqb-is}
+use Rattle.rules.specs.Load.{Sofar, inside, movesDue, labelDemands, blockDemands, equationDemands, signedDemands, moveDemands, endDemands, liveDemands, signedOf}
 use Rattle.rules.specs.Model.{signed}
-use Rattle.rules.specs.Moves.{pack}
-use Rattle.rules.specs.Records.{no, next, over, numbersOf}
+use Rattle.rules.specs.Records.{Rec, field, no, numbersOf}
 use Rattle.rules.specs.Rooms.{Lengths}
 use Rattle.rules.specs.declared.Record.{Record}
-use Rattle.rules.specs.declared.Record.the-variants as R
-use Rattle.rules.proofs.Record.{the-type}
+use Rattle.laws.specs.bytes.Kinds.{Other, other-kinds}
 use Rattle.model_judge.specs.Demands.{fails}
-use Rattle.model_judge.specs.Plain.{plain, unasked}
+use Rattle.model_judge.specs.Plain.{plain}
 use Rattle.model_judge.specs.Progress.{Kept}
 
--- Whether a record is due after the sizes, by the number k of its case.
+-- Whether a record is due after the sizes, by its kind k.
 abbrev dueAt : Sofar → ℕ → Bool
 dueAt x k =
-    cond (eqb k 1) (eqb (x .blocks .count) 0 && eqb (x .blocks .equations) 0)
-    (cond (eqb k 2) (eqb (x .blocks .due) 0 && ltb (x .blocks .count) (x .sizes .blocks))
-    (cond (eqb k 3) (ltb 0 (x .blocks .due))
-    (cond (eqb k 4 || eqb k 5) (movesDue x)
-    (cond (eqb k 9) (eqb (x .labels) 0 && eqb (x .live) 0)
-    (cond (eqb k 10) (signed (x .sizes) && ltb (x .blocks .equations) (x .sizes .variables))
-    false)))))
+    cond (eqb k 2) (eqb (x .blocks .count) 0 && eqb (x .blocks .equations) 0)
+    (cond (eqb k 3) (eqb (x .blocks .due) 0 && ltb (x .blocks .count) (x .sizes .blocks))
+    (cond (eqb k 4) (ltb 0 (x .blocks .due))
+    (cond (eqb k 5) (movesDue x)
+    (cond (eqb k 6) (movesDue x)
+    (cond (eqb k 10) (eqb (x .labels) 0 && eqb (x .live) 0)
+    (cond (eqb k 11) (signed (x .sizes) && ltb (x .blocks .equations) (x .sizes .variables))
+    false))))))
+
+-- What a choice between two comes to, by the one that is taken.
+among : {A : Type 0} (b x y : Bool) (t u v : A) → cond b x y ≡ false → (x ≡ false → v ≡ t) → (y ≡ false → v ≡ u) → v ≡ cond b t u
+among true x y t u v e f g = f e
+among false x y t u v e f g = g e
 
 -- A record that is not due is refused.
-not-due : (l : Lengths) (x : Sofar) (r : Record) → dueAt x (tagOf the-type r) ≡ false → no 2 ≡ plain l (inside x) (numbersOf r)
+not-due : (l : Lengths) (x : Sofar) (r : Rec) → dueAt x (r .kind) ≡ false → no 2 ≡ plain l (inside x) r
 unfolding plain
-not-due l x (R.Sizes z) e = refl
-not-due l x (R.Label s v) e = fails 0 (labelDemands x (s .0) v) (next (inside (afterLabel x (s .0)))) (ap not e)
-not-due l x (R.Block k n) e = fails 0 (blockDemands x k n) (next (inside (afterBlock x k n))) (ap not e)
-not-due l x (R.Equation o a b) e = fails 0 (equationDemands x o a b) (next (inside (afterEquation x))) (ap not e)
-not-due l x (R.Move m) e =
-    fails 0 (moveDemands l x (m .source .0) (m .action .0) (m .target .0)) (next (inside (afterMove x (pack (m .source .0) (m .action .0) (m .target .0))))) (ap not e)
-not-due l x R.End e = fails 0 (endDemands x) over (ap not e)
-not-due l x (R.Stamp n) e = refl
-not-due l x (R.Insert m) e = refl
-not-due l x (R.Delete m) e = refl
-not-due l x R.Live e = fails 0 (liveDemands x) (next (inside (afterLive x))) (ap not e)
-not-due l x (R.Signed k o a b) e = fails 0 (signedDemands x (signedOf k o a b)) (unasked (afterSigned x (signedOf k o a b))) (ap not e)
+not-due l x r e =
+    let k = r .kind in
+    let a = field r 0 in
+    let b = field r 1 in
+    let c = field r 2 in
+    let d = field r 3 in
+    among (eqb k 2) _ _ _ _ _ e (λ e. fails 0 (labelDemands x a b) _ (ap not e))
+    (λ e. among (eqb k 3) _ _ _ _ _ e (λ e. fails 0 (blockDemands x a b) _ (ap not e))
+    (λ e. among (eqb k 4) _ _ _ _ _ e (λ e. fails 0 (equationDemands x a b c) _ (ap not e))
+    (λ e. among (eqb k 5) _ _ _ _ _ e (λ e. fails 0 (moveDemands l x a b c) _ (ap not e))
+    (λ e. among (eqb k 6) _ _ _ _ _ e (λ e. fails 0 (endDemands x) _ (ap not e))
+    (λ e. among (eqb k 10) _ _ _ _ _ e (λ e. fails 0 (liveDemands x) _ (ap not e))
+    (λ e. among (eqb k 11) _ _ _ _ _ e (λ e. fails 0 (signedDemands x (signedOf a b c d)) _ (ap not e)) (λ e. refl)))))))
 
--- A test that fails at each number of a list fails at every number that is one of them.
-none-of : (f : ℕ → Bool) (ks : List ℕ) (k : ℕ) → all (λ i. not (f i)) ks ≡ true → OneOf ks k → f k ≡ false
-none-of f [] k h m = absurd m
-none-of f (i ∷ []) k h m = ap f m ∙ not-true (f i) (and-is (not (f i)) true .0 h .0)
-none-of f (i ∷ j ∷ ks) k h (inl e) = ap f e ∙ not-true (f i) (and-is (not (f i)) (all (λ i. not (f i)) (j ∷ ks)) .0 h .0)
-none-of f (i ∷ j ∷ ks) k h (inr m) = none-of f (j ∷ ks) k (and-is (not (f i)) (all (λ i. not (f i)) (j ∷ ks)) .0 h .1) m
-
--- A record of one of some cases, none of which is due, is refused.
-none-due : (l : Lengths) (x : Sofar) (r : Record) (ks : List ℕ) → all (λ k. not (dueAt x k)) ks ≡ true → OneOf ks (tagOf the-type r)
-    → no 2 ≡ plain l (inside x) (numbersOf r)
-none-due l x r ks h m = not-due l x r (none-of (dueAt x) ks (tagOf the-type r) h m)
+-- Where neither of two is due, none is.
+neither : (b : Bool) → cond b false false ≡ false
+neither true = refl
+neither false = refl
 
 -- Inside a block nothing but an equation is due.
-pub equation-only : (l : Lengths) (x : Sofar) (r : Record) → Kept x → 0 < x .blocks .due → 0 < x .sizes .blocks → OneOf (0 ∷ 1 ∷ 2 ∷ 4 ∷ 5 ∷ 6 ∷ 7 ∷ 8 ∷ 9 ∷ 10 ∷ []) (tagOf the-type r)
+pub equation-only : (l : Lengths) (x : Sofar) (r : Record) → Kept x → 0 < x .blocks .due → 0 < x .sizes .blocks → Other (4 ∷ []) r
     → no 2 ≡ plain l (inside x) (numbersOf r)
 equation-only l x r k h b m =
-    none-due l x r (0 ∷ 1 ∷ 2 ∷ 4 ∷ 5 ∷ 6 ∷ 7 ∷ 8 ∷ 9 ∷ 10 ∷ [])
-    (rw (ne-eqb (x .labels) 0 (λ e. omega arith), ne-eqb (x .blocks .count) 0 (λ e. omega arith), ne-eqb (x .blocks .due) 0 (λ e. omega arith), ne-eqb (x .sizes .blocks) 0 (λ e. omega arith)) refl) m
+    let o = simp or-no at (other-kinds (4 ∷ []) r m) in
+    not-due l x (numbersOf r) (simp (ne-eqb (x .labels) 0 (λ e. omega arith), ne-eqb (x .blocks .count) 0 (λ e. omega arith), ne-eqb (x .blocks .due) 0 (λ e. omega arith), ne-eqb (x .sizes .blocks) 0 (λ e. omega arith), o .0, neither))
 
 -- Between two blocks nothing but a block is due.
 pub block-only : (l : Lengths) (x : Sofar) (r : Record) → Kept x → x .blocks .due ≡ 0 → 0 < x .blocks .count → x .blocks .count < x .sizes .blocks
-    → OneOf (0 ∷ 1 ∷ 3 ∷ 4 ∷ 5 ∷ 6 ∷ 7 ∷ 8 ∷ 9 ∷ 10 ∷ []) (tagOf the-type r) → no 2 ≡ plain l (inside x) (numbersOf r)
+    → Other (3 ∷ []) r → no 2 ≡ plain l (inside x) (numbersOf r)
 block-only l x r k d f h m =
-    none-due l x r (0 ∷ 1 ∷ 3 ∷ 4 ∷ 5 ∷ 6 ∷ 7 ∷ 8 ∷ 9 ∷ 10 ∷ [])
-    (rw (d, ne-eqb (x .labels) 0 (λ e. omega arith), ne-eqb (x .blocks .count) 0 (λ e. omega arith), ne-eqb (x .blocks .count) (x .sizes .blocks) (λ e. omega arith), ne-eqb (x .sizes .blocks) 0 (λ e. omega arith)) refl) m
+    let o = simp or-no at (other-kinds (3 ∷ []) r m) in
+    not-due l x (numbersOf r) (simp (d, ne-eqb (x .labels) 0 (λ e. omega arith), ne-eqb (x .blocks .count) 0 (λ e. omega arith), ne-eqb (x .blocks .count) (x .sizes .blocks) (λ e. omega arith), ne-eqb (x .sizes .blocks) 0 (λ e. omega arith), o .0, neither))
 
 -- Before the first block nothing but a label, a block or the record of a live model is due.
-pub label-or-block : (l : Lengths) (x : Sofar) (r : Record) → Kept x → x .blocks .count ≡ 0 → 0 < x .sizes .blocks → OneOf (0 ∷ 3 ∷ 4 ∷ 5 ∷ 6 ∷ 7 ∷ 8 ∷ 10 ∷ []) (tagOf the-type r)
+pub label-or-block : (l : Lengths) (x : Sofar) (r : Record) → Kept x → x .blocks .count ≡ 0 → 0 < x .sizes .blocks → Other (2 ∷ 3 ∷ 10 ∷ []) r
     → no 2 ≡ plain l (inside x) (numbersOf r)
 label-or-block l x r k h b m =
     let d : x .blocks .due ≡ 0 = omega arith in
-    none-due l x r (0 ∷ 3 ∷ 4 ∷ 5 ∷ 6 ∷ 7 ∷ 8 ∷ 10 ∷ []) (rw (d, ne-eqb (x .blocks .count) (x .sizes .blocks) (λ e. omega arith), ne-eqb (x .sizes .blocks) 0 (λ e. omega arith)) refl) m
+    let o = simp or-no at (other-kinds (2 ∷ 3 ∷ 10 ∷ []) r m) in
+    not-due l x (numbersOf r) (simp (d, ne-eqb (x .blocks .count) (x .sizes .blocks) (λ e. omega arith), ne-eqb (x .sizes .blocks) 0 (λ e. omega arith), o .0, o .1 .0, o .1 .1 .0, neither))
 
 -- Between two equations with signs nothing but such an equation is due.
 pub signed-only : (l : Lengths) (x : Sofar) (r : Record) → Kept x → x .sizes .blocks ≡ 0 → 0 < x .blocks .equations → x .blocks .equations < x .sizes .variables
-    → OneOf (0 ∷ 1 ∷ 2 ∷ 3 ∷ 4 ∷ 5 ∷ 6 ∷ 7 ∷ 8 ∷ 9 ∷ []) (tagOf the-type r) → no 2 ≡ plain l (inside x) (numbersOf r)
+    → Other (11 ∷ []) r → no 2 ≡ plain l (inside x) (numbersOf r)
 signed-only l x r k b f h m =
     let d : x .blocks .due ≡ 0 = omega arith in
     let c : x .blocks .count ≡ 0 = omega arith in
-    none-due l x r (0 ∷ 1 ∷ 2 ∷ 3 ∷ 4 ∷ 5 ∷ 6 ∷ 7 ∷ 8 ∷ 9 ∷ [])
-    (rw (d, c, b, ne-eqb (x .labels) 0 (λ e. omega arith), ne-eqb (x .blocks .equations) 0 (λ e. omega arith), ne-eqb (x .blocks .equations) (x .sizes .variables) (λ e. omega arith)) refl) m
+    let o = simp or-no at (other-kinds (11 ∷ []) r m) in
+    not-due l x (numbersOf r) (simp (d, c, b, ne-eqb (x .labels) 0 (λ e. omega arith), ne-eqb (x .blocks .equations) 0 (λ e. omega arith), ne-eqb (x .blocks .equations) (x .sizes .variables) (λ e. omega arith), o .0, neither))
 
 -- Before the first of them nothing but a label, such an equation or the record of a live model is due.
 pub label-or-signed : (l : Lengths) (x : Sofar) (r : Record) → Kept x → x .sizes .blocks ≡ 0 → x .blocks .equations ≡ 0
-    → OneOf (0 ∷ 2 ∷ 3 ∷ 4 ∷ 5 ∷ 6 ∷ 7 ∷ 8 ∷ []) (tagOf the-type r) → no 2 ≡ plain l (inside x) (numbersOf r)
+    → Other (2 ∷ 10 ∷ 11 ∷ []) r → no 2 ≡ plain l (inside x) (numbersOf r)
 label-or-signed l x r k b f m =
     let d : x .blocks .due ≡ 0 = omega arith in
     let c : x .blocks .count ≡ 0 = omega arith in
-    none-due l x r (0 ∷ 2 ∷ 3 ∷ 4 ∷ 5 ∷ 6 ∷ 7 ∷ 8 ∷ []) (rw (d, c, b, ne-eqb (x .blocks .equations) (x .sizes .variables) (λ e. omega arith)) refl) m
+    let o = simp or-no at (other-kinds (2 ∷ 10 ∷ 11 ∷ []) r m) in
+    not-due l x (numbersOf r) (simp (d, c, b, ne-eqb (x .blocks .equations) (x .sizes .variables) (λ e. omega arith), o .0, o .1 .0, o .1 .1 .0, neither))
 
 -- Where moves are due, no equation is, all blocks have begun, and all equations have been read.
 pub all-read : (x : Sofar) → movesDue x ≡ true → (x .blocks .due ≡ 0) × (x .blocks .count ≡ x .sizes .blocks) × (x .blocks .equations ≡ x .sizes .variables)
 all-read x h = let k = simp and-is at h in (eqb-is _ _ .0 (k .0 .0), eqb-is _ _ .0 (k .0 .1), eqb-is _ _ .0 (k .1))
 
 -- There nothing but a move or the end is due.
-pub move-or-end : (l : Lengths) (x : Sofar) (r : Record) → Kept x → movesDue x ≡ true → OneOf (0 ∷ 1 ∷ 2 ∷ 3 ∷ 6 ∷ 7 ∷ 8 ∷ 9 ∷ 10 ∷ []) (tagOf the-type r)
+pub move-or-end : (l : Lengths) (x : Sofar) (r : Record) → Kept x → movesDue x ≡ true → Other (5 ∷ 6 ∷ []) r
     → no 2 ≡ plain l (inside x) (numbersOf r)
 move-or-end l x r k h m =
     let e = all-read x h in
-    none-due l x r (0 ∷ 1 ∷ 2 ∷ 3 ∷ 6 ∷ 7 ∷ 8 ∷ 9 ∷ 10 ∷ [])
-    (rw (e .0, ne-eqb (x .labels) 0 (λ z. omega arith), ne-eqb (x .blocks .equations) 0 (λ z. omega arith), le-ltb (x .blocks .count) (x .sizes .blocks) (omega arith), le-ltb (x .blocks .equations) (x .sizes .variables) (omega arith), and-no (eqb (x .blocks .count) 0) {y = false} refl, and-no (eqb (x .sizes .blocks) 0) {y = false} refl) refl) m
+    let o = simp or-no at (other-kinds (5 ∷ 6 ∷ []) r m) in
+    not-due l x (numbersOf r) (simp (e .0, ne-eqb (x .labels) 0 (λ z. omega arith), ne-eqb (x .blocks .equations) 0 (λ z. omega arith), le-ltb (x .blocks .count) (x .sizes .blocks) (omega arith), le-ltb (x .blocks .equations) (x .sizes .variables) (omega arith), and-no (eqb (x .blocks .count) 0) {y = false} refl, and-no (eqb (x .sizes .blocks) 0) {y = false} refl, o .0, o .1 .0, neither))
 
 -- The first demands of a label, of a block, of an equation, of one with a sign and of a move, each where it is due.
 pub label-due : (x : Sofar) → (x .blocks .count ≡ 0) × (x .blocks .equations ≡ 0) → not (eqb (x .blocks .count) 0 && eqb (x .blocks .equations) 0) ≡ false

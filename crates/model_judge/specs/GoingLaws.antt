@@ -8,7 +8,7 @@ use native.Mathlib.Omega.{arith}
 use lib.Dec.{eqb, ltb}
 use lib.ListN.{length, getD}
 use Rattle.lists.specs.Lists.{someBelow, lowest}
-use Rattle.lists.specs.Tests.{tests, tell, and-is, and-in, and-no, eqb-is, eqb-no, eqb-off, ltb-is, leb-is, ltb-out}
+use Rattle.lists.specs.Tests.{tests, tell, and-is, and-in, and-no, eqb-is, eqb-in, eqb-no, eqb-off, ltb-is, leb-is, ltb-out}
 use Rattle.lists.specs.Ranges.{lowest-found}
 use Rattle.rules.specs.Load.{Sofar, State, before, inside, signOf, afterSigned, askChains, settleStyle, readModel, step, put, last}
 use Rattle.rules.specs.Model.{Model, guilty}
@@ -25,7 +25,7 @@ use Rattle.model_judge.specs.Going.{placeOf, answerOf, KeptTurn, Follows
 use Rattle.model_judge.specs.Passing.{Passed, here, on, Forwarded}
 use Rattle.model_judge.specs.Plain.{plain, withSigns, without}
 use Rattle.model_judge.specs.Progress.{sofarOf, Kept}
-use Rattle.model_judge.specs.SignsRead.{signed-kind, other-kind, signed-back, signed-there, signs-length, one-more, spelled-none, spelled-more}
+use Rattle.model_judge.specs.SignsRead.{signed-there, signs-length, one-more, spelled-none, spelled-more}
 use Rattle.model_judge.specs.TurnLaws.{Stepped, label, block, equation, move, lives, sign, stepped, counted-by, first-is}
 use Rattle.model_judge.specs.Turning.{readSays, summary, summaryAfter, readOn, from, Goes, Turned}
 use Rattle.model_judge.specs.declared.Progress.{Progress}
@@ -126,7 +126,7 @@ module _ (l : Lengths) (s : List ℕ) (x : Progress) (n : ℕ) (q : Record) (y :
   signed-next : SpelledSofar s x n → numbersOf q .kind ≡ 11 → (k ≡ n + 5) × (signOf (numbersOf q) ≡ signAt s n) × Spelled s k (y .blocks .equations) × (5 * x .blocks .equations ≤ n)
   signed-next sp e =
       let a = signed-on l (sofarOf x) (sofarOf y) q how e in
-      let b = signed-there s n k q (t .got) (signed-kind q e) in
+      let b = signed-there s n k q (t .got) (eqb-in (numbersOf q .kind) 11 e) in
       let d = sp (a .style) (a .more) in
       let h : getD s (n + 1) 0 ≤ 1 = subst (λ (z : Equation). z .kind ≤ 1) (b .1) (a .small) in
       (b .0, b .1, rw (a .counts, b .0) (spelled-more s n (x .blocks .equations) d h), d .room)
@@ -143,7 +143,7 @@ module _ (l : Lengths) (s : List ℕ) (x : Progress) (n : ℕ) (q : Record) (y :
 
   -- After a record that is no equation with a sign, nothing is asked.
   other-asks : (numbersOf q .kind ≡ 11 → ⊥) → askedTurn s (T.Go q y k) ≡ T.Go q y k
-  other-asks f = rw (other-kind q f) refl
+  other-asks f = rw (eqb-no (numbersOf q .kind) 11 .1 f) refl
 
   module _ (g : Onward l s x n) where
     other-on : (numbersOf q .kind ≡ 11 → ⊥) → step l (inside (withSigns (g .signs) (sofarOf x))) (numbersOf q) ≡ next (inside (withSigns (g .signs) (sofarOf y))) → Onward l s y k
@@ -186,7 +186,7 @@ module _ (l : Lengths) (s : List ℕ) (x : Progress) (n : ℕ) (q : Record) (y :
         let m : more ≡ signsTo s k v = more-is e ∙ ap (signsTo s k) z in
         let c = f ∙ chains-say (withSigns more (sofarOf y)) v (ap length m ∙ signs-length s (k - 5 * v) v) z in
         let low = lowest v (guilty (signsTo s k v)) in
-        rw (signed-kind q e, eqb-is (y .blocks .equations) v .1 z) (elim (tell true (someBelow v (guilty (signsTo s k v)))) [
+        rw (eqb-in (numbersOf q .kind) 11 e, eqb-is (y .blocks .equations) v .1 z) (elim (tell true (someBelow v (guilty (signsTo s k v)))) [
           | inr h ↦
               let d : someBelow v (guilty more) ≡ false = ap (λ (es : List Equation). someBelow v (guilty es)) m ∙ h in
               rw (lowest-found v (guilty (signsTo s k v)), h) (signed-goes e (c ∙ rw d refl))
@@ -208,7 +208,7 @@ module _ (l : Lengths) (s : List ℕ) (x : Progress) (n : ℕ) (q : Record) (y :
               let a = signed-on l (sofarOf x) (sofarOf y) q how e in
               let b = eqb-no (y .blocks .equations) (y .sizes .variables) .0 z in
               let lt : y .blocks .equations < y .sizes .variables = let p = a .counts in let o = a .more in let w = a .variables in omega arith in
-              rw (signed-kind q e, z) (signed-goes e (f ∙ not-yet (withSigns more (sofarOf y)) lt))
+              rw (eqb-in (numbersOf q .kind) 11 e, z) (signed-goes e (f ∙ not-yet (withSigns more (sofarOf y)) lt))
         ]
 
     pub asked-going : Going l s (askedTurn s (T.Go q y k))
@@ -249,7 +249,7 @@ askable-next l s x n (T.Go q y k) sp t =
       t .inside-bytes,
       λ e.
           let a = and-is (isSigned q) (eqb (y .blocks .equations) (y .sizes .variables)) .0 e in
-          let f = signed-back q (a .0) in
+          let f = eqb-is (numbersOf q .kind) 11 .0 (a .0) in
           subst (Spelled s k) (eqb-is (y .blocks .equations) (y .sizes .variables) .0 (a .1)) (signed-next l s x n q y k t sp f .2),
     )
 

@@ -9,7 +9,7 @@ use Rattle.lists.specs.Tests.{and-in, leb-is, ltb-is}
 use Rattle.rules.specs.Limits.{most-moves}
 use Rattle.rules.specs.Load.{Sofar, State, inside, movesDue, labelDemands, equationDemands, moveDemands, movingWith, afterLabel, afterEquation, afterMove}
 use Rattle.rules.specs.Moves.{pack, source}
-use Rattle.rules.specs.Records.{Turn, next, numbersOf}
+use Rattle.rules.specs.Records.{Turn, next, numbersOf, widths}
 use Rattle.rules.specs.Rooms.{Lengths}
 use Rattle.rules.specs.declared.Record.{Record}
 use Rattle.rules.specs.declared.Record.the-variants as R
@@ -35,14 +35,14 @@ use Rattle.model_judge.specs.declared.OneTurn.the-variants as T
 
 -- The record of a good label, of a good equation, and of a good move.
 label-stands : (s : List ℕ) (n : ℕ) → n + 7 ≤ length s → getD s n 0 ≡ 2 → recordAt s n ≡ Got (R.Label (record { 0 = le16 s (n + 1) }) (le32 s (n + 3))) (n + 7)
-unfolding bodyLen recordOf
+unfolding bodyLen widths recordOf
 label-stands s n h e =
     let a : n + 1 + 6 ≡ n + 7 = omega arith in
     let b : n + 1 + 2 ≡ n + 3 = omega arith in
     stands-at s n 2 6 e refl (omega arith) (omega arith) ∙ rw (a, b) refl
 
 equation-stands : (s : List ℕ) (n : ℕ) → n + 4 ≤ length s → getD s n 0 ≡ 4 → recordAt s n ≡ Got (equationAt s n) (n + 4)
-unfolding bodyLen recordOf
+unfolding bodyLen widths recordOf
 equation-stands s n h e =
     let a : n + 1 + 3 ≡ n + 4 = omega arith in
     let b : n + 1 + 1 ≡ n + 2 = omega arith in
@@ -50,7 +50,7 @@ equation-stands s n h e =
     stands-at s n 4 3 e refl (omega arith) (omega arith) ∙ rw (a, b, c) refl
 
 move-stands : (s : List ℕ) (n : ℕ) → n + 6 ≤ length s → getD s n 0 ≡ 5 → recordAt s n ≡ Got (R.Move (moveAt s (n + 1))) (n + 6)
-unfolding bodyLen recordOf
+unfolding bodyLen widths recordOf
 move-stands s n h e =
     let a : n + 1 + 5 ≡ n + 6 = omega arith in
     stands-at s n 5 5 e refl (omega arith) (omega arith) ∙ rw a refl

@@ -1,19 +1,18 @@
 -- Equations with signs, read back from the bytes: one record more is one equation more. Assumes nothing.
 use mathlib.Core.Path.{_≡_, refl, sym, ap, ap₂, _∙_, subst}
 use mathlib.Core.Logic.{inl, inr}
-use mathlib.Core.Bool.{Bool, true, false, true≢false}
+use mathlib.Core.Bool.{true}
 use mathlib.Core.List.{List, [], _∷_, _++_}
 use Prim.Native.Nat.{ℕ, zero, suc, _+_, _-_, _*_, _≤_, _<_}
 use native.Mathlib.Nat.{le-of-suc-le-suc, eq-or-lt-of-le, not-suc-le-zero}
 use native.Mathlib.Decide.{ℕ-discrete}
 use native.Mathlib.Omega.{arith}
-use lib.Dec.{eqb}
 use lib.ListN.{length, getD, set, replicate, length-set}
 use lib.Seq.{getD-set-same, getD-set-other}
-use Rattle.lists.specs.Tests.{tell, eqb-is, eqb-no}
-use Rattle.rules.specs.Load.{signedOf, signOf}
+use Rattle.lists.specs.Tests.{eqb-is}
+use Rattle.rules.specs.Load.{signOf}
 use Rattle.rules.specs.declared.Equation.{Equation}
-use Rattle.rules.specs.Records.{numbersOf}
+use Rattle.rules.specs.Records.{numbersOf, widths}
 use Rattle.rules.specs.Session.{word, unword}
 use Rattle.model_chains.specs.Stored.{held}
 use Rattle.words.specs.WordLaws.{unword-word}
@@ -24,46 +23,12 @@ use Rattle.bytes_read.specs.Places.{bodyLen, recordOf, recordAt}
 use Rattle.bytes_read.specs.declared.Read.the-variants.{Got}
 use Rattle.model_judge.specs.Asking.{signAt, signsFrom, signsTo, Spelled, isSigned}
 
--- A record is an equation with a sign exactly where its kind is 11.
-pub signed-kind : (r : Record) → numbersOf r .kind ≡ 11 → isSigned r ≡ true
-signed-kind (R.Sizes z) e = absurd (omega arith)
-signed-kind (R.Label s v) e = absurd (omega arith)
-signed-kind (R.Block k n) e = absurd (omega arith)
-signed-kind (R.Equation o a b) e = absurd (omega arith)
-signed-kind (R.Move m) e = absurd (omega arith)
-signed-kind R.End e = absurd (omega arith)
-signed-kind (R.Stamp n) e = absurd (omega arith)
-signed-kind (R.Insert m) e = absurd (omega arith)
-signed-kind (R.Delete m) e = absurd (omega arith)
-signed-kind R.Live e = absurd (omega arith)
-signed-kind (R.Signed k o a b) e = refl
-
-pub other-kind : (r : Record) → (numbersOf r .kind ≡ 11 → ⊥) → isSigned r ≡ false
-other-kind (R.Sizes z) f = refl
-other-kind (R.Label s v) f = refl
-other-kind (R.Block k n) f = refl
-other-kind (R.Equation o a b) f = refl
-other-kind (R.Move m) f = refl
-other-kind R.End f = refl
-other-kind (R.Stamp n) f = refl
-other-kind (R.Insert m) f = refl
-other-kind (R.Delete m) f = refl
-other-kind R.Live f = refl
-other-kind (R.Signed k o a b) f = absurd (f refl)
-
-pub signed-back : (r : Record) → isSigned r ≡ true → numbersOf r .kind ≡ 11
-signed-back r e =
-    elim (tell true (eqb (numbersOf r .kind) 11)) [
-      | inl h ↦ eqb-is (numbersOf r .kind) 11 .0 h
-      | inr h ↦ absurd (true≢false (sym e ∙ other-kind r (eqb-no (numbersOf r .kind) 11 .0 h)))
-    ]
-
 -- The record of an equation with a sign has 5 bytes, and says what they say.
 pub signed-there : (s : List ℕ) (n k : ℕ) (r : Record) → recordAt s n ≡ Got r k → isSigned r ≡ true → (k ≡ n + 5) × (signOf (numbersOf r) ≡ signAt s n)
-unfolding recordOf bodyLen
+unfolding recordOf bodyLen widths
 signed-there s n k r got is =
     let t = read-there s n k r got in
-    let q = signed-back r is in
+    let q = eqb-is (numbersOf r .kind) 11 .0 is in
     let c : r ≡ R.Signed (getD s (n + 1) 0) (getD s (n + 1 + 1) 0) (getD s (n + 1 + 2) 0) (getD s (n + 1 + 3) 0) = t .is ∙ ap (λ (i : ℕ). recordOf i s (n + 1)) q in
     let d : k ≡ n + 1 + 4 = t .next ∙ ap (λ (i : ℕ). n + 1 + bodyLen i) q in
     let e2 : n + 1 + 1 ≡ n + 2 = omega arith in

@@ -8,9 +8,6 @@ use native.Mathlib.Omega.{arith}
 use lib.Dec.{eqb, ltb}
 use lib.ListN.{length}
 use borrow.Author.Tests.{lt-ltb}
-use types.Run.{OneOf, miss}
-use denote.Enum.Declared.{tagOf}
-use Rattle.rules.proofs.Record.{the-type}
 use Rattle.rules.specs.declared.Sizes.{Sizes}
 use Rattle.lists.specs.Tests.{tests, tell, and-is, or-out, eqb-is, ltb-is, leb-is}
 use Rattle.rules.specs.Answers.{numberOf}
@@ -26,6 +23,7 @@ use Rattle.rules.specs.declared.Record.{Record}
 use Rattle.rules.specs.declared.Record.the-variants as R
 use Rattle.rules.specs.declared.Refusal.{Refusal}
 use Rattle.rules.specs.declared.Refusal.the-variants as Why
+use Rattle.laws.specs.bytes.Kinds.{Other, other-kind}
 use Rattle.laws.specs.bytes.RecordLaws.{Met, judged}
 use Rattle.laws.specs.bytes.Walks.{small}
 use Rattle.bytes_read.specs.PartsAt.{partsAt, PartsBy, parts-at}
@@ -174,19 +172,9 @@ unfolding plain
 sizes-next l z f = sym (meets (sizesDemands l (numbersOf (R.Sizes z))) (next (inside (started z))) f)
 
 -- Any other record is not due there.
-pub sizes-due : (l : Lengths) (r : Record) → OneOf (1 ∷ 2 ∷ 3 ∷ 4 ∷ 5 ∷ 6 ∷ 7 ∷ 8 ∷ 9 ∷ 10 ∷ []) (tagOf the-type r) → plain l before (numbersOf r) ≡ no 2
+pub sizes-due : (l : Lengths) (r : Record) → Other (1 ∷ []) r → plain l before (numbersOf r) ≡ no 2
 unfolding plain
-sizes-due l (R.Sizes a) m = absurd (miss (1 ∷ 2 ∷ 3 ∷ 4 ∷ 5 ∷ 6 ∷ 7 ∷ 8 ∷ 9 ∷ 10 ∷ []) 0 tt m)
-sizes-due l (R.Label a b) m = refl
-sizes-due l (R.Block a b) m = refl
-sizes-due l (R.Equation a b d) m = refl
-sizes-due l (R.Move a) m = refl
-sizes-due l R.End m = refl
-sizes-due l (R.Stamp a) m = refl
-sizes-due l (R.Insert a) m = refl
-sizes-due l (R.Delete a) m = refl
-sizes-due l R.Live m = refl
-sizes-due l (R.Signed k o a b) m = refl
+sizes-due l r m = rw (other-kind 1 r m) refl
 
 -- What has been read after the sizes is inside the limits.
 pub started-kept : (z : Sizes) → sizesOk z ≡ true → Kept (started z)

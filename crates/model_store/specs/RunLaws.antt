@@ -13,7 +13,7 @@ use Rattle.lists.specs.Tests.{tests, tell, ltb-is, ltb-no}
 use Rattle.rules.specs.Load.{Sofar, State, inside, movesDue, put, last, afterMove}
 use Rattle.rules.specs.Model.{Model, moveOk}
 use Rattle.rules.specs.Moves.{pack, wrap}
-use Rattle.rules.specs.Records.{Parts, ends, broken, part, Turn, no, next, over, accepted, onTurn, atEnd, run, numbersOf}
+use Rattle.rules.specs.Records.{Parts, ends, broken, part, Turn, no, next, over, accepted, onTurn, atEnd, run, numbersOf, widths}
 use Rattle.rules.specs.Rooms.{Lengths}
 use Rattle.rules.specs.declared.Move.{Move}
 use Rattle.rules.specs.declared.Record.{Record}
@@ -134,7 +134,7 @@ module _ (l : Lengths) (s : List ℕ) where
   rest-turn : (f : ℕ) → Rest f → (x : Sofar) (p k : ℕ) (n : Model) (r : Record) (t : Turn State) → Kept x → movesDue x ≡ true → length s < p + suc f → recordAt s p ≡ Got r k → p < k → k ≤ length s
       → plain l (inside x) (numbersOf r) ≡ t → Stepped l x r t
       → onTurn (plain l) put last (λ st. run (plain l) put last st (partsAt s k)) (inside x) p (numbersOf r) (partsAt s k) t ≡ accepted n → n ≡ movesOnly x (movesFrom s p ((length s - p) / 6))
-  unfolding readOn put moveOk bodyLen recordOf
+  unfolding readOn put moveOk bodyLen widths recordOf
   rest-turn f ih x p k n r t kept due h got a b q (label c v m) e = let w = simp tests at (m .0) in let d = all-read x due in absurd (omega arith)
   rest-turn f ih x p k n r t kept due h got a b q (block c v m) e = let w = simp tests at (m .0) in let d = all-read x due in absurd (omega arith)
   rest-turn f ih x p k n r t kept due h got a b q (equation o c v m) e = let w = ltb-is 0 (x .blocks .due) .0 (m .0) in let d = all-read x due in absurd (omega arith)

@@ -1,19 +1,15 @@
 -- Storing record by record leaves the model that the reading accepts. Assumes nothing.
 use mathlib.Core.Path.{_≡_, refl, sym, ap, ap₂, _∙_, subst}
 use mathlib.Core.Logic.{inl, inr}
-use mathlib.Core.Bool.{Bool, true, false, cond}
+use mathlib.Core.Bool.{Bool, true, cond}
 use mathlib.Core.List.{List, [], _∷_, _++_, append-assoc, map}
 use Prim.Native.Nat.{ℕ, suc, _+_, _-_, _≤_, _<_}
 use native.Mathlib.Nat.{zero-add}
 use native.Mathlib.Omega.{arith}
 use lib.ListN.{length, drop, set, replicate, length-replicate, length-map}
 use lib.Seq.{sets, sets-eq, take-at, drop-at}
-use types.Run.{OneOf, miss}
-use denote.Enum.Declared.{tagOf}
-use Rattle.rules.proofs.Record.{the-type}
-use Rattle.rules.specs.declared.Record.the-variants as R
 use Rattle.lists.specs.Lists.{fill}
-use Rattle.lists.specs.Tests.{tests, tell, and-is, leb-is, eqb-is}
+use Rattle.lists.specs.Tests.{tests, tell, and-is, or-no, leb-is, eqb-is}
 use Rattle.rules.specs.Load.{Sofar, State, before, inside, started, step, put, last, sizesDemands, sizesOf, settleStyle, readModel}
 use Rattle.rules.specs.Limits.{sizesOk}
 use Rattle.rules.specs.Model.{Model, equationIn, componentIn, placed, signed, signOk, styleOk, moveOk, wellFormed}
@@ -29,6 +25,7 @@ use Rattle.laws.specs.session.SessionHolds.{signs-unwords}
 use Rattle.laws.specs.bytes.Walks.{small}
 use Rattle.model_judge.specs.Beside.{plain-accepts}
 use Rattle.rules.specs.declared.Record.{Record}
+use Rattle.laws.specs.bytes.Kinds.{Other, other-kinds}
 use Rattle.laws.specs.bytes.RecordLaws.{AreBytes, judged, un-onto, never}
 use Rattle.laws.specs.bytes.ReadSpells.{read-spelling}
 use Rattle.bytes_read.specs.PartsAt.{partsAt}
@@ -175,19 +172,10 @@ module _ (l : Lengths) (s : List ℕ) (t₀ : Stored) where
   storing-over x t g e = over-by x t (g .going) (g .holds) e
 
 -- Other records store nothing.
-pub puts-nothing : (x : Sofar) (r : Record) (t : Stored) → OneOf (0 ∷ 5 ∷ 6 ∷ 7 ∷ 8 ∷ 9 ∷ []) (tagOf the-type r) → t ≡ putRooms x r t
+pub puts-nothing : (x : Sofar) (r : Record) (t : Stored) → Other (2 ∷ 3 ∷ 4 ∷ 5 ∷ 11 ∷ []) r → t ≡ putRooms x r t
 unfolding putRooms
-puts-nothing x (R.Sizes a) t m = refl
-puts-nothing x (R.Label a b) t m = absurd (miss (0 ∷ 5 ∷ 6 ∷ 7 ∷ 8 ∷ 9 ∷ []) 1 tt m)
-puts-nothing x (R.Block a b) t m = absurd (miss (0 ∷ 5 ∷ 6 ∷ 7 ∷ 8 ∷ 9 ∷ []) 2 tt m)
-puts-nothing x (R.Equation a b d) t m = absurd (miss (0 ∷ 5 ∷ 6 ∷ 7 ∷ 8 ∷ 9 ∷ []) 3 tt m)
-puts-nothing x (R.Move a) t m = absurd (miss (0 ∷ 5 ∷ 6 ∷ 7 ∷ 8 ∷ 9 ∷ []) 4 tt m)
-puts-nothing x R.End t m = refl
-puts-nothing x (R.Stamp a) t m = refl
-puts-nothing x (R.Insert a) t m = refl
-puts-nothing x (R.Delete a) t m = refl
-puts-nothing x R.Live t m = refl
-puts-nothing x (R.Signed a b c d) t m = absurd (miss (0 ∷ 5 ∷ 6 ∷ 7 ∷ 8 ∷ 9 ∷ []) 10 tt m)
+puts-nothing x r t m =
+    let o = simp or-no at (other-kinds (2 ∷ 3 ∷ 4 ∷ 5 ∷ 11 ∷ []) r m) in rw (o .0, o .1 .0, o .1 .1 .0, o .1 .1 .1 .0, o .1 .1 .1 .1 .0) refl
 
 -- Stored from the front on, where there is room, is the room filled.
 sets-fill : (new room : List ℕ) → length new ≤ length room → sets room 0 new ≡ fill new room

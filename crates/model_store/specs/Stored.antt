@@ -4,6 +4,7 @@ use mathlib.Core.Bool.{cond}
 use mathlib.Core.List.{List, [], _∷_, map}
 use Prim.Native.Nat.{ℕ, zero, suc, _+_, _-_, _≤_, _<_}
 use lib.ListN.{length, getD, set, replicate}
+use lib.Dec.{eqb}
 use lib.Seq.{sets}
 use Rattle.lists.specs.Lists.{fill}
 use Rattle.rules.specs.Load.{Sofar, inside, started, equationOf, signedOf, readModel}
@@ -24,12 +25,11 @@ use Rattle.model_judge.specs.declared.OneTurn.the-variants as T
 use Rattle.model_judge.specs.declared.ReadModel.{ReadModel}
 use Rattle.rules.specs.Model.{Model, signed, placed}
 use Rattle.rules.specs.Moves.{pack, wrap}
-use Rattle.rules.specs.Records.{Outcome, refused, accepted}
+use Rattle.rules.specs.Records.{field, numbersOf, Outcome, refused, accepted}
 use Rattle.rules.specs.Session.{word}
 use Rattle.rules.specs.declared.Record.{Record}
 use Rattle.rules.specs.declared.Sizes.{Sizes}
 use Rattle.model_chains.specs.Stored.{held}
-use Rattle.rules.specs.declared.Record.the-variants as R
 
 -- The three rooms that a reading fills.
 pub record Stored : Type 0 where
@@ -40,29 +40,21 @@ pub record Stored : Type 0 where
 abbrev pub three : List ℕ → List ℕ → List ℕ → Stored
 three labels equations moves = record { labels = labels; equations = equations; moves = moves }
 
--- What one record does to them: a label with zeros for the states before it, zeros for the states after the last label,
--- an equation, a move. An equation with a sign is stored without its component.
+-- What one record does to them, by its kind k and its numbers a, b, c, d: a label with zeros for the states before it, zeros for the
+-- states after the last label, an equation, a move. An equation with a sign is stored without its component.
+abbrev pub putBy : Sofar → ℕ → ℕ → ℕ → ℕ → ℕ → Stored → Stored
+putBy x k a b c d t =
+    cond (eqb k 2) (three (set (sets (t .labels) (x .labels) (replicate (a - x .labels) 0)) a b) (t .equations) (t .moves))
+    (cond (eqb k 3) (three (sets (t .labels) (x .labels) (replicate (x .sizes .states - x .labels) 0)) (t .equations) (t .moves))
+    (cond (eqb k 4) (three (t .labels) (set (t .equations) (x .blocks .equations) (word (equationOf x a b c))) (t .moves))
+    (cond (eqb k 5) (three (t .labels) (t .equations) (set (t .moves) (x .moves .count) (wrap (pack a b c))))
+    (cond (eqb k 11)
+    (three (sets (t .labels) (x .labels) (replicate (x .sizes .states - x .labels) 0)) (set (t .equations) (x .blocks .equations) (word (signedOf a b c d))) (t .moves))
+    t))))
+
 unfoldable pub putRooms : Sofar → Record → Stored → Stored
-putRooms x (R.Sizes z) t = t
-putRooms x (R.Label s v) t =
-    record { labels = set (sets (t .labels) (x .labels) (replicate (s .0 - x .labels) 0)) (s .0) v; equations = t .equations; moves = t .moves }
-putRooms x (R.Block k n) t =
-    record { labels = sets (t .labels) (x .labels) (replicate (x .sizes .states - x .labels) 0); equations = t .equations; moves = t .moves }
-putRooms x (R.Equation o a b) t =
-    record { labels = t .labels; equations = set (t .equations) (x .blocks .equations) (word (equationOf x o a b)); moves = t .moves }
-putRooms x (R.Move m) t =
-    record { labels = t .labels; equations = t .equations; moves = set (t .moves) (x .moves .count) (wrap (pack (m .source .0) (m .action .0) (m .target .0))) }
-putRooms x R.End t = t
-putRooms x (R.Stamp n) t = t
-putRooms x (R.Insert m) t = t
-putRooms x (R.Delete m) t = t
-putRooms x R.Live t = t
-putRooms x (R.Signed k o a b) t =
-    record {
-      labels = sets (t .labels) (x .labels) (replicate (x .sizes .states - x .labels) 0);
-      equations = set (t .equations) (x .blocks .equations) (word (signedOf k o a b));
-      moves = t .moves;
-    }
+putRooms x r t =
+    putBy x (numbersOf r .kind) (field (numbersOf r) 0) (field (numbersOf r) 1) (field (numbersOf r) 2) (field (numbersOf r) 3) t
 
 -- What the record of a turn does to them, after what the turn before it had read.
 abbrev pub putTurn : OneTurn → OneTurn → Stored → Stored

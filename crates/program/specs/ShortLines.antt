@@ -5,9 +5,9 @@ use mathlib.Core.Bool.{Bool, true, _&&_}
 use mathlib.Core.List.{List, [], _∷_}
 use Prim.Native.Nat.{ℕ, zero, suc, _+_, _≤_, _<_}
 use native.Mathlib.Omega.{arith}
-use lib.Dec.{ltb, leb}
+use lib.Dec.{leb}
 use lib.ListN.{length}
-use Rattle.lists.specs.Tests.{tell, and-left, ltb-is, all-at}
+use Rattle.lists.specs.Tests.{tell, and-left}
 use Rattle.rules.specs.Limits.{sizesOk}
 use Rattle.rules.specs.Model.{Model}
 use Rattle.rules.specs.Records.{Rec, widths, known, bodyOf, bytes, bytesOf, Parts, ends, broken, part, partsFrom, parts, Outcome, refused, accepted, Turn, no, back, next, over, onto, atEnd, onTurn, run}
@@ -20,7 +20,8 @@ use Rattle.rules.specs.Calls.{asked, andThen, loadBy, load, judged, batchBy, ba
 use Rattle.rules.specs.declared.Session.{Session}
 use Rattle.rules.specs.declared.Sizes.{Sizes}
 use Rattle.laws.specs.bytes.RecordLaws.{AreBytes}
-use Rattle.laws.specs.demands.Refusals.{numbers, paper, Told, load-told, batch-told}
+use Rattle.laws.specs.refusals.Numbered.{paper-few}
+use Rattle.laws.specs.demands.Refusals.{Told, load-told, batch-told}
 use Rattle.laws.specs.bytes.BatchReads.{read-batch-spelling}
 use Rattle.laws.specs.bytes.ReadSpells.{read-spelling}
 use Rattle.program_lines.specs.Lengths.{refused-few}
@@ -137,10 +138,6 @@ short-judged s l w y h =
           let ok = and-left (sizesOk (s .sizes)) _ t in
           asked-short (sessionDemands lentOk s l) _ (then-short (readBatch (s .sizes) w) (judge s (length (l .moves)) (held s l .moves)) (short-batch (s .sizes) w ok y h))
     ]
-
--- The paper's numbers have at most two digits.
-paper-few : (n : ℕ) → paper n ≡ true → n < 100
-paper-few n h = ltb-is n 100 .0 (all-at (λ k. ltb k 100) numbers n refl h)
 
 -- A short refusal is printed in 16 bytes: of a batch, and of a load.
 module _ (s : Session) (l : Rooms) where

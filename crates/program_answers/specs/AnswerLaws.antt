@@ -14,6 +14,7 @@ use Rattle.rules.specs.declared.Refusal.{Refusal}
 use Rattle.rules.specs.declared.Report.{Report}
 use Rattle.rules.specs.declared.Session.{Session}
 use Rattle.rules.specs.declared.Sizes.{Sizes}
+use Rattle.laws.specs.refusals.Numbered.{number-few}
 use Rattle.model_write.specs.Spelled.{Wrote}
 use Rattle.program_lines.specs.Lines.{loadedLine, batchLine, refusedLine}
 use Rattle.program_lines.specs.Lengths.{loaded-few, batch-few, refused-few}
@@ -34,9 +35,10 @@ pairs-few z f g =
 -- A line that was written with the numbers that the code has.
 module _ (out after : List ℕ) (at r : ℕ) where
   -- A refusal's line.
-  pub refusal-wrote : (why : Refusal) (k place : ℕ) → k ≡ numberOf why → k ≤ 16 → place < 18446744073709551616 → Wrote out at (refusedLine k place) after r
+  pub refusal-wrote : (why : Refusal) (k place : ℕ) → k ≡ numberOf why → place < 18446744073709551616 → Wrote out at (refusedLine k place) after r
       → Line out at (refusedLine (numberOf why) place) after r
-  refusal-wrote why k place e h p w =
+  refusal-wrote why k place e p w =
+      let h = number-few why in
       let l = refused-few k place 20 (omega arith) (omega arith) (omega arith) in
       (rw e at w, omega (arith, w .1))
 

@@ -1,38 +1,19 @@
 -- The cut, record by record, and what is left after it. Assumes nothing.
 use mathlib.Core.Path.{_≡_, refl, sym, ap, _∙_}
 use mathlib.Core.Logic.{inl, inr}
-use mathlib.Core.Bool.{true, false, cond, _&&_}
+use mathlib.Core.Bool.{true, cond, _&&_}
 use mathlib.Core.List.{List, [], _∷_}
 use Prim.Native.Nat.{ℕ, zero, suc, _+_, _-_, _≤_, _<_}
 use native.Mathlib.Omega.{arith}
-use types.Run.{OneOf, miss}
-use denote.Enum.Declared.{tagOf}
 use lib.Dec.{eqb, ltb, leb}
 use lib.ListN.{length, take, drop, length-drop}
 use Rattle.lists.specs.Tests.{tell}
-use Rattle.rules.proofs.Record.{the-type}
 use Rattle.rules.specs.Records.{partsFrom, numbersOf, known, bodyOf, widths}
-use Rattle.rules.specs.declared.Record.{Record}
-use Rattle.rules.specs.declared.Record.the-variants as R
 use Rattle.bytes_read.specs.PartsAt.{partsAt, PartsBy, parts-at}
 use Rattle.bytes_read.specs.Places.{recordAt}
 use Rattle.bytes_read.specs.declared.Read.{Read}
 use Rattle.bytes_read.specs.declared.Read.the-variants.{Got, Broken}
 use Rattle.program_cut.specs.Cut.{endAfter, cut, pieces, allPieces}
-
--- Every record but the end record has another kind.
-pub no-end : (r : Record) → OneOf (0 ∷ 1 ∷ 2 ∷ 3 ∷ 4 ∷ 6 ∷ 7 ∷ 8 ∷ 9 ∷ 10 ∷ []) (tagOf the-type r) → eqb (numbersOf r .kind) 6 ≡ false
-no-end (R.Sizes a) m = refl
-no-end (R.Label a b) m = refl
-no-end (R.Block a b) m = refl
-no-end (R.Equation a b d) m = refl
-no-end (R.Move a) m = refl
-no-end R.End m = absurd (miss (0 ∷ 1 ∷ 2 ∷ 3 ∷ 4 ∷ 6 ∷ 7 ∷ 8 ∷ 9 ∷ 10 ∷ []) 5 tt m)
-no-end (R.Stamp a) m = refl
-no-end (R.Insert a) m = refl
-no-end (R.Delete a) m = refl
-no-end R.Live m = refl
-no-end (R.Signed a b d e) m = refl
 
 -- Where the part ends that is being read at a place.
 unfoldable pub endFrom : List ℕ → ℕ → ℕ

@@ -15,21 +15,23 @@ use Rattle.rules.specs.declared.Written.the-variants as W
 use Rattle.rules.specs.declared.Asked.{Asked}
 use Rattle.rules.specs.declared.Asked.the-variants as A
 
+-- The refusals: of each its name, the paper's number, and what it says. All that lists refusals or their numbers follows from this
+-- table.
 abbrev pub numberOf : Refusal → ℕ
-numberOf Why.Broken = 1
-numberOf Why.NotDue = 2
-numberOf Why.BadSize = 3
-numberOf Why.BadNumber = 4
-numberOf Why.Tangled = 5
-numberOf Why.OutOfOrder = 6
-numberOf Why.Present = 7
-numberOf Why.Absent = 8
-numberOf Why.NamedTwice = 9
-numberOf Why.Full = 10
-numberOf Why.WrongStamp = 11
-numberOf Why.NotAModel = 12
-numberOf Why.ShortRoom = 13
-numberOf Why.Hangs = 16
+numberOf Why.Broken = 1  -- an unknown kind of record, or the bytes end inside a record or before the end record
+numberOf Why.NotDue = 2  -- a known kind where it is not due; any byte after the end record
+numberOf Why.BadSize = 3  -- a size outside its limits, a block with a wrong number of variables, a 65th change
+numberOf Why.BadNumber = 4  -- a number not below its count, an unknown operator or sign, an unused byte not 0, an empty or too high set
+numberOf Why.Tangled = 5  -- an equation names a variable of a later block, or lies on a closed chain that holds both signs
+numberOf Why.OutOfOrder = 6  -- a label or a move not strictly after the one before
+numberOf Why.Present = 7  -- insert of a move that is present
+numberOf Why.Absent = 8  -- delete of a move that is absent
+numberOf Why.NamedTwice = 9  -- a batch names one move twice
+numberOf Why.Full = 10  -- more moves than 1,024 or than the move room holds
+numberOf Why.WrongStamp = 11  -- the batch's stamp is not the table's
+numberOf Why.NotAModel = 12  -- the session is no model that load accepts, or holds a value over 1, a mark over 3 or a wrong stamp
+numberOf Why.ShortRoom = 13  -- a room is shorter than the sizes need
+numberOf Why.Hangs = 16  -- a live model in which some state has no move
 
 -- What each answer says.
 abbrev pub loadedSays : Loaded → Outcome Session

@@ -3,34 +3,46 @@ use mathlib.Core.Bool.{Bool, cond, _&&_}
 use mathlib.Core.List.{List, [], _∷_, _++_}
 use Prim.Native.Nat.{ℕ, zero, suc, _+_, _-_, _*_, _/_, _%_}
 use lib.ListN.{length, getD, drop}
-use lib.Dec.{ltb, leb}
-use Rattle.lists.specs.Lists.{sumOf}
+use lib.Dec.{eqb, leb}
+use Rattle.lists.specs.Lists.{elem, sumOf}
 use Rattle.rules.specs.declared.Move.{Move}
 use Rattle.rules.specs.declared.Record.{Record}
 use Rattle.rules.specs.declared.Record.the-variants as R
 
--- The numbers of a body, each by its width in bytes, for the kinds 0 to 11. There is no kind 0.
-abbrev pub bodies : List (List ℕ)
+-- The kinds of record: of each its number, and the numbers of its body, each by its width in bytes. Which kinds are known, and how
+-- long their bodies are, follows from this table.
+abbrev pub bodies : List (ℕ × List ℕ)
 bodies =
-    []
-    ∷ (2 ∷ 1 ∷ 1 ∷ 1 ∷ 1 ∷ [])
-    ∷ (2 ∷ 4 ∷ [])
-    ∷ (1 ∷ 1 ∷ [])
-    ∷ (1 ∷ 1 ∷ 1 ∷ [])
-    ∷ (2 ∷ 1 ∷ 2 ∷ [])
+    (1, 2 ∷ 1 ∷ 1 ∷ 1 ∷ 1 ∷ [])  -- sizes: states, actions, propositions, variables, blocks
+    ∷ (2, 2 ∷ 4 ∷ [])  -- label: state, set of propositions
+    ∷ (3, 1 ∷ 1 ∷ [])  -- block: kind of block, number of variables
+    ∷ (4, 1 ∷ 1 ∷ 1 ∷ [])  -- equation: operator, first, second
+    ∷ (5, 2 ∷ 1 ∷ 2 ∷ [])  -- move: source, action, target
+    ∷ (6, [])  -- end
+    ∷ (7, 4 ∷ [])  -- stamp: of the moves that a batch is for
+    ∷ (8, 2 ∷ 1 ∷ 2 ∷ [])  -- insert: source, action, target
+    ∷ (9, 2 ∷ 1 ∷ 2 ∷ [])  -- delete: source, action, target
+    ∷ (10, [])  -- the model is live
+    ∷ (11, 1 ∷ 1 ∷ 1 ∷ 1 ∷ [])  -- equation with a sign: sign, operator, first, second
     ∷ []
-    ∷ (4 ∷ [])
-    ∷ (2 ∷ 1 ∷ 2 ∷ [])
-    ∷ (2 ∷ 1 ∷ 2 ∷ [])
-    ∷ []
-    ∷ (1 ∷ 1 ∷ 1 ∷ 1 ∷ [])
-    ∷ []
+
+-- The numbers of the kinds in a table, and the body of a kind: the first that has its number, none where none has.
+abbrev kindsIn : List (ℕ × List ℕ) → List ℕ
+kindsIn [] = []
+kindsIn (b ∷ bs) = b .0 ∷ kindsIn bs
+
+abbrev bodyIn : List (ℕ × List ℕ) → ℕ → List ℕ
+bodyIn [] k = []
+bodyIn (b ∷ bs) k = cond (eqb k (b .0)) (b .1) (bodyIn bs k)
+
+abbrev pub kinds : List ℕ
+kinds = kindsIn bodies
 
 unfoldable pub widths : ℕ → List ℕ
-widths k = getD bodies k []
+widths k = bodyIn bodies k
 
 abbrev pub known : ℕ → Bool
-known k = ltb 0 k && ltb k 12
+known k = elem k kinds
 
 -- The length of a body.
 abbrev pub bodyOf : List ℕ → ℕ

@@ -1,3 +1,5 @@
+-- The machine on lists, as code has it: places that are sought, rows that are looked at at once, loops; last, that a run on lists is a run
+-- of the machine.
 pub mod ListMachine
 pub mod Seeks
 pub mod ListUnits

@@ -1,3 +1,5 @@
+-- The step machine that moves the values, by one look or one turn at a time; last, that it ends where the rule does, for an update and
+-- for a load.
 pub mod Worklist
 pub mod WorklistEnds
 pub mod Machine

@@ -1,3 +1,4 @@
+-- An update cut anywhere: what a run keeps of any lists, and that a queue may be filled again from values and marks.
 pub mod Queues
 pub mod AnyRuns
 pub mod Fair

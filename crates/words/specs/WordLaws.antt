@@ -31,6 +31,10 @@ pub words-unwords : (l : List ℕ) → map word (map unword l) ≡ l
 words-unwords [] = refl
 words-unwords (w ∷ l) = ap₂ (λ (x : ℕ) (t : List ℕ). x ∷ t) (word-unword w) (words-unwords l)
 
+-- The kind in a word is 0 or 1.
+pub kind-small : (w : ℕ) → unword w .kind ≤ 1
+kind-small w = omega arith
+
 -- An equation of bytes is the one that its word holds.
 pub unword-word : (e : Equation) → e .operator < 256 → e .first < 256 → e .second < 256 → e .kind ≤ 1 → unword (word e) ≡ e
 unword-word e a b c d =

@@ -27,8 +27,8 @@ pub struct State(pub u16);
 #[derive(Clone, Copy, Debug, PartialEq, Eq)]
 pub struct Variable(pub u8);
 
-/// Why a call was refused: the number, 1 to 13 or 16, as embed/huepaxochi.h tells them, and the place in the bytes. The header
-/// also says how to find the state that has no move after a refusal with 16.
+/// Why a call was refused: the number, as embed/huepaxochi.h tells them, and the place in the bytes. The header also says how to
+/// find the state that has no move after a refusal with 16.
 #[derive(Clone, Copy, Debug, PartialEq, Eq)]
 pub struct Refusal {
     pub number: u32,

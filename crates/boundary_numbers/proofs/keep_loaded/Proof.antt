@@ -20,7 +20,7 @@ keep-session-requires : tie.Need-keep-session-requires
 keep-session-requires c κs = search needs
 
 returns : tie.Need-returns
-returns c = (rw (c .before .before .before .found .given .1, c .pack .ensures, c .before .number-of .ensures .0) refl, rw (c .before .before .before .found .given .1) refl)
+returns c = (rw (c .before .before .before .found .given .1, c .pack .ensures, c .before .number-of .ensures) refl, rw (c .before .before .before .found .given .1) refl)
 
 same-length : tie.Need-same-length
 same-length c = search needs

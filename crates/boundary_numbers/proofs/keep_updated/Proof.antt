@@ -23,7 +23,7 @@ keep-report-requires : tie.Need-keep-report-requires
 keep-report-requires c κs = search needs
 
 returns : tie.Need-returns
-returns c = (rw (c .before .before .before .found .given .1, c .pack .ensures, c .before .number-of .ensures .0) refl, rw (c .before .before .before .found .given .1) refl, rw (c .before .before .before .found .given .1) refl)
+returns c = (rw (c .before .before .before .found .given .1, c .pack .ensures, c .before .number-of .ensures) refl, rw (c .before .before .before .found .given .1) refl, rw (c .before .before .before .found .given .1) refl)
 
 same-length : tie.Need-same-length
 same-length c = search needs

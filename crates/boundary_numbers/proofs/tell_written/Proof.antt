@@ -20,7 +20,7 @@ pack-requires-2 : tie.Need-pack-requires-2
 pack-requires-2 c κs = search needs
 
 returns : tie.Need-returns
-returns c = rw (c .before .before .before .found .given .1, c .pack .ensures, c .before .number-of .ensures .0) refl
+returns c = rw (c .before .before .before .found .given .1, c .pack .ensures, c .before .number-of .ensures) refl
 
 returns-2 : tie.Need-returns-2
 returns-2 c = rw (c .before .before .found2 .given .1, c .pack2 .ensures) refl

@@ -3,93 +3,94 @@ use mathlib.Core.Path.{ap}
 use native.Mathlib.Omega.{arith}
 use borrow.Author.Tests.{ne-eqb}
 use borrow.Author.Needs.{needs}
+use Rattle.rules.specs.Records.{widths}
 use Rattle.bytes_read.specs.Places.{bodyLen, recordOf}
 use Rattle.bytes_read.proofs.body_at.Statement.{statement}
 use Rattle.bytes_read.proofs.body_at.Tie as tie
 
 sizes-at-requires : tie.Need-sizes-at-requires
-unfolding bodyLen
+unfolding bodyLen widths
 sizes-at-requires c κs = omega (arith, ap bodyLen (c .match .keys1))
 
 u16-at-requires : tie.Need-u16-at-requires
-unfolding bodyLen
+unfolding bodyLen widths
 u16-at-requires c κs = omega (arith, ap bodyLen (c .match .keys2))
 
 add-u32-at : tie.Need-add-u32-at
 add-u32-at c = search needs
 
 u32-at-requires : tie.Need-u32-at-requires
-unfolding bodyLen
+unfolding bodyLen widths
 u32-at-requires c κs = omega (arith, ap bodyLen (c .before .match .keys2))
 
 shared-slice-read-t11 : tie.Need-shared-slice-read-t11
-unfolding bodyLen
+unfolding bodyLen widths
 shared-slice-read-t11 c = omega (arith, ap bodyLen (c .before .match .keys3))
 
 add-t12 : tie.Need-add-t12
 add-t12 c = search needs
 
 shared-slice-read-t14 : tie.Need-shared-slice-read-t14
-unfolding bodyLen
+unfolding bodyLen widths
 shared-slice-read-t14 c = omega (arith, ap bodyLen (c .before .before .match .keys3))
 
 shared-slice-read-t16 : tie.Need-shared-slice-read-t16
-unfolding bodyLen
+unfolding bodyLen widths
 shared-slice-read-t16 c = omega (arith, ap bodyLen (c .before .match .keys4))
 
 add-t17 : tie.Need-add-t17
 add-t17 c = search needs
 
 shared-slice-read-t19 : tie.Need-shared-slice-read-t19
-unfolding bodyLen
+unfolding bodyLen widths
 shared-slice-read-t19 c = omega (arith, ap bodyLen (c .before .before .match .keys4))
 
 add-t20 : tie.Need-add-t20
 add-t20 c = search needs
 
 shared-slice-read-t22 : tie.Need-shared-slice-read-t22
-unfolding bodyLen
+unfolding bodyLen widths
 shared-slice-read-t22 c = omega (arith, ap bodyLen (c .before .before .before .match .keys4))
 
 move-at-requires : tie.Need-move-at-requires
-unfolding bodyLen
+unfolding bodyLen widths
 move-at-requires c κs = omega (arith, ap bodyLen (c .match .keys5))
 
 u32-at-requires-2 : tie.Need-u32-at-requires-2
-unfolding bodyLen
+unfolding bodyLen widths
 u32-at-requires-2 c κs = omega (arith, ap bodyLen (c .match .keys6))
 
 move-at-requires-2 : tie.Need-move-at-requires-2
-unfolding bodyLen
+unfolding bodyLen widths
 move-at-requires-2 c κs = omega (arith, ap bodyLen (c .match .keys7))
 
 move-at-requires-3 : tie.Need-move-at-requires-3
-unfolding bodyLen
+unfolding bodyLen widths
 move-at-requires-3 c κs = omega (arith, ap bodyLen (c .match .keys8))
 
 shared-slice-read-t28 : tie.Need-shared-slice-read-t28
-unfolding bodyLen
+unfolding bodyLen widths
 shared-slice-read-t28 c = omega (arith, ap bodyLen (c .before .match .keys10))
 
 add-t29 : tie.Need-add-t29
 add-t29 c = search needs
 
 shared-slice-read-t31 : tie.Need-shared-slice-read-t31
-unfolding bodyLen
+unfolding bodyLen widths
 shared-slice-read-t31 c = omega (arith, ap bodyLen (c .before .before .match .keys10))
 
 add-t32 : tie.Need-add-t32
 add-t32 c = search needs
 
 shared-slice-read-t34 : tie.Need-shared-slice-read-t34
-unfolding bodyLen
+unfolding bodyLen widths
 shared-slice-read-t34 c = omega (arith, ap bodyLen (c .before .before .before .match .keys10))
 
 add-t35 : tie.Need-add-t35
 add-t35 c = search needs
 
 shared-slice-read-t37 : tie.Need-shared-slice-read-t37
-unfolding bodyLen
+unfolding bodyLen widths
 shared-slice-read-t37 c = omega (arith, ap bodyLen (c .before .before .before .before .match .keys10))
 
 returns : tie.Need-returns

@@ -1,11 +1,14 @@
 -- An action times a number of two bytes, and a target more, fit. Assumes nothing.
-use Prim.Native.Nat.{_*_, _≤_}
+use mathlib.Core.Path.{ap₂}
+use Prim.Native.Nat.{ℕ, _+_, _*_, _≤_}
 use native.Mathlib.Nat.{mul-le-mul}
 use native.Mathlib.Omega.{arith}
-use Rattle.rules.specs.Moves.{action}
 use borrow.Author.Needs.{needs}
 use Rattle.engine_index.proofs.key_of.Statement.{statement}
 use Rattle.engine_index.proofs.key_of.Tie as tie
+
+action-of-requires : tie.Need-action-of-requires
+action-of-requires c κs = search needs
 
 cast-result : tie.Need-cast-result
 cast-result c = search needs
@@ -15,22 +18,28 @@ cast-result-2 c = search needs
 
 mul-result : tie.Need-mul-result
 mul-result c =
-    let a = c .before .args in
-    let h : action (a .m) * a .sizes .states ≤ 64 * 65536 = mul-le-mul {n₂ = 64} {m₂ = 65536} (omega arith) (omega arith) in
+    let at-action = c .before .before in
+    let h : at-action .action-of .result .0 * at-action .before .args .sizes .states ≤ 256 * 65536 = mul-le-mul {n₂ = 256} {m₂ = 65536} (omega arith) (omega arith) in
     omega arith
+
+target-of-requires : tie.Need-target-of-requires
+target-of-requires c κs = search needs
 
 cast-result-3 : tie.Need-cast-result-3
 cast-result-3 c = search needs
 
 add-result : tie.Need-add-result
 add-result c =
-    let a = c .before .args in
-    let h : action (a .m) * a .sizes .states ≤ 64 * 65536 = mul-le-mul {n₂ = 64} {m₂ = 65536} (omega arith) (omega arith) in
+    let at-action = c .before .before .before .before in
+    let h : at-action .action-of .result .0 * at-action .before .args .sizes .states ≤ 256 * 65536 = mul-le-mul {n₂ = 256} {m₂ = 65536} (omega arith) (omega arith) in
     omega arith
 
 returns : tie.Need-returns
-returns c = search needs
+returns c =
+    let at-target = c .before in
+    let at-action = at-target .before .before .before in
+    ap₂ (λ (k t : ℕ). k * at-action .before .args .sizes .states + t) (at-action .action-of .ensures) (at-target .target-of .ensures)
 
 pub key-of-spec : {M : Type 1} → statement M
 key-of-spec =
-    tie.close (tie.spec cast-result cast-result-2 mul-result cast-result-3 add-result returns)
+    tie.close (tie.spec action-of-requires cast-result cast-result-2 mul-result target-of-requires cast-result-3 add-result returns)

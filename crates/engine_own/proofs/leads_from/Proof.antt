@@ -1,10 +1,11 @@
 -- The moves at `low` and after it, before `high`, lead to no pair of x with the value; each turn adds one at either side that is not
 -- over. The measure is what is left at both sides. Assumes nothing.
-use mathlib.Core.Path.{sym}
-use Prim.Native.Nat.{_+_, _-_}
+use mathlib.Core.Path.{_≡_, sym, ap, _∙_}
+use Prim.Native.Nat.{ℕ, _+_, _-_}
 use native.Mathlib.Omega.{arith}
-use lib.ListN.{length}
-use Rattle.engine_own.specs.Looks.{reaches}
+use lib.ListN.{length, getD}
+use Rattle.words.specs.Words.{ownOf}
+use Rattle.engine_own.specs.Looks.{reaches, saysAt, saysBefore}
 use Rattle.engine_own.specs.Outwards.{Passed, Further, passed-none, found-above, found-below, answers-low, none-found, goes-on}
 use borrow.Author.Needs.{needs}
 use Rattle.engine_own.proofs.leads_from.Statement.{statement}
@@ -18,24 +19,46 @@ abbrev μ-loop : tie.MeasureT-loop
 
 -- The points of the program: from what is known at a later one to what was known at an earlier one.
 abbrev start-before-loop : tie.At-loop Inv-loop μ-loop → tie.Start Inv-loop μ-loop
-start-before-loop c = c .before .before .before .before
+start-before-loop c = c .before .before .before .before .before
 
 abbrev loop-before-else : tie.Else2 Inv-loop μ-loop → tie.At-loop Inv-loop μ-loop
 loop-before-else c = c .before .before .before .before
 
-mul-part : tie.Need-mul-part Inv-loop μ-loop
-mul-part c =
+-- What is looked at is the part of the move at j.
+told-up : (c : tie.After-look-up Inv-loop μ-loop) →
+    let at-loop = c .before in
+    let a = start-before-loop at-loop .args in
+    c .look-up .result ≡ saysAt (reaches (a .sizes) (a .values .now) (a .from) (a .x .0)) (a .moves .now) (ownOf (getD (a .moves .now) (a .j) 0)) (at-loop .loop .high)
+told-up c =
+    let at-loop = c .before in
+    let a = start-before-loop at-loop .args in
+    c .look-up .ensures ∙ ap (λ (p : ℕ). saysAt (reaches (a .sizes) (a .values .now) (a .from) (a .x .0)) (a .moves .now) p (at-loop .loop .high)) (at-loop .before .own-of .ensures)
+
+told-down : (c : tie.After-look-down Inv-loop μ-loop) →
+    let at-loop = c .before .before .before in
+    let a = start-before-loop at-loop .args in
+    c .look-down .result ≡ saysBefore (reaches (a .sizes) (a .values .now) (a .from) (a .x .0)) (a .moves .now) (ownOf (getD (a .moves .now) (a .j) 0)) (at-loop .loop .low)
+told-down c =
+    let at-loop = c .before .before .before in
+    let a = start-before-loop at-loop .args in
+    c .look-down .ensures ∙ ap (λ (p : ℕ). saysBefore (reaches (a .sizes) (a .values .now) (a .from) (a .x .0)) (a .moves .now) p (at-loop .loop .low)) (at-loop .before .own-of .ensures)
+
+mul-own-of : tie.Need-mul-own-of Inv-loop μ-loop
+mul-own-of c =
     let at-start = c .before .before in
     omega (arith, at-start .pre .0 .1 .0)
 
-shared-slice-read-part : tie.Need-shared-slice-read-part Inv-loop μ-loop
-shared-slice-read-part c =
+shared-slice-read-own-of : tie.Need-shared-slice-read-own-of Inv-loop μ-loop
+shared-slice-read-own-of c =
     let at-start = c .before .before .before in
     omega (arith, at-start .pre .0 .1 .0)
 
+own-of-requires : tie.Need-own-of-requires Inv-loop μ-loop
+own-of-requires c κs = search needs
+
 loop-holds : tie.Need-loop-holds Inv-loop μ-loop
 loop-holds c =
-    let at-start = c .before .before .before in
+    let at-start = c .before .before .before .before in
     let a = at-start .args in
     passed-none (reaches (a .sizes) (a .values .now) (a .from) (a .x .0)) (a .moves .now) (a .j) (at-start .pre .0 .1 .0)
 
@@ -50,7 +73,7 @@ returns c =
     let at-look-up = c .before in
     let at-loop = c .before .before in
     let at-start = start-before-loop at-loop in
-    sym (found-above (at-start .pre .1 .1) (at-loop .loop .inv) (at-look-up .look-up .ensures) (c .if1 .taken))
+    sym (found-above (at-start .pre .1 .1) (at-loop .loop .inv) (told-up at-look-up) (c .if1 .taken))
 
 look-down-requires : tie.Need-look-down-requires Inv-loop μ-loop
 look-down-requires c κs =
@@ -65,7 +88,7 @@ returns-2 c =
     let at-look-down = c .before in
     let at-loop = c .before .before .before .before in
     let at-start = start-before-loop at-loop in
-    sym (found-below (at-start .pre .1 .1) (at-loop .loop .inv) (at-look-down .look-down .ensures) (c .if2 .taken))
+    sym (found-below (at-start .pre .1 .1) (at-loop .loop .inv) (told-down at-look-down) (c .if2 .taken))
 
 add-told : tie.Need-add-told Inv-loop μ-loop
 add-told c =
@@ -74,8 +97,8 @@ add-told c =
     let at-look-up = c .before .before .before in
     let at-loop = loop-before-else c in
     let at-start = start-before-loop at-loop in
-    let u = at-look-up .look-up .ensures in
-    let d = at-look-down .look-down .ensures in
+    let u = told-up at-look-up in
+    let d = told-down at-look-down in
     let l = answers-low (at-start .pre .1 .1) (at-loop .loop .inv) u d (at-first .if1 .left) (c .if2 .left) in
     omega arith
 
@@ -87,7 +110,7 @@ returns-3 c =
     let at-look-up = c .before .before .before .before in
     let at-loop = loop-before-else at-second in
     let at-start = start-before-loop at-loop in
-    sym (none-found (at-start .pre .1 .1) (at-loop .loop .inv) (at-look-up .look-up .ensures) (at-look-down .look-down .ensures)
+    sym (none-found (at-start .pre .1 .1) (at-loop .loop .inv) (told-up at-look-up) (told-down at-look-down)
     (at-first .if1 .left) (at-second .if2 .left) (c .if3 .taken))
 
 -- What two answers tell where the look goes on.
@@ -109,7 +132,7 @@ further c =
     let at-look-up = c .before .before .before .before in
     let at-loop = loop-before-else at-second in
     let at-start = start-before-loop at-loop in
-    goes-on (at-start .pre .1 .1) (at-loop .loop .inv) (at-look-up .look-up .ensures) (at-look-down .look-down .ensures)
+    goes-on (at-start .pre .1 .1) (at-loop .loop .inv) (told-up at-look-up) (told-down at-look-down)
     (at-first .if1 .left) (at-second .if2 .left) (c .if3 .left)
 
 cast-high : tie.Need-cast-high Inv-loop μ-loop
@@ -136,8 +159,9 @@ leads-from-spec =
     (tie.spec
     Inv-loop
     μ-loop
-    mul-part
-    shared-slice-read-part
+    mul-own-of
+    shared-slice-read-own-of
+    own-of-requires
     loop-holds
     look-up-requires
     returns

@@ -33,7 +33,7 @@ returns c =
     c .byte-at .ensures
     ∙ ap (λ (p : ℕ). getD (a .values .now) p 0)
     (at-pair .pair-of .ensures
-    ∙ ap₂ {C = ℕ} (λ (x s : ℕ). x * a .sizes .states + s) (at-variable .variable-of .ensures ∙ ap (λ variableIn ((n : ℕ). n)) w) (at-state .state-of .ensures ∙ ap (λ stateIn ((n : ℕ). n)) w))
+    ∙ ap₂ {C = ℕ} (λ (x s : ℕ). x * a .sizes .states + s) (at-variable .variable-of .ensures ∙ ap variableIn w) (at-state .state-of .ensures ∙ ap stateIn w))
 
 pub first-value-spec : {M : Type 1} → statement M
 first-value-spec =

@@ -1,8 +1,9 @@
 -- The row is told, and put where pairs must turn. Assumes nothing.
-use mathlib.Core.Path.{_≡_, refl, sym, ap, _∙_}
+use mathlib.Core.Path.{_≡_, refl, sym, ap, _∙_, subst}
 use mathlib.Core.Bool.{true, not}
-use Prim.Native.Nat.{ℕ}
+use Prim.Native.Nat.{ℕ, _≤_}
 use lib.Dec.{eqb}
+use Rattle.words.specs.WordLaws.{kind-small}
 use Rattle.rules.specs.declared.Equation.{Equation}
 use Rattle.lists.specs.Lists.{bit}
 use Rattle.lists.specs.Tests.{not-out, not-not}
@@ -118,7 +119,9 @@ returns c =
     (not-out (at-tell .tell-row .result) (c .if1 .taken)) (pre .1 .1 .1 .0 .0)
 
 turns-from-requires : tie.Need-turns-from-requires
-turns-from-requires c κs = search needs
+turns-from-requires c κs =
+    let at-equation = equation-in-before-tell-row (c .before .before .before) in
+    subst (λ (e : Equation). e .kind ≤ 1) (sym (at-equation .equation-in .ensures)) (kind-small _)
 
 put-row-requires : tie.Need-put-row-requires
 put-row-requires c κs =

@@ -5,7 +5,8 @@ use native.Mathlib.Omega.{arith}
 use lib.ListN.{length}
 use lib.Seq.{length-take-le}
 use lib.Dec.{eqb}
-use Rattle.engine_settle.specs.Rows.{byte-small, decides, asked-labels, asked-proposition, asked-first, asked-second, asked-linked, asked-heads, told-label, told-join, told-step, row-long}
+use Rattle.words.specs.WordLaws.{byte-small}
+use Rattle.engine_settle.specs.Rows.{decides, asked-labels, asked-proposition, asked-first, asked-second, asked-linked, asked-heads, told-label, told-join, told-step, row-long}
 use borrow.Author.Needs.{needs}
 use Rattle.engine_settle.proofs.row_told.Statement.{statement}
 use Rattle.engine_settle.proofs.row_told.Tie as tie

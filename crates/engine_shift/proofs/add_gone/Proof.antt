@@ -2,11 +2,12 @@
 use Prim.Native.Nat.{_+_, _*_, _≤_}
 use native.Mathlib.Nat.{mul-le-mul}
 use native.Mathlib.Omega.{arith}
+use Rattle.engine_index.specs.MovesIndexed.{key-inside}
 use Rattle.lists.specs.Lists.{any}
 use Rattle.engine_index.specs.Indexed.{keyOf}
 use Rattle.engine_shift.specs.Adds.{adds-if, adds-not}
 use Rattle.engine_shift.specs.Seeds.{goneTo}
-use Rattle.engine_shift.specs.Sources.{comesFrom, key-in}
+use Rattle.engine_shift.specs.Sources.{comesFrom}
 use borrow.Author.Needs.{needs}
 use Rattle.engine_shift.proofs.add_gone.Statement.{statement}
 use Rattle.engine_shift.proofs.add_gone.Tie as tie
@@ -44,7 +45,7 @@ add-sources-requires : tie.Need-add-sources-requires
 add-sources-requires c κs =
     let s = c .before .before .before .before .before .before .before .before .before .before .before in
     let a = s .args in
-    (s .pre .0, (key-in (a .sizes) (a .a .0) (a .t) (s .pre .1 .0 .0 .0) (s .pre .1 .0 .0 .1), s .pre .1 .1))
+    (s .pre .0, (key-inside (a .sizes) (a .a .0) (a .t) (s .pre .1 .0 .0 .0) (s .pre .1 .0 .0 .1), s .pre .1 .1))
 
 same-length : tie.Need-same-length
 same-length c = search needs

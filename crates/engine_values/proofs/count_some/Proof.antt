@@ -7,8 +7,8 @@ use lib.ListN.{getD}
 use lib.Dec.{eqb}
 use Rattle.rules.specs.Update.{trues}
 use Rattle.rules.specs.Calls.{valueAt}
-use Rattle.engine_values.specs.Starts.{byte-small, trues-more}
-use Rattle.words.specs.WordLaws.{byte-bit}
+use Rattle.engine_values.specs.Starts.{trues-more}
+use Rattle.words.specs.WordLaws.{byte-bit, byte-small}
 use borrow.Author.Needs.{needs}
 use Rattle.engine_values.proofs.count_some.Statement.{statement}
 use Rattle.engine_values.proofs.count_some.Tie as tie

@@ -3,14 +3,14 @@ use mathlib.Core.Path.{_≡_, refl, sym, ap, _∙_}
 use mathlib.Core.Logic.{_↔_, inl, inr}
 use mathlib.Core.Bool.{true, cond}
 use mathlib.Core.List.{List, [], _∷_, _++_}
-use Prim.Native.Nat.{ℕ, zero, suc, _+_, _*_, _/_, _≤_}
+use Prim.Native.Nat.{ℕ, zero, suc, _+_, _*_, _/_, _≤_, _<_}
 use native.Mathlib.Omega.{arith}
 use lib.ListN.{length, length-append}
-use lib.Dec.{eqb}
-use Rattle.lists.specs.Tests.{tests, tell, and-is, eqb-is, leb-is}
+use lib.Dec.{eqb, ltb}
+use Rattle.lists.specs.Tests.{tests, tell, and-is, all-at, eqb-is, ltb-is, leb-is}
 use Rattle.rules.specs.Model.{Model, equationsOk, wellFormed, WellFormed, signed, styleOk}
 use Rattle.rules.specs.declared.Equation.{Equation}
-use Rattle.rules.specs.Records.{Rec, widths, digits, writes, bytesOf, accepted}
+use Rattle.rules.specs.Records.{Rec, kinds, known, widths, digits, writes, bytesOf, accepted}
 use Rattle.rules.specs.Rooms.{Lengths, lentOk}
 use Rattle.rules.specs.Load.{readModel}
 use Rattle.rules.specs.Spelling.{liveRecs, labelRecs, equationRecs, signedRecs, styleRecs, moveRecs, records, encode}
@@ -24,29 +24,6 @@ use Rattle.laws.specs.chains.Placed.{signs-out}
 pub read-exact : (l : Lengths) (s : List ℕ) (m : Model) → AreBytes s
     → (readModel l s ≡ accepted m) ↔ (WellFormed m × (encode m ≡ s) × (lentOk l (m .sizes) ≡ true) × (length (m .moves) ≤ l .moves))
 read-exact l s m b = (read-spelling l s m b, λ h. ap (readModel l) (sym (h .1)) ∙ read-accepts l m (h .0) (h .2) (h .3))
-
-bytes-append : (s t : List ℕ) → AreBytes s → AreBytes t → AreBytes (s ++ t)
-bytes-append [] t h k = k
-bytes-append (b ∷ s) t h k = (h .0, bytes-append s t (h .1) k)
-
-bytes-digits : (w n : ℕ) → AreBytes (digits w n)
-bytes-digits zero n = tt
-bytes-digits (suc w) n = (omega arith, bytes-digits w (n / 256))
-
-bytes-writes : (ws fs : List ℕ) → AreBytes (writes ws fs)
-bytes-writes [] fs = tt
-bytes-writes (w ∷ ws) [] = tt
-bytes-writes (w ∷ ws) (f ∷ fs) = bytes-append (digits w f) (writes ws fs) (bytes-digits w f) (bytes-writes ws fs)
-
-bytes-all : (rs : List Rec) → AllWritable rs → AreBytes (bytesOf rs)
-bytes-all [] h = tt
-bytes-all (r ∷ rs) h =
-    let k = simp tests at (h .0 .0) in
-    (omega arith, bytes-append (writes (widths (r .kind)) (r .body)) (bytesOf rs) (bytes-writes (widths (r .kind)) (r .body)) (bytes-all rs (h .1)))
-
--- A spelling is bytes.
-pub encode-bytes : (m : Model) → WellFormed m → AreBytes (encode m)
-encode-bytes m h = bytes-all (records m) (records-w m h)
 
 -- How many bytes records take.
 abbrev pub sizeAll : List Rec → ℕ

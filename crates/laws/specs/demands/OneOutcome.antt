@@ -1,18 +1,13 @@
 -- Exactly one outcome fits the promise of each call: for any input there is an answer of the code's type that says what the
 -- definition says, and no two answers, nor two contents of a room, do. Assumes nothing.
 use mathlib.Core.Path.{_≡_, refl, sym, ap, _∙_}
-use mathlib.Core.Bool.{true}
-use mathlib.Core.List.{List, [], _∷_}
+use mathlib.Core.List.{List}
 use Prim.Native.Nat.{ℕ}
-use lib.ListN.{getD}
-use lib.Dec.{eqb}
-use Rattle.lists.specs.Tests.{eqb-is, all-at}
 use Rattle.rules.specs.Records.{Outcome, refused, accepted}
 use Rattle.rules.specs.Rooms.{Rooms}
 use Rattle.rules.specs.Answers.{numberOf, loadedSays, updatedSays, writtenSays, askedSays}
 use Rattle.rules.specs.Calls.{Left, load, batch, write, ask}
 use Rattle.rules.specs.declared.Refusal.{Refusal}
-use Rattle.rules.specs.declared.Refusal.the-variants as Why
 use Rattle.rules.specs.declared.State.{State}
 use Rattle.rules.specs.declared.Variable.{Variable}
 use Rattle.rules.specs.declared.Session.{Session}
@@ -24,52 +19,8 @@ use Rattle.rules.specs.declared.Written.{Written}
 use Rattle.rules.specs.declared.Written.the-variants as W
 use Rattle.rules.specs.declared.Asked.{Asked}
 use Rattle.rules.specs.declared.Asked.the-variants as A
-use Rattle.laws.specs.demands.Refusals.{numbers, paper, Told, load-told, batch-told, write-told, ask-told}
-
--- The refusal of a number. (There is no number 0, 14 or 15.)
-abbrev refusals : List Refusal
-refusals =
-    Why.Broken
-    ∷ Why.Broken
-    ∷ Why.NotDue
-    ∷ Why.BadSize
-    ∷ Why.BadNumber
-    ∷ Why.Tangled
-    ∷ Why.OutOfOrder
-    ∷ Why.Present
-    ∷ Why.Absent
-    ∷ Why.NamedTwice
-    ∷ Why.Full
-    ∷ Why.WrongStamp
-    ∷ Why.NotAModel
-    ∷ Why.ShortRoom
-    ∷ Why.Broken
-    ∷ Why.Broken
-    ∷ Why.Hangs
-    ∷ []
-
-abbrev refusalOf : ℕ → Refusal
-refusalOf n = getD refusals n Why.Broken
-
-refusal-back : (r : Refusal) → refusalOf (numberOf r) ≡ r
-refusal-back Why.Broken = refl
-refusal-back Why.NotDue = refl
-refusal-back Why.BadSize = refl
-refusal-back Why.BadNumber = refl
-refusal-back Why.Tangled = refl
-refusal-back Why.OutOfOrder = refl
-refusal-back Why.Present = refl
-refusal-back Why.Absent = refl
-refusal-back Why.NamedTwice = refl
-refusal-back Why.Full = refl
-refusal-back Why.WrongStamp = refl
-refusal-back Why.NotAModel = refl
-refusal-back Why.ShortRoom = refl
-refusal-back Why.Hangs = refl
-
--- Each of the paper's numbers is that of its refusal.
-number-back : (n : ℕ) → paper n ≡ true → numberOf (refusalOf n) ≡ n
-number-back n h = eqb-is _ _ .0 (all-at (λ k. eqb (numberOf (refusalOf k)) k) numbers n refl h)
+use Rattle.laws.specs.refusals.Numbered.{refusalOf, refusal-back, number-back}
+use Rattle.laws.specs.demands.Refusals.{Told, load-told, batch-told, write-told, ask-told}
 
 -- An answer type says outcomes: it has a case for refusals, by `no`, and one for what is accepted, by `yes`.
 module _ {E B : Type 0} (says : E → Outcome B) (no : Refusal → ℕ → E) (yes : B → E)

@@ -1,4 +1,4 @@
--- Demand 1: a refusal changes nothing in any room lent, and every refusal has one of the paper's numbers, 1 to 13 and 16.
+-- Demand 1: a refusal changes nothing in any room lent, and every refusal has one of the paper's numbers.
 -- Assumes nothing.
 use mathlib.Core.Path.{_≡_, refl, sym}
 use mathlib.Core.Bool.{Bool, true, false, cond, _&&_}
@@ -10,6 +10,7 @@ use lib.Dec.{eqb, leb}
 use Rattle.lists.specs.Lists.{is, elem, someBelow}
 use Rattle.lists.specs.Tests.{and-left, and-right}
 use Rattle.laws.specs.bytes.RecordLaws.{never}
+use Rattle.laws.specs.refusals.Numbered.{paper}
 use Rattle.rules.specs.Limits.{most-moves}
 use Rattle.rules.specs.Moves.{stampOf}
 use Rattle.rules.specs.Records.{Rec, field, Parts, ends, broken, part, parts, Outcome, refused, accepted, Turn, no, back, next, over, demand, onto, atEnd, onTurn, run}
@@ -52,13 +53,7 @@ refusal-keeps = record {
     by-write m out n p (refused k q) e = refl
     by-write m out n p (accepted k) e = absurd (never (sym e))
 
--- The paper's numbers.
-abbrev pub numbers : List ℕ
-numbers = 1 ∷ 2 ∷ 3 ∷ 4 ∷ 5 ∷ 6 ∷ 7 ∷ 8 ∷ 9 ∷ 10 ∷ 11 ∷ 12 ∷ 13 ∷ 16 ∷ []
-
-abbrev pub paper : ℕ → Bool
-paper n = elem n numbers
-
+-- Each of a list of demands raises a refusal with one of the paper's numbers.
 abbrev papers : List (ℕ × Bool) → Bool
 papers [] = true
 papers (d ∷ ds) = paper (d .0) && papers ds

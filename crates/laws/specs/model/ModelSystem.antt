@@ -11,7 +11,7 @@ use lib.Arith.{digits-div}
 use lib.ListN.{length, getD}
 use lib.Dec.{ltb}
 use Rattle.lists.specs.Lists.{is, any, all}
-use Rattle.lists.specs.Tests.{_∈_, tests, tell, and-is, ltb-in, ltb-out, ltb-no}
+use Rattle.lists.specs.Tests.{_∈_, tests, tell, and-is, ltb-in, ltb-out, ltb-no, and-true, or-false}
 use Rattle.systems.specs.solution.System.{Frame, Fits, ev, eval}
 use Rattle.rules.specs.Moves.{target}
 use Rattle.rules.specs.Model.{Model, equationsOk, moveOk, movesOk, wellFormed, WellFormed, blocksOf}
@@ -41,14 +41,6 @@ frame m = record {
   blocks = blocksOf m;
   great = greatest m;
 }
-
-and-true : (x : Bool) → (x && true) ≡ x
-and-true true = refl
-and-true false = refl
-
-or-false : (x : Bool) → (x || false) ≡ x
-or-false true = refl
-or-false false = refl
 
 some-of : (v : Values) (g : ℕ → ℕ) (l : List ℕ) → any (λ t. v (g t)) l ≡ ev false v (map g l)
 unfolding ev

@@ -7,7 +7,7 @@ use mathlib.Core.List.{List, List·Memᴰ·head, List·Memᴰ·tail, Memᴰ·map
 use Prim.Native.Nat.{ℕ, _<_}
 use native.Mathlib.Omega.{arith}
 use Rattle.lists.specs.Lists.{is, elem}
-use Rattle.lists.specs.Tests.{_∈_, tests, tell, clash, no-way, is-in, is-out, and-in, and-left, and-right, or-left, or-right, or-out, any-in, any-out, elem-in, elem-out}
+use Rattle.lists.specs.Tests.{_∈_, tests, tell, clash, no-way, is-in, is-out, and-in, and-left, and-right, or-left, or-right, or-out, any-in, any-out, elem-in, elem-out, same-test}
 use Rattle.systems.specs.solution.System.{seeds}
 use Rattle.systems.specs.moving.ShiftRule.{Seeds, seeds-in, seeds-out}
 use Rattle.systems.specs.moving.ShiftRule as Sys
@@ -22,12 +22,6 @@ use Rattle.rules.specs.declared.Action.{Action}
 use Rattle.rules.specs.declared.Variable.{Variable}
 use Rattle.laws.specs.moves.Edits.{AllAre, Judged, edited-members}
 use Rattle.laws.specs.model.ModelSystem.{kindBy, frame, leanings-at, targets-in, targets-out, Sound, NamedBy, named-below}
-
--- A test that holds where another does, and only there, is that test.
-pub same-test : (x y : Bool) → (x ≡ true → y ≡ true) → (y ≡ true → x ≡ true) → x ≡ y
-same-test true y f g = sym (f refl)
-same-test false true f g = absurd (true≢false (sym (g refl)))
-same-test false false f g = refl
 
 -- Two moves of one state with one action and one target are one move.
 same-move : (s : State) (a : Action) (q r : ℕ) → own s a q ≡ true → own s a r ≡ true → target q ≡ target r → q ≡ r

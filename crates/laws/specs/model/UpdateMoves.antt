@@ -11,7 +11,7 @@ use lib.Dec.{eqb, ltb}
 use Rattle.lists.specs.Lists.{is, any, bit, count}
 use Rattle.lists.specs.Smallest.{Rule, table, at, smallest}
 use Rattle.lists.specs.Sums.{sum-ext}
-use Rattle.lists.specs.Tests.{_∈_, tests, tell, eqb-out, ltb-out}
+use Rattle.lists.specs.Tests.{_∈_, tests, tell, eqb-out, ltb-out, any-same}
 use Rattle.lists.specs.TableLaws.{table-is, table-at, table-past}
 use Rattle.systems.specs.solution.System.{Frame, Leans, Fits, settled, shifted, moveTo, lifted, move}
 use Rattle.systems.specs.solution.System as S
@@ -30,10 +30,6 @@ use Rattle.laws.specs.chains.Named.{move-range}
 use Rattle.laws.specs.model.ModelSystem.{frame, block-inside, Sound, pair-below, pairs-full, model-fits}
 use Rattle.laws.specs.demands.ValuesSolve.{smallest-past, settles-drops}
 use Rattle.laws.specs.model.Seeds.{delete-old, seeds-same}
-
-any-same : (f g : ℕ → Bool) (l : List ℕ) → ((q : ℕ) → f q ≡ g q) → any f l ≡ any g l
-any-same f g [] h = refl
-any-same f g (q ∷ l) h = ap₂ _||_ (h q) (any-same f g l h)
 
 -- In the model m with its new moves: the values that block i begins with, its shifted set, the values once these pairs have
 -- turned, and its settled set.

@@ -1,7 +1,8 @@
 -- `model_judge::asked` meets its contract. Assumes nothing.
 use mathlib.Core.Path.{refl}
 use native.Mathlib.Omega.{arith}
-use Rattle.model_judge.specs.AskedLaws.{other-case, after-other, after-some, after-last, askable-here}
+use Rattle.laws.specs.bytes.Kinds.{other-kind}
+use Rattle.model_judge.specs.AskedLaws.{after-other, after-some, after-last, askable-here}
 use borrow.Author.Needs.{needs}
 use Rattle.model_judge.proofs.asked.Statement.{statement}
 use Rattle.model_judge.proofs.asked.Tie as tie
@@ -39,7 +40,7 @@ returns-2 c =
     let r = g .0 .0 in
     let y = g .0 .1 .0 in
     let n = g .0 .1 .1 .0 in
-    after-other (at-start .args .bytes .now) (at-start .args .t) r y n (g .1) (other-case r (c .match2 .keys2))
+    after-other (at-start .args .bytes .now) (at-start .args .t) r y n (g .1) (other-kind 11 r (c .match2 .keys2))
 
 cast-if1 : tie.Need-cast-if1
 cast-if1 c = search needs

@@ -22,7 +22,7 @@ returns c =
     let s = c .before .before .before .before .before .before in
     let a = s .args in
     let k = c .before .before .before .before .number-of in
-    refusal-wrote (a .out .now) _ (a .at) _ (a .why) (k .result) (a .place) (k .ensures .0) (k .ensures .1) (omega (arith, s .good)) (c .before .before .put-refused .ensures)
+    refusal-wrote (a .out .now) _ (a .at) _ (a .why) (k .result) (a .place) (k .ensures) (omega (arith, s .good)) (c .before .before .put-refused .ensures)
 
 pub put-refusal-spec : {M : Type 1} → statement M
 put-refusal-spec = tie.close (tie.spec number-of-requires cast-number put-refused-requires same-length returns)

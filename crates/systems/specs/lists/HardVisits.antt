@@ -8,6 +8,7 @@ use native.Mathlib.Omega.{arith}
 use lib.Dec.{eqb}
 use lib.ListN.{length, getD, set}
 use lib.Seq.{getD-set-same}
+use Rattle.lists.specs.TableLaws.{bit-back}
 use Rattle.lists.specs.Lists.{is, bit}
 use Rattle.lists.specs.Tests.{_∈_, not-not}
 use Rattle.systems.specs.solution.System.{Frame, Leans}
@@ -23,10 +24,6 @@ turned-bit x = go (eqb x 1)
     go : (b : Bool) → cond b 0 1 ≡ bit (not b)
     go true = refl
     go false = refl
-
-bit-value : (b : Bool) → eqb (bit b) 1 ≡ b
-bit-value true = refl
-bit-value false = refl
 
 module _ {F : Frame} {c : Job} (t : Turning F c) where
   -- The pair in front.
@@ -44,14 +41,4 @@ module _ {F : Frame} {c : Job} (t : Turning F c) where
   -- That is its value then.
   turn-value : q < length (c .vals) → valOf (set (c .vals) q (turned (getD (c .vals) q 0))) q ≡ cond (c .settling) (not (own F q)) (own F q)
   turn-value l =
-      ap (λ (x : ℕ). eqb x 1) (getD-set-same (c .vals) q (turned (getD (c .vals) q 0)) 0 l ∙ turn-becomes) ∙ bit-value (cond (c .settling) (not (own F q)) (own F q))
-
-  -- While settling, a hard pair that leans on it must turn if it has its block's own value.
-  pub turn-hard : {M : Leans} {on : ℕ → List ℕ} → Finds F M on → length (c .vals) ≡ F .pairs → c .block < F .blocks → c .settling ≡ true → (r : ℕ) → r ∈ on q
-      → F .kind r ≡ own F r → let v = valOf (set (c .vals) q (turned (getD (c .vals) q 0))) in asks F M true v r ≡ is (own F r) (v r)
-  turn-hard {M} {on} finds long b ph r m h =
-      let here = t .here in
-      let o = found-out finds q r (omega arith) m in
-      let v = valOf (set (c .vals) q (turned (getD (c .vals) q 0))) in
-      hard-asks F M v r q h (o .1)
-      (turn-value (let l = t .inside in omega arith) ∙ ap (λ (y : Bool). cond y (not (own F q)) (own F q)) ph ∙ ap (λ (i : ℕ). not (F .great i)) (sym (o .0)))
+      ap (λ (x : ℕ). eqb x 1) (getD-set-same (c .vals) q (turned (getD (c .vals) q 0)) 0 l ∙ turn-becomes) ∙ bit-back (cond (c .settling) (not (own F q)) (own F q))

@@ -110,14 +110,6 @@ module _ {u : Update} {on : ℕ → List ℕ} where
       look-due (w .at) (ap (λ (n : ℕ). todoAt F (c .block) n (c .settling) (c .place)) k
       ∙ seek-here F (c .block) (F .blocks - suc (c .block)) (c .settling) (c .place) l (w .sits .here b l)) .1
 
-  -- Where a look is due, none has turned in the phase.
-  pub way-gone : {n : ℕ} {c : Job} → Underway u on n c → c .block < F .blocks → c .place < F .pairs → c .pile .from ≡ 0
-  unfolding jobOf
-  way-gone {c = c} w b l =
-      let k : F .blocks - c .block ≡ suc (F .blocks - suc (c .block)) = omega arith in
-      look-gone (w .at) (ap (λ (n : ℕ). todoAt F (c .block) n (c .settling) (c .place)) k
-      ∙ seek-here F (c .block) (F .blocks - suc (c .block)) (c .settling) (c .place) l (w .sits .here b l))
-
   -- Where a look is due, the pairs of the block that are still to be looked at are free.
   pub way-free : {n : ℕ} {c : Job} → Underway u on n c → c .block < F .blocks → c .place < F .pairs
       → (r : ℕ) → c .place ≤ r → F .block r ≡ c .block → free (c .settling) (marksIn (c .pile .marks) r) ≡ true

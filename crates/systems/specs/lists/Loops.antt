@@ -86,12 +86,3 @@ module _ {u : Update} {on : ℕ → List ℕ} (finds : Finds (u .F) (u .M) on) (
     loop-row k b z l h e =
         let first : F .block (d .place) ≡ d .block = subst (λ (p : ℕ). F .block p ≡ d .block) (add-zero (d .place)) (h 0 (omega arith)) in
         way-row finds test agrees f k (subst (Underway u on n) (seek-stays F d b (omega arith) first (λ y. (z, omega arith))) w) b l h e .1
-
-    -- The loop may stop at a pair of the block, and come back to it.
-    pub loop-part : (k : ℕ) → d .block < F .blocks → d .pile .from ≡ 0 → d .place + k < F .pairs
-        → ((j : ℕ) → j < suc k → F .block (d .place + j) ≡ d .block)
-        → ((j : ℕ) → j < k → test (d .settling) (valOf (d .vals)) (marksIn (d .pile .marks)) (d .place + j) ≡ f (d .place + j))
-        → Underway u on (n + k) (lookRow f k d)
-    loop-part k b z l h e =
-        let first : F .block (d .place) ≡ d .block = subst (λ (p : ℕ). F .block p ≡ d .block) (add-zero (d .place)) (h 0 (omega arith)) in
-        way-part finds test agrees f k (subst (Underway u on n) (seek-stays F d b (omega arith) first (λ y. (z, omega arith))) w) b l h e .1

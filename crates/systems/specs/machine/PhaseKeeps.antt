@@ -65,11 +65,6 @@ module _ (u : Update) where
     pub old-here : F .block p ≡ i → moveTo F L M old i p ≡ old p
     old-here e = moveTo-later fits fits′ old i (omega arith) p (omega arith)
 
-    -- Settling starts from the block's own value at the pairs that have shifted.
-    pub base-shifted : turning u false i p ≡ true → base u true i p ≡ F .great i
-    unfolding base turning rule shifted
-    base-shifted e = let v = moveTo F L M old i in put-in (F .great i) v (shifted F L M i old v) p e
-
     -- Settling starts from the values before the shift at the other pairs.
     pub base-still : turning u false i p ≡ false → base u true i p ≡ moveTo F L M old i p
     unfolding base turning rule shifted

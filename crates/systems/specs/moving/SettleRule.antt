@@ -79,9 +79,3 @@ module _ {F : Frame} {L : Leans} (fits : Fits F L) {i : ℕ} (lt : i < F .blocks
   -- The values of other blocks stay.
   pub settled-keep : (p : ℕ) → (F .block p ≡ i → ⊥) → put (not (F .great i)) v (settled F L i v) p ≡ v p
   settled-keep p n = put-off (not (F .great i)) v (settled F L i v) p (settled-off p n)
-
--- Pairs that settle one by one, in any order until none is left, are the settled set.
-pub settled-made : (F : Frame) (M : Leans) → Fits F M → (i : ℕ) → i < F .blocks → (w : Values) (s : ℕ → Bool)
-    → Made (drops F M i w) s → Sub (drops F M i w s) s → (p : ℕ) → s p ≡ settled F M i w p
-unfolding settled
-settled-made F M fits i lt w s = made-same (drops-monotone fits lt w) s

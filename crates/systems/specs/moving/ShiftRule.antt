@@ -165,8 +165,3 @@ module _ (F : Frame) (L M : Leans) (fits : Fits F L) (i : ℕ) (lt : i < F .bloc
   pub shifted-smallest : ((p : ℕ) → Shifts F L M i old v s p → s p ≡ true) → Sub (shifted F L M i old v) s
   unfolding shifted
   shifted-smallest f = smallest-least (shifts-monotone fits M lt old v) s (λ p e. f p (shifts-out F L M i old v s p e))
-
-  -- Pairs that shift one by one, in any order until none is left, are the shifted set.
-  pub shifted-made : Made (shifts F L M i old v) s → Sub (shifts F L M i old v s) s → (p : ℕ) → s p ≡ shifted F L M i old v p
-  unfolding shifted
-  shifted-made = made-same (shifts-monotone fits M lt old v) s
