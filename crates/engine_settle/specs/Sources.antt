@@ -10,13 +10,13 @@ use lib.ListN.{length, getD, set, take, drop, length-set, length-drop}
 use lib.Seq.{take-suc, take-length, take-all, length-take-le, getD-take, getD-drop, getD-set-same, getD-set-other}
 use lib.Dec.{eqb}
 use Rattle.lists.specs.Lists.{any}
-use Rattle.lists.specs.Tests.{no-way, and-left, eqb-no, eqb-out, eqb-in}
+use Rattle.lists.specs.Tests.{no-way, and-left, eqb-no, eqb-out, eqb-in, any-snoc}
 use Rattle.rules.specs.Moves.{source, action, target}
 use Rattle.engine_table.specs.Table.{Table, Drawn}
 use Rattle.engine_table.specs.Limits.{move-inside}
 use Rattle.engine_index.specs.Chains.{lastTo}
 use Rattle.engine_index.specs.Indexed.{Indexed, headsOf}
-use Rattle.engine_index.specs.ChainWalks.{any-snoc, last-le, last-at, last-again, last-skips}
+use Rattle.engine_index.specs.ChainWalks.{last-le, last-at, last-again, last-skips}
 use Rattle.engine_settle.specs.Told.{SetWhere}
 
 -- Has the word q the number t, and does it come from the state s?
