@@ -1,4 +1,5 @@
--- A walk from the front: the whole clearing is what was cleared so far and what is still to be cleared. Assumes nothing.
+-- A walk from the front: the clearing still to be made of what is there comes to the whole clearing, and the places left get fewer.
+-- Assumes nothing.
 use mathlib.Core.Path.{_≡_, refl, sym, ap, _∙_}
 use Prim.Native.Nat.{ℕ, _-_, _≤_}
 use lib.ListN.{length, length-set}

@@ -1,4 +1,4 @@
--- A walk from the last place to the first: the moves at the places passed are struck. Assumes nothing.
+-- A walk from the last place to the first: the moves at the places passed are struck, and the places before get fewer. Assumes nothing.
 use mathlib.Core.Path.{_≡_, refl, sym, ap, _∙_}
 use mathlib.Core.List.{List, _∷_}
 use Prim.Native.Nat.{ℕ, suc, _-_, _≤_}
