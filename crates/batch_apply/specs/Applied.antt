@@ -15,7 +15,7 @@ use Rattle.rules.specs.Batch.{Change, Batch, judge, remove, insert, removeAll, 
 use Rattle.rules.specs.declared.Session.{Session}
 use Rattle.laws.specs.moves.Edits.{judge-out, AllAre, Distinct, Judged, removeAll-elem, removeAll-ok, insertAll-elem}
 use Rattle.moves.specs.Ascending.{ascends, some-sizes, moves-ascend}
-use Rattle.batch_apply.specs.Kept.{Kept, removedFrom, insertedInto, changedAll, appliedTo}
+use Rattle.batch_apply.specs.Kept.{Kept, kept, removedFrom, insertedInto, changedAll, appliedTo}
 use Rattle.batch_apply.specs.OneMove.{Found, Due, found, due, taken-out, put-in, out-length, in-length}
 
 -- What stands behind the first m places, where n places were moves: zeros up to n, and the room past that.
@@ -24,11 +24,11 @@ tailOf n room m = replicate (n - m) 0 ++ drop (m + (n - m)) room
 
 -- A room that holds a list of moves, where n places were moves before.
 abbrev pub laid : ℕ → List ℕ → List ℕ → Kept
-laid n room ms = record { moves = fill (ms ++ replicate (n - length ms) 0) room; count = length ms }
+laid n room ms = kept (fill (ms ++ replicate (n - length ms) 0) room) (length ms)
 
 -- The same, with the moves apart from what stands behind them.
 abbrev pub apart : ℕ → List ℕ → List ℕ → Kept
-apart n room ms = record { moves = ms ++ tailOf n room (length ms); count = length ms }
+apart n room ms = kept (ms ++ tailOf n room (length ms)) (length ms)
 
 -- The two say the same.
 laid-apart : (n : ℕ) (room ms : List ℕ) → laid n room ms ≡ apart n room ms
@@ -39,7 +39,7 @@ laid-apart n room ms =
     λ i. record { moves = m i; count = length ms }
 
 -- A room before any change.
-pub start-apart : (n : ℕ) (room ms : List ℕ) → length ms ≡ n → room ≡ ms ++ drop n room → record { moves = room; count = n } ≡ apart n room ms
+pub start-apart : (n : ℕ) (room ms : List ℕ) → length ms ≡ n → room ≡ ms ++ drop n room → kept room n ≡ apart n room ms
 unfolding tailOf
 start-apart n room ms s w =
     let d : n - length ms ≡ 0 = omega arith in
@@ -80,15 +80,15 @@ one-out n p room l f h =
     let s = out-length p l f in
     let t : 0 ∷ tailOf n room (length l) ≡ tailOf n room (length (remove p l)) =
     ap (λ (m : ℕ). 0 ∷ tailOf n room m) (sym s) ∙ sym (tail-less n (length (remove p l)) room (omega arith)) in
-    taken-out p l (tailOf n room (length l)) f ∙ ap (λ (x : List ℕ). record { moves = remove p l ++ x; count = length (remove p l) }) t
+    taken-out p l (tailOf n room (length l)) f ∙ ap (λ (x : List ℕ). kept (remove p l ++ x) (length (remove p l))) t
 
 one-in : (n p : ℕ) (room l : List ℕ) → Due p l → length l < length room → insertedInto p (apart n room l) ≡ apart n room (insert p l)
 one-in n p room l f h =
     let s = in-length p l f in
     let t = tail-cons n (length l) room h in
-    ap (λ (x : List ℕ). insertedInto p (record { moves = l ++ x; count = length l })) (t .1)
+    ap (λ (x : List ℕ). insertedInto p (kept (l ++ x) (length l))) (t .1)
     ∙ put-in p (t .0) l (tailOf n room (suc (length l))) f
-    ∙ ap (λ (m : ℕ). record { moves = insert p l ++ tailOf n room m; count = length (insert p l) }) (sym s)
+    ∙ ap (λ (m : ℕ). kept (insert p l ++ tailOf n room m) (length (insert p l))) (sym s)
 
 -- Deletes keep the order.
 pub removeAll-ascends : (ps l : List ℕ) → ascends 0 l ≡ true → ascends 0 (removeAll ps l) ≡ true
@@ -145,13 +145,13 @@ outside (p ∷ ps) ds ms a = (removeAll-elem p ds ms ∙ rw (a .0) refl, outside
 -- The changes of a judged batch that fits, made in the room: it holds the old moves less the deletes plus the inserts, and
 -- the places that they free are 0.
 pub applied-edits : (n : ℕ) (room : List ℕ) (cs : List Change) → n ≤ length room → ascends 0 (take n room) ≡ true → Judged (take n room) cs
-    → length (edited cs (take n room)) ≤ length room → appliedTo cs (record { moves = room; count = n }) ≡ laid n room (edited cs (take n room))
+    → length (edited cs (take n room)) ≤ length room → appliedTo cs (kept room n) ≡ laid n room (edited cs (take n room))
 unfolding edited
 applied-edits n room cs h o j k =
     let ms = take n room in
     let s : length ms ≡ n = length-take-le n room h in
     let base = removeAll (deletes cs) ms in
-    let e : record { moves = room; count = n } ≡ apart n room ms = start-apart n room ms s (sym (take-append-drop n room)) in
+    let e : kept room n ≡ apart n room ms = start-apart n room ms s (sym (take-append-drop n room)) in
     let out = all-out n room ms cs o (j .1) (j .3) (omega arith) in
     ap (λ (x : Kept). changedAll true cs (changedAll false cs x)) e ∙ ap (changedAll true cs) (out .0)
     ∙ all-in n room base cs (j .0) (outside (inserts cs) (deletes cs) ms (j .2)) k ∙ sym (laid-apart n room (insertAll (inserts cs) base))
@@ -159,7 +159,7 @@ applied-edits n room cs h o j k =
 -- So it is for a batch that the judgement accepts.
 pub accepted-edits : (s : Session) (n : ℕ) (room : List ℕ) (b b′ : Batch) → n ≤ length room → ascends 0 (take n room) ≡ true
     → judge s (length room) (take n room) b ≡ accepted b′
-    → appliedTo (b .changes) (record { moves = room; count = n }) ≡ laid n room (edited (b .changes) (take n room))
+    → appliedTo (b .changes) (kept room n) ≡ laid n room (edited (b .changes) (take n room))
 accepted-edits s n room b b′ h o e =
     let j = judge-out s (length room) (take n room) b b′ e in
     let k = j .2 in applied-edits n room (b .changes) h o (j .1) (omega arith)

@@ -6,14 +6,22 @@ use Prim.Native.Nat.{ℕ, zero, suc, _+_, _-_, _≤_}
 use lib.ListN.{length, getD, take, drop, set}
 use lib.Dec.{ltb}
 use Rattle.lists.specs.Lists.{all}
-use Rattle.rules.specs.Limits.{most-moves}
+use Rattle.rules.specs.Limits.{most-moves, most-changes}
 use Rattle.rules.specs.Batch.{Change, edited}
 use Rattle.laws.specs.moves.Edits.{Judged}
 use Rattle.moves.specs.Ascending.{ascends, leading}
 
+-- A room, and how many of its first places are moves.
 pub record Kept : Type 0 where
   pub moves : List ℕ
   pub count : ℕ
+
+abbrev pub kept : List ℕ → ℕ → Kept
+kept room n = record { moves = room; count = n }
+
+-- The moves that it holds.
+abbrev pub movesIn : Kept → List ℕ
+movesIn k = take (k .count) (k .moves)
 
 -- The first m entries each take the value of the next one.
 abbrev pub pulled : ℕ → List ℕ → List ℕ
@@ -37,14 +45,14 @@ pushedIn from end x l = take from l ++ pushed (end - from) x (drop from l)
 -- A move taken out at its place; the place that is freed at the end becomes 0.
 unfoldable pub removedFrom : ℕ → Kept → Kept
 removedFrom p k =
-    let at = leading p (take (k .count) (k .moves)) in
-    cond (ltb at (k .count)) (record { moves = set (pulledIn at (k .count - 1) (k .moves)) (k .count - 1) 0; count = k .count - 1 }) k
+    let at = leading p (movesIn k) in
+    cond (ltb at (k .count)) (kept (set (pulledIn at (k .count - 1) (k .moves)) (k .count - 1) 0) (k .count - 1)) k
 
 -- A move put in at its place, if there is room.
 unfoldable pub insertedInto : ℕ → Kept → Kept
 insertedInto p k =
-    let at = leading p (take (k .count) (k .moves)) in
-    cond (ltb (k .count) (length (k .moves))) (record { moves = pushedIn at (k .count + 1) p (k .moves); count = k .count + 1 }) k
+    let at = leading p (movesIn k) in
+    cond (ltb (k .count) (length (k .moves))) (kept (pushedIn at (k .count + 1) p (k .moves)) (k .count + 1)) k
 
 -- One change, where it is a delete, and where it is an insert.
 abbrev pub deletedBy : Change → Kept → Kept
@@ -74,17 +82,19 @@ mark = 4294967295
 -- The room holds the moves, and they ascend.
 pub record Orderly (k : Kept) : Type 0 where
   pub fits : k .count ≤ length (k .moves)
-  pub ascend : ascends 0 (take (k .count) (k .moves)) ≡ true
+  pub ascend : ascends 0 (movesIn k) ≡ true
 
 -- So it is before the changes of a kind, and after each of them.
 abbrev pub AllOrderly : Bool → List Change → Kept → Type 0
 AllOrderly b [] k = Orderly k
 AllOrderly b (c ∷ cs) k = Orderly (changedAll b (c ∷ cs) k) × AllOrderly b cs k
 
--- The changes were judged, the room holds what they come to, and the moves are no more and no greater than a model's.
+-- The changes are no more than a batch may have, and were judged; the room holds what they come to, and the moves are no more and no
+-- greater than a model's.
 pub record Ready (cs : List Change) (k : Kept) : Type 0 where
   pub start : Orderly k
-  pub judged : Judged (take (k .count) (k .moves)) cs
-  pub few : length (edited cs (take (k .count) (k .moves))) ≤ length (k .moves)
+  pub short : length cs ≤ most-changes
+  pub judged : Judged (movesIn k) cs
+  pub few : length (edited cs (movesIn k)) ≤ length (k .moves)
   pub most : k .count ≤ most-moves
-  pub small : all (λ q. ltb q mark) (take (k .count) (k .moves)) ≡ true
+  pub small : all (λ q. ltb q mark) (movesIn k) ≡ true

@@ -12,7 +12,7 @@ use Rattle.lists.specs.Lists.{elem}
 use Rattle.lists.specs.Tests.{tell, and-is, leb-is, eqb-is, eqb-no, ltb-is, ltb-no, or-other, or-no}
 use Rattle.rules.specs.Batch.{remove, insert}
 use Rattle.moves.specs.Ascending.{ascends, leading}
-use Rattle.batch_apply.specs.Kept.{pulled, pushed, pulledIn, pushedIn, removedFrom, insertedInto}
+use Rattle.batch_apply.specs.Kept.{kept, pulled, pushed, pulledIn, pushedIn, removedFrom, insertedInto}
 
 -- Where a move stands in a list, and the list without it.
 pub record Found (p : ℕ) (l : List ℕ) : Type 0 where
@@ -127,7 +127,7 @@ pushed-all p r (q ∷ y) rest = ap (λ (x : List ℕ). p ∷ x) (pushed-all q r 
 
 -- A move taken out between the two parts of a list, whatever stands behind.
 out-between : (p : ℕ) (x y rest : List ℕ) → leading p (x ++ p ∷ y) ≡ length x
-    → removedFrom p (record { moves = (x ++ p ∷ y) ++ rest; count = length (x ++ p ∷ y) }) ≡ record { moves = (x ++ y) ++ 0 ∷ rest; count = length (x ++ y) }
+    → removedFrom p (kept ((x ++ p ∷ y) ++ rest) (length (x ++ p ∷ y))) ≡ kept ((x ++ y) ++ 0 ∷ rest) (length (x ++ y))
 unfolding removedFrom pulledIn
 out-between p x y rest h =
     let n = length (x ++ p ∷ y) in
@@ -143,7 +143,7 @@ out-between p x y rest h =
 
 -- A move put in between them.
 in-between : (p r : ℕ) (x y rest : List ℕ) → leading p (x ++ y) ≡ length x
-    → insertedInto p (record { moves = (x ++ y) ++ r ∷ rest; count = length (x ++ y) }) ≡ record { moves = (x ++ p ∷ y) ++ rest; count = length (x ++ p ∷ y) }
+    → insertedInto p (kept ((x ++ y) ++ r ∷ rest) (length (x ++ y))) ≡ kept ((x ++ p ∷ y) ++ rest) (length (x ++ p ∷ y))
 unfolding insertedInto pushedIn
 in-between p r x y rest h =
     let n = length (x ++ y) in
@@ -159,17 +159,17 @@ in-between p r x y rest h =
 
 -- A move taken out of a list in front of anything else.
 pub taken-out : (p : ℕ) (l rest : List ℕ) → Found p l
-    → removedFrom p (record { moves = l ++ rest; count = length l }) ≡ record { moves = remove p l ++ 0 ∷ rest; count = length (remove p l) }
+    → removedFrom p (kept (l ++ rest) (length l)) ≡ kept (remove p l ++ 0 ∷ rest) (length (remove p l))
 taken-out p l rest f =
-    rw (f .without) (subst (λ (k : List ℕ). leading p k ≡ length (f .front) → removedFrom p (record { moves = k ++ rest; count = length k })
-    ≡ record { moves = (f .front ++ f .back) ++ 0 ∷ rest; count = length (f .front ++ f .back) }) (sym (f .whole)) (out-between p (f .front) (f .back) rest) (f .place))
+    rw (f .without) (subst (λ (k : List ℕ). leading p k ≡ length (f .front) → removedFrom p (kept (k ++ rest) (length k))
+    ≡ kept ((f .front ++ f .back) ++ 0 ∷ rest) (length (f .front ++ f .back))) (sym (f .whole)) (out-between p (f .front) (f .back) rest) (f .place))
 
 -- A move put into a list in front of anything else.
 pub put-in : (p r : ℕ) (l rest : List ℕ) → Due p l
-    → insertedInto p (record { moves = l ++ r ∷ rest; count = length l }) ≡ record { moves = insert p l ++ rest; count = length (insert p l) }
+    → insertedInto p (kept (l ++ r ∷ rest) (length l)) ≡ kept (insert p l ++ rest) (length (insert p l))
 put-in p r l rest f =
-    rw (f .with-it) (subst (λ (k : List ℕ). leading p k ≡ length (f .front) → insertedInto p (record { moves = k ++ r ∷ rest; count = length k })
-    ≡ record { moves = (f .front ++ p ∷ f .back) ++ rest; count = length (f .front ++ p ∷ f .back) }) (sym (f .whole)) (in-between p r (f .front) (f .back) rest) (f .place))
+    rw (f .with-it) (subst (λ (k : List ℕ). leading p k ≡ length (f .front) → insertedInto p (kept (k ++ r ∷ rest) (length k))
+    ≡ kept ((f .front ++ p ∷ f .back) ++ rest) (length (f .front ++ p ∷ f .back))) (sym (f .whole)) (in-between p r (f .front) (f .back) rest) (f .place))
 
 -- The list is one shorter, and one longer.
 pub out-length : (p : ℕ) (l : List ℕ) → Found p l → suc (length (remove p l)) ≡ length l

@@ -14,7 +14,7 @@ use Rattle.lists.specs.Lists.{bit}
 use Rattle.lists.specs.Sums.{bit-le}
 use Rattle.lists.specs.Tests.{tell, eqb-is, eqb-no}
 use Rattle.rules.specs.Batch.{Change, remove, removeAll, deletes}
-use Rattle.batch_apply.specs.Kept.{Kept, changedAll, mark, Ready}
+use Rattle.batch_apply.specs.Kept.{Kept, kept, changedAll, mark, Ready}
 use Rattle.batch_apply.specs.Striking.{placesIn, struckAt, closing, clearedIn}
 use Rattle.batch_apply.specs.Struck.{struck, struck-all, struck-out}
 use Rattle.batch_apply.specs.Applied.{tailOf, apart, all-out}
@@ -39,7 +39,7 @@ unfolding closing
 closing-on n to i l h = let m : n - i ≡ suc (n - (i + 1)) = omega arith in rw m refl
 
 -- At the end the closing is done.
-pub closing-over : (n to i : ℕ) (l : List ℕ) → n ≤ i → closing (n - i) to i l ≡ record { moves = l; count = to }
+pub closing-over : (n to i : ℕ) (l : List ℕ) → n ≤ i → closing (n - i) to i l ≡ kept l to
 unfolding closing
 closing-over n to i l h = let m : n - i ≡ 0 = omega arith in rw m refl
 
@@ -89,7 +89,7 @@ closing-inside n l k h e =
     subst (λ (j : Kept). j .count ≤ n) (sym e) (c .inside)
 
 -- What is ready: the deleted moves struck, the others closed up and the rest cleared is what the deletes make of the room.
-module _ (cs : List Change) (n : ℕ) (room : List ℕ) (r : Ready cs (record { moves = room; count = n })) where
+module _ (cs : List Change) (n : ℕ) (room : List ℕ) (r : Ready cs (kept room n)) where
   -- The room with the deleted moves struck.
   struck-room : struckAt (placesIn (take n room) (deletes cs)) room ≡ struck (deletes cs) (take n room) ++ drop n room
   struck-room =
@@ -101,7 +101,7 @@ module _ (cs : List Change) (n : ℕ) (room : List ℕ) (r : Ready cs (record { 
 
   -- The other moves closed up, and the places that are free then cleared.
   cleared-room : (k : Kept) → Closed n n 0 0 (struck (deletes cs) (take n room) ++ drop n room) k
-      → record { moves = clearedIn (k .count) n (k .moves); count = k .count } ≡ apart n room (removeAll (deletes cs) (take n room))
+      → kept (clearedIn (k .count) n (k .moves)) (k .count) ≡ apart n room (removeAll (deletes cs) (take n room))
   unfolding clearedIn tailOf
   cleared-room k c =
       let x = struck (deletes cs) (take n room) in
@@ -119,7 +119,7 @@ module _ (cs : List Change) (n : ℕ) (room : List ℕ) (r : Ready cs (record { 
 
   -- This is what the deletes make of the room one by one.
   pub one-pass : (k : Kept) → k ≡ closing n 0 0 (struckAt (placesIn (take n room) (deletes cs)) room)
-      → record { moves = clearedIn (k .count) n (k .moves); count = k .count } ≡ changedAll false cs (record { moves = room; count = n })
+      → kept (clearedIn (k .count) n (k .moves)) (k .count) ≡ changedAll false cs (kept room n)
   one-pass k e =
       let x = struck (deletes cs) (take n room) in
       let s = struck-long in

@@ -13,9 +13,9 @@ use Rattle.lists.specs.Counts.{count-le}
 use Rattle.lists.specs.Tests.{tell, and-is, leb-is, eqb-no, ltb-is, ltb-no, or-no}
 use Rattle.rules.specs.Batch.{Change, insert, removeAll, insertAll, inserts, deletes, edited}
 use Rattle.laws.specs.moves.Edits.{AllAre, Distinct, insertAll-elem}
-use Rattle.batch_judge.specs.Changes.{changesOf}
+use Rattle.words.specs.Words.{changesOf}
 use Rattle.moves.specs.Ascending.{ascends, below, leading, leading-below}
-use Rattle.batch_apply.specs.Kept.{Kept, changedAll, Orderly, AllOrderly, Ready}
+use Rattle.batch_apply.specs.Kept.{Kept, kept, movesIn, changedAll, Orderly, AllOrderly, Ready}
 use Rattle.batch_apply.specs.OneMove.{due, in-length}
 use Rattle.batch_apply.specs.Applied.{tailOf, apart, start-apart, removeAll-ascends, all-out, all-in, outside}
 
@@ -72,21 +72,21 @@ module _ (n : ℕ) (room ms : List ℕ) (h : ascends 0 ms ≡ true) where
   )
 
 -- What is ready stays in order through the deletes, and then through the inserts.
-module _ (cs : List Change) (n : ℕ) (room : List ℕ) (r : Ready cs (record { moves = room; count = n })) where
-  pub as-apart : record { moves = room; count = n } ≡ apart n room (take n room)
+module _ (cs : List Change) (n : ℕ) (room : List ℕ) (r : Ready cs (kept room n)) where
+  pub as-apart : kept room n ≡ apart n room (take n room)
   as-apart = start-apart n room (take n room) (length-take-le n room (r .start .fits)) (sym (take-append-drop n room))
 
-  pub ready-out : AllOrderly false cs (record { moves = room; count = n })
+  pub ready-out : AllOrderly false cs (kept room n)
   ready-out =
       let s = length-take-le n room (r .start .fits) in
       subst (AllOrderly false cs) (sym as-apart) (out-orderly n room (take n room) (r .start .ascend) cs (r .judged .1) (r .judged .3) (omega arith))
 
-  pub ready-in : AllOrderly true cs (changedAll false cs (record { moves = room; count = n }))
+  pub ready-in : AllOrderly true cs (changedAll false cs (kept room n))
   unfolding edited
   ready-in =
       let s = length-take-le n room (r .start .fits) in
       let out = all-out n room (take n room) cs (r .start .ascend) (r .judged .1) (r .judged .3) (omega arith) in
-      let e : changedAll false cs (record { moves = room; count = n }) ≡ apart n room (removeAll (deletes cs) (take n room)) = ap (changedAll false cs) as-apart ∙ out .0 in
+      let e : changedAll false cs (kept room n) ≡ apart n room (removeAll (deletes cs) (take n room)) = ap (changedAll false cs) as-apart ∙ out .0 in
       subst (AllOrderly true cs) (sym e) (in-orderly n room (removeAll (deletes cs) (take n room)) (removeAll-ascends (deletes cs) (take n room) (r .start .ascend)) cs (r .judged .0) (outside (inserts cs) (deletes cs) (take n room) (r .judged .2)) (r .few))
 
 -- In order before the changes from any place on, in a walk from the last to the first.
@@ -103,11 +103,11 @@ pub orderly-from : (b : Bool) (i : ℕ) (l : List ℕ) (k : Kept) → AllOrderly
 orderly-from b i l k h = orderly-first b (changesOf (drop i l)) k (orderly-drop b i l k h)
 
 -- The place that a search finds is the one that a walk comes to, and it is none past the moves.
-pub place-leads : (p : ℕ) (k : Kept) → Orderly k → below p (take (k .count) (k .moves)) ≡ leading p (take (k .count) (k .moves))
-place-leads p k o = sym (leading-below p 0 (take (k .count) (k .moves)) (o .ascend))
+pub place-leads : (p : ℕ) (k : Kept) → Orderly k → below p (movesIn k) ≡ leading p (movesIn k)
+place-leads p k o = sym (leading-below p 0 (movesIn k) (o .ascend))
 
-pub place-inside : (p : ℕ) (k : Kept) → Orderly k → below p (take (k .count) (k .moves)) ≤ k .count
+pub place-inside : (p : ℕ) (k : Kept) → Orderly k → below p (movesIn k) ≤ k .count
 place-inside p k o =
-    let c = count-le (λ q. ltb q p) (take (k .count) (k .moves)) in
+    let c = count-le (λ q. ltb q p) (movesIn k) in
     let s = length-take-le (k .count) (k .moves) (o .fits) in
     omega arith

@@ -8,17 +8,20 @@ use lib.Dec.{eqb}
 use Rattle.lists.specs.Lists.{bit}
 use Rattle.rules.specs.Batch.{Change}
 use Rattle.moves.specs.Ascending.{below}
-use Rattle.batch_apply.specs.Kept.{Kept, mark}
+use Rattle.batch_apply.specs.Kept.{Kept, kept, mark}
 
 -- A room of places, of which those from `top` on are noted.
 pub record Noted : Type 0 where
   pub places : List ℕ
   pub top : ℕ
 
+abbrev pub noted : List ℕ → ℕ → Noted
+noted places top = record { places = places; top = top }
+
 -- The place of the move that a change deletes, noted in front.
 abbrev pub notedBy : List ℕ → Change → Noted → Noted
 notedBy ms c k =
-    cond (c .insert) k (record { places = set (k .places) (k .top - 1) (below (c .move) ms); top = k .top - 1 })
+    cond (c .insert) k (noted (set (k .places) (k .top - 1) (below (c .move) ms)) (k .top - 1))
 
 -- All of them, from the last change to the first.
 abbrev pub notedAll : List ℕ → List Change → Noted → Noted
@@ -37,7 +40,7 @@ struckAt (at ∷ ps) l = set (struckAt ps l) at mark
 -- The m words from place i on, each copied behind those that stay, of which there are `to` so far; one that was struck does
 -- not stay.
 unfoldable pub closing : ℕ → ℕ → ℕ → List ℕ → Kept
-closing zero to i l = record { moves = l; count = to }
+closing zero to i l = kept l to
 closing (suc m) to i l = closing m (to + bit (not (eqb (getD l i 0) mark))) (i + 1) (set l to (getD l i 0))
 
 -- The words from place `from` to place `end` become 0.

@@ -2,13 +2,13 @@
 // place by halving, and shifts the moves behind it; the deletes of several changes are made in one pass over the room.
 ghost use mathlib.Core.Path.{_≡_};
 ghost use mathlib.Core.Bool.{true, false};
-ghost use Prim.Native.Nat.{_≤_, _<_, min};
-ghost use lib.ListN.{length, take, drop};
-ghost use Rattle.rules.specs.Limits.{most-moves, most-changes};
+ghost use Prim.Native.Nat.{_≤_, _<_};
+ghost use lib.ListN.{length, drop};
+ghost use Rattle.rules.specs.Limits.{most-moves};
 ghost use Rattle.moves.specs.Ascending.{ascends};
-ghost use Rattle.batch_judge.specs.Changes.{changeOf, changesOf};
-ghost use Rattle.batch_apply.specs.Kept.{Kept, pulledIn, pushedIn, removedFrom, insertedInto, deletedBy, insertedBy, changedBy, changedAll, appliedTo, Orderly, AllOrderly, Ready};
-ghost use Rattle.batch_apply.specs.Striking.{Noted, notedBy, notedAll, struckAt, closing, clearedIn};
+ghost use Rattle.words.specs.Words.{changeOf, changesOf};
+ghost use Rattle.batch_apply.specs.Kept.{kept, pulledIn, pushedIn, removedFrom, insertedInto, deletedBy, insertedBy, changedBy, changedAll, appliedTo, Orderly, AllOrderly, Ready};
+ghost use Rattle.batch_apply.specs.Striking.{noted, notedBy, notedAll, struckAt, closing, clearedIn};
 
 // The places from `from` to `end` each take the value of the next one.
 fn pull(moves: &mut [u32], from: usize, end: usize)
@@ -37,10 +37,10 @@ fn push(moves: &mut [u32], from: usize, end: usize, p: u32)
 
 // The move p taken out of the first n; the place that is freed becomes 0. What is left is the number of moves.
 fn remove_move(moves: &mut [u32], n: usize, p: u32) -> usize
-    requires { ⌜ Orderly (record { moves = now moves; count = n }) ⌝ }
-    ensures { λ r. ⌜ _≡_ {A = Kept} (record { moves = now (moves .exit); count = r }) (removedFrom p (record { moves = now (moves .entry); count = n })) ⌝ }
+    requires { ⌜ Orderly (kept (now moves) n) ⌝ }
+    ensures { λ r. ⌜ kept (now (moves .exit)) r ≡ removedFrom p (kept (now (moves .entry)) n) ⌝ }
 {
-    let at = moves::place_of(moves, n, p);
+    let at = moves::place_of(&moves[..n], p);
     if n <= at {
         return n;
     }
@@ -52,43 +52,43 @@ fn remove_move(moves: &mut [u32], n: usize, p: u32) -> usize
 
 // The move p put in among the first n, if there is room.
 fn insert_move(moves: &mut [u32], n: usize, p: u32) -> usize
-    requires { ⌜ Orderly (record { moves = now moves; count = n }) ⌝ }
-    ensures { λ r. ⌜ _≡_ {A = Kept} (record { moves = now (moves .exit); count = r }) (insertedInto p (record { moves = now (moves .entry); count = n })) ⌝ }
+    requires { ⌜ Orderly (kept (now moves) n) ⌝ }
+    ensures { λ r. ⌜ kept (now (moves .exit)) r ≡ insertedInto p (kept (now (moves .entry)) n) ⌝ }
 {
     if moves.len() <= n {
         return n;
     }
-    let at = moves::place_of(moves, n, p);
+    let at = moves::place_of(&moves[..n], p);
     push(moves, at, n + 1, p);
     n + 1
 }
 
 // One change, where it is a delete.
 fn delete_one(w: u32, moves: &mut [u32], n: usize) -> usize
-    requires { ⌜ Orderly (record { moves = now moves; count = n }) ⌝ }
-    ensures { λ r. ⌜ _≡_ {A = Kept} (record { moves = now (moves .exit); count = r }) (deletedBy (changeOf w) (record { moves = now (moves .entry); count = n })) ⌝ }
+    requires { ⌜ Orderly (kept (now moves) n) ⌝ }
+    ensures { λ r. ⌜ kept (now (moves .exit)) r ≡ deletedBy (changeOf w) (kept (now (moves .entry)) n) ⌝ }
 {
-    if w % 2 == 1 {
+    if words::inserts(w) {
         return n;
     }
-    remove_move(moves, n, w / 2)
+    remove_move(moves, n, words::move_of(w))
 }
 
 // One change, where it is an insert.
 fn insert_one(w: u32, moves: &mut [u32], n: usize) -> usize
-    requires { ⌜ Orderly (record { moves = now moves; count = n }) ⌝ }
-    ensures { λ r. ⌜ _≡_ {A = Kept} (record { moves = now (moves .exit); count = r }) (insertedBy (changeOf w) (record { moves = now (moves .entry); count = n })) ⌝ }
+    requires { ⌜ Orderly (kept (now moves) n) ⌝ }
+    ensures { λ r. ⌜ kept (now (moves .exit)) r ≡ insertedBy (changeOf w) (kept (now (moves .entry)) n) ⌝ }
 {
-    if w % 2 == 1 {
-        return insert_move(moves, n, w / 2);
+    if words::inserts(w) {
+        return insert_move(moves, n, words::move_of(w));
     }
     n
 }
 
 // One change, where it is of the kind asked for: an insert or a delete.
 fn change_one(w: u32, inserting: bool, moves: &mut [u32], n: usize) -> usize
-    requires { ⌜ Orderly (record { moves = now moves; count = n }) ⌝ }
-    ensures { λ r. ⌜ _≡_ {A = Kept} (record { moves = now (moves .exit); count = r }) (changedBy inserting (changeOf w) (record { moves = now (moves .entry); count = n })) ⌝ }
+    requires { ⌜ Orderly (kept (now moves) n) ⌝ }
+    ensures { λ r. ⌜ kept (now (moves .exit)) r ≡ changedBy inserting (changeOf w) (kept (now (moves .entry)) n) ⌝ }
 {
     if inserting {
         return insert_one(w, moves, n);
@@ -97,15 +97,15 @@ fn change_one(w: u32, inserting: bool, moves: &mut [u32], n: usize) -> usize
 }
 
 // All changes of a kind, from the last to the first.
-fn change_all(changes: &[u32], count: usize, inserting: bool, moves: &mut [u32], n: usize) -> usize
-    requires { ⌜ AllOrderly inserting (changesOf (take count (now changes))) (record { moves = now moves; count = n }) ⌝ }
-    ensures { λ r. ⌜ _≡_ {A = Kept} (record { moves = now (moves .exit); count = r }) (changedAll inserting (changesOf (take count (now (changes .entry)))) (record { moves = now (moves .entry); count = n })) ⌝ }
+fn change_all(changes: &[u32], inserting: bool, moves: &mut [u32], n: usize) -> usize
+    requires { ⌜ AllOrderly inserting (changesOf (now changes)) (kept (now moves) n) ⌝ }
+    ensures { λ r. ⌜ kept (now (moves .exit)) r ≡ changedAll inserting (changesOf (now (changes .entry))) (kept (now (moves .entry)) n) ⌝ }
 {
-    let mut i = moves::least(count, changes.len());
+    let mut i = changes.len();
     let mut held = n;
     while 0 < i {
         i = i - 1;
-        held = change_one(rooms::word_at(changes, i), inserting, moves, held);
+        held = change_one(changes[i], inserting, moves, held);
     }
     held
 }
@@ -117,30 +117,30 @@ const SEVERAL: usize = 5;
 const MARK: u32 = 4294967295;
 
 // The place of the move that a change deletes, noted in front of those from `top` on. Answers where the first note is then.
-fn note_one(w: u32, moves: &[u32], n: usize, places: &mut [u16], top: usize) -> usize
-    requires { ⌜ (ascends 0 (take n (now moves)) ≡ true) × (n ≤ most-moves) ⌝ }
+fn note_one(w: u32, moves: &[u32], places: &mut [u16], top: usize) -> usize
+    requires { ⌜ (ascends 0 (now moves) ≡ true) × (length (now moves) ≤ most-moves) ⌝ }
     requires { ⌜ (0 < top) × (top ≤ length (now places)) ⌝ }
-    ensures { λ r. ⌜ _≡_ {A = Noted} (record { places = now (places .exit); top = r }) (notedBy (take n (now (moves .entry))) (changeOf w) (record { places = now (places .entry); top = top })) ⌝ }
+    ensures { λ r. ⌜ noted (now (places .exit)) r ≡ notedBy (now (moves .entry)) (changeOf w) (noted (now (places .entry)) top) ⌝ }
 {
-    if w % 2 == 1 {
+    if words::inserts(w) {
         return top;
     }
-    let at = moves::place_of(moves, n, w / 2);
+    let at = moves::place_of(moves, words::move_of(w));
     places[top - 1] = at as u16;
     top - 1
 }
 
 // The places of all moves that the changes delete, noted at the end of the room. Answers where the first note is.
-fn note_all(changes: &[u32], count: usize, moves: &[u32], n: usize, places: &mut [u16]) -> usize
-    requires { ⌜ (ascends 0 (take n (now moves)) ≡ true) × (n ≤ most-moves) ⌝ }
-    requires { ⌜ min count (length (now changes)) ≤ length (now places) ⌝ }
-    ensures { λ r. ⌜ _≡_ {A = Noted} (record { places = now (places .exit); top = r }) (notedAll (take n (now (moves .entry))) (changesOf (take count (now (changes .entry)))) (record { places = now (places .entry); top = length (now (places .entry)) })) ⌝ }
+fn note_all(changes: &[u32], moves: &[u32], places: &mut [u16]) -> usize
+    requires { ⌜ (ascends 0 (now moves) ≡ true) × (length (now moves) ≤ most-moves) ⌝ }
+    requires { ⌜ length (now changes) ≤ length (now places) ⌝ }
+    ensures { λ r. ⌜ noted (now (places .exit)) r ≡ notedAll (now (moves .entry)) (changesOf (now (changes .entry))) (noted (now (places .entry)) (length (now (places .entry)))) ⌝ }
 {
-    let mut i = moves::least(count, changes.len());
+    let mut i = changes.len();
     let mut top = places.len();
     while 0 < i {
         i = i - 1;
-        top = note_one(rooms::word_at(changes, i), moves, n, places, top);
+        top = note_one(changes[i], moves, places, top);
     }
     top
 }
@@ -160,7 +160,7 @@ fn strike(moves: &mut [u32], places: &[u16], from: usize)
 // The first n words without those that are struck, closed up to the front. Answers how many stay.
 fn close_up(moves: &mut [u32], n: usize) -> usize
     requires { ⌜ n ≤ length (now moves) ⌝ }
-    ensures { λ r. ⌜ _≡_ {A = Kept} (record { moves = now (moves .exit); count = r }) (closing n 0 0 (now (moves .entry))) ⌝ }
+    ensures { λ r. ⌜ kept (now (moves .exit)) r ≡ closing n 0 0 (now (moves .entry)) ⌝ }
 {
     let mut to: usize = 0;
     let mut i: usize = 0;
@@ -187,13 +187,12 @@ fn clear(moves: &mut [u32], from: usize, end: usize)
 
 // All deletes in one pass: the places of their moves are noted while the table is whole, these moves are struck, the others
 // close up, and the places that are free then become 0.
-fn delete_at_once(changes: &[u32], count: usize, moves: &mut [u32], n: usize) -> usize
-    requires { ⌜ Ready (changesOf (take count (now changes))) (record { moves = now moves; count = n }) ⌝ }
-    requires { ⌜ min count (length (now changes)) ≤ most-changes ⌝ }
-    ensures { λ r. ⌜ _≡_ {A = Kept} (record { moves = now (moves .exit); count = r }) (changedAll false (changesOf (take count (now (changes .entry)))) (record { moves = now (moves .entry); count = n })) ⌝ }
+fn delete_at_once(changes: &[u32], moves: &mut [u32], n: usize) -> usize
+    requires { ⌜ Ready (changesOf (now changes)) (kept (now moves) n) ⌝ }
+    ensures { λ r. ⌜ kept (now (moves .exit)) r ≡ changedAll false (changesOf (now (changes .entry))) (kept (now (moves .entry)) n) ⌝ }
 {
-    let mut places = [0u16; 64];
-    let from = note_all(changes, count, moves, n, &mut places);
+    let mut places = [0u16; limits::MOST_CHANGES];
+    let from = note_all(changes, &moves[..n], &mut places);
     strike(moves, &places, from);
     let left = close_up(moves, n);
     clear(moves, left, n);
@@ -201,22 +200,21 @@ fn delete_at_once(changes: &[u32], count: usize, moves: &mut [u32], n: usize) ->
 }
 
 // All deletes: in one pass where there are several changes, else one by one.
-fn delete_all(changes: &[u32], count: usize, moves: &mut [u32], n: usize) -> usize
-    requires { ⌜ Ready (changesOf (take count (now changes))) (record { moves = now moves; count = n }) ⌝ }
-    ensures { λ r. ⌜ _≡_ {A = Kept} (record { moves = now (moves .exit); count = r }) (changedAll false (changesOf (take count (now (changes .entry)))) (record { moves = now (moves .entry); count = n })) ⌝ }
+fn delete_all(changes: &[u32], moves: &mut [u32], n: usize) -> usize
+    requires { ⌜ Ready (changesOf (now changes)) (kept (now moves) n) ⌝ }
+    ensures { λ r. ⌜ kept (now (moves .exit)) r ≡ changedAll false (changesOf (now (changes .entry))) (kept (now (moves .entry)) n) ⌝ }
 {
-    let several = moves::least(count, changes.len());
-    if (SEVERAL <= several) & (several <= limits::MOST_CHANGES) {
-        return delete_at_once(changes, count, moves, n);
+    if SEVERAL <= changes.len() {
+        return delete_at_once(changes, moves, n);
     }
-    change_all(changes, count, false, moves, n)
+    change_all(changes, false, moves, n)
 }
 
 // The changes made in the room: the moves become old less deletes plus inserts. What comes back is their number.
-pub fn apply(changes: &[u32], count: usize, moves: &mut [u32], n: usize) -> usize
-    requires { ⌜ Ready (changesOf (take count (now changes))) (record { moves = now moves; count = n }) ⌝ }
-    ensures { λ r. ⌜ _≡_ {A = Kept} (record { moves = now (moves .exit); count = r }) (appliedTo (changesOf (take count (now (changes .entry)))) (record { moves = now (moves .entry); count = n })) ⌝ }
+pub fn apply(changes: &[u32], moves: &mut [u32], n: usize) -> usize
+    requires { ⌜ Ready (changesOf (now changes)) (kept (now moves) n) ⌝ }
+    ensures { λ r. ⌜ kept (now (moves .exit)) r ≡ appliedTo (changesOf (now (changes .entry))) (kept (now (moves .entry)) n) ⌝ }
 {
-    let left = delete_all(changes, count, moves, n);
-    change_all(changes, count, true, moves, left)
+    let left = delete_all(changes, moves, n);
+    change_all(changes, true, moves, left)
 }

@@ -1,60 +1,50 @@
--- The changes of a batch as numbers, and how a walk meets them. Assumes nothing.
+-- The changes of a batch, and how a walk meets them. Assumes nothing.
 use mathlib.Core.Path.{_≡_, refl, ap, _∙_}
 use mathlib.Core.Logic.{inl, inr}
 use mathlib.Core.Bool.{true, cond}
-use mathlib.Core.List.{List, [], _∷_, map}
-use Prim.Native.Nat.{ℕ, _+_, _-_, _/_, _%_, _≤_, _<_, min}
+use mathlib.Core.List.{List, [], _∷_}
+use Prim.Native.Nat.{ℕ, _+_, _-_, _≤_, _<_}
 use native.Mathlib.Omega.{arith}
-use lib.ListN.{length, getD, take, drop, length-map, length-take}
-use lib.Dec.{eqb}
-use Rattle.lists.specs.Tests.{tell, eqb-is, eqb-no}
+use lib.ListN.{length, getD, drop, length-map, drop-of-length-le}
+use Rattle.lists.specs.Lists.{bit}
+use Rattle.lists.specs.Tests.{tell}
 use Rattle.rules.specs.Moves.{weight, wrap}
 use Rattle.rules.specs.Batch.{Change, inserts, deletes}
-use Rattle.moves.specs.Fronts.{rest-more, rest-less, rest-over}
+use Rattle.words.specs.Words.{changeOf, changesOf}
+use Rattle.moves.specs.Fronts.{left-more, left-less}
 
--- A change as one number: twice the packed move, and 1 more for an insert.
-abbrev pub changeOf : ℕ → Change
-changeOf w = record { insert = eqb (w % 2) 1; move = w / 2 }
+-- The changes that numbers hold, from place i on.
+abbrev pub changesFrom : List ℕ → ℕ → List Change
+changesFrom l i = changesOf (drop i l)
 
-abbrev pub changesOf : List ℕ → List Change
-changesOf l = map changeOf l
-
--- The first n changes of a room, from place i on.
-abbrev pub changesFrom : List ℕ → ℕ → ℕ → List Change
-changesFrom l n i = changesOf (drop i (take n l))
-
-module _ (l : List ℕ) (n i : ℕ) where
+module _ (l : List ℕ) (i : ℕ) where
   -- The next change, and the rest.
-  pub changes-more : i < min n (length l) → changesFrom l n i ≡ changeOf (getD l i 0) ∷ changesFrom l n (i + 1)
-  changes-more h = ap changesOf (rest-more l n i h)
+  pub changes-more : i < length l → changesFrom l i ≡ changeOf (getD l i 0) ∷ changesFrom l (i + 1)
+  changes-more h = ap changesOf (left-more l i h)
 
   -- The change before, in front of the rest.
-  pub changes-less : 0 < i → i ≤ min n (length l) → changesFrom l n (i - 1) ≡ changeOf (getD l (i - 1) 0) ∷ changesFrom l n i
-  changes-less p h = ap changesOf (rest-less l n i p h)
+  pub changes-less : 0 < i → i ≤ length l → changesFrom l (i - 1) ≡ changeOf (getD l (i - 1) 0) ∷ changesFrom l i
+  changes-less p h = ap changesOf (left-less l i p h)
 
   -- At the end nothing is left.
-  pub changes-over : min n (length l) ≤ i → changesFrom l n i ≡ []
-  changes-over h = ap changesOf (rest-over l n i h)
+  pub changes-over : length l ≤ i → changesFrom l i ≡ []
+  changes-over h = ap changesOf (drop-of-length-le l h)
 
 -- The stamp carried over one change.
 abbrev pub carriedBy : ℕ → Change → ℕ
 carriedBy x c = cond (c .insert) (wrap (x + weight (c .move))) (wrap (x + (4294967296 - wrap (weight (c .move)))))
 
 -- A change counts 1 as an insert, and 0 as a delete.
-pub inserts-more : (w : ℕ) (cs : List Change) → length (inserts (changeOf w ∷ cs)) ≡ w % 2 + length (inserts cs)
-inserts-more w cs =
-    elim (tell true (eqb (w % 2) 1)) [
-      | inl t ↦ let e = eqb-is (w % 2) 1 .0 t in rw t (omega arith)
-      | inr t ↦ let e = eqb-no (w % 2) 1 .0 t in let f : w % 2 ≡ 0 = omega arith in rw t (omega arith)
-    ]
+pub inserts-more : (c : Change) (cs : List Change) → length (inserts (c ∷ cs)) ≡ bit (c .insert) + length (inserts cs)
+inserts-more c cs = elim (tell true (c .insert)) [ inl t ↦ rw t (omega arith) | inr t ↦ rw t (omega arith) ]
 
 -- Each change is an insert or a delete.
-pub inserts-deletes : (cs : List Change) → length (inserts cs) + length (deletes cs) ≡ length cs
+inserts-deletes : (cs : List Change) → length (inserts cs) + length (deletes cs) ≡ length cs
 inserts-deletes [] = refl
 inserts-deletes (c ∷ cs) =
     let h = inserts-deletes cs in
     elim (tell true (c .insert)) [ inl t ↦ rw t (omega arith) | inr t ↦ rw t (omega arith) ]
 
--- And of the first n changes of a room there are as many as the room has.
-pub changes-count : (l : List ℕ) (n : ℕ) → length (inserts (changesOf (take n l))) + length (deletes (changesOf (take n l))) ≡ min n (length l)
-changes-count l n = inserts-deletes (changesOf (take n l)) ∙ length-map (take n l) changeOf ∙ length-take n l
+-- And there are as many as numbers.
+pub changes-count : (l : List ℕ) → length (inserts (changesOf l)) + length (deletes (changesOf l)) ≡ length l
+changes-count l = inserts-deletes (changesOf l) ∙ length-map l changeOf

@@ -6,7 +6,7 @@ use mathlib.Core.Option.{Option, none, some}
 use Prim.Native.Nat.{ℕ, _+_, _≤_, min}
 use native.Mathlib.Decide.{decLe}
 use native.Mathlib.Omega.{arith}
-use lib.ListN.{length, take}
+use lib.ListN.{length}
 use lib.Dec.{eqb, leb}
 use Rattle.lists.specs.Lists.{sumOf}
 use Rattle.lists.specs.Tests.{leb-is, no-way}
@@ -66,22 +66,21 @@ in-front b (some r) l m h = refl
 
 -- What a batch may rely on: the session's stamp is that of its moves, which are in range and in order, and each state of a live
 -- session has one.
-pub record Held (s : Session) (moves : List ℕ) : Type 0 where
-  pub stamp : s .stamp ≡ stampOf (take (s .moves) moves)
-  pub in-range : movesOk (s .sizes) 0 (take (s .moves) moves) ≡ true
-  pub lively : liveOk (s .live) (s .sizes .states) (take (s .moves) moves) ≡ true
+pub record Held (s : Session) (ms : List ℕ) : Type 0 where
+  pub stamp : s .stamp ≡ stampOf ms
+  pub in-range : movesOk (s .sizes) 0 ms ≡ true
+  pub lively : liveOk (s .live) (s .sizes .states) ms ≡ true
 
-pub held-ascends : (s : Session) (moves : List ℕ) → Held s moves → ascends 0 (take (s .moves) moves) ≡ true
-held-ascends s moves h = moves-ascend (s .sizes) 0 (take (s .moves) moves) (h .in-range)
+pub held-ascends : (s : Session) (ms : List ℕ) → Held s ms → ascends 0 ms ≡ true
+held-ascends s ms h = moves-ascend (s .sizes) 0 ms (h .in-range)
 
 -- What the code finds is what the judgement says.
-pub verdict-judges : (s : Session) (room : ℕ) (moves : List ℕ) (b : Batch) (v : Verdict) → Held s moves → let ms = take (s .moves) moves in faultOf v
+pub verdict-judges : (s : Session) (room : ℕ) (ms : List ℕ) (b : Batch) (v : Verdict) → Held s ms → faultOf v
     ≡ orElse (unless 11 (eqb (b .stamp) (s .stamp))) (orElse (repeated [] 5 (b .changes)) (orElse (misplaced ms 5 (b .changes))
     (orElse (unless 10 (fitsBy room (length ms) (b .changes))) (unless 16 (livesBy (s .live) ms (b .changes))))))
     → verdictSays b v ≡ judge s room ms b
 unfolding judge
-verdict-judges s room moves b v g f =
-    let ms = take (s .moves) moves in
+verdict-judges s room ms b v g f =
     let n = repeated [] 5 (b .changes) in
     let m = misplaced ms 5 (b .changes) in
     let u = unless 10 (fitsBy room (length ms) (b .changes)) in
@@ -96,7 +95,7 @@ verdict-judges s room moves b v g f =
     (λ q. let r = repeated-in [] 5 (b .changes) p in
     let k = wrong-in ms 5 (b .changes) q in
     let j : Judged ms (b .changes) = (r .0, r .1, k .0, k .1) in
-    let d = edited-length ms (b .changes) (held-ascends s moves g) j in
+    let d = edited-length ms (b .changes) (held-ascends s ms g) j in
     first-two b u x ∙ ap₂ (λ (c d : Bool). firstOf (unless 10 c ∷ unless 16 d ∷ []) b)
     (same-test (length (edited (b .changes) ms)) (length ms + length (inserts (b .changes))) (min most-moves room) (length (deletes (b .changes))) d)
     (sym (lives-edited (s .sizes) ms (b .changes) j (g .in-range) (s .live) (g .lively))))))

@@ -6,13 +6,11 @@ use mathlib.Core.List.{List}
 use Prim.Native.Nat.{ℕ, _+_, _≤_, _<_}
 use lib.Dec.{eqb}
 use lib.ListN.{length, getD, set}
-use Rattle.lists.specs.Lists.{bit}
 use Rattle.rules.specs.Limits.{most-changes}
 use Rattle.rules.specs.Model.{moveOk}
-use Rattle.rules.specs.Moves.{pack}
 use Rattle.rules.specs.declared.Sizes.{Sizes}
+use Rattle.words.specs.Words.{packOf, codeOf}
 use Rattle.bytes_read.specs.Places.{moveAt}
-use Rattle.batch_read.specs.Reading.{codeOf}
 use Rattle.batch_read.specs.declared.ChangeRun.{ChangeRun}
 use Rattle.batch_read.specs.declared.ChangeTurn.{ChangeTurn}
 use Rattle.batch_read.specs.declared.ChangeTurn.the-variants as T
@@ -30,7 +28,7 @@ withChange x = record { count = x .count + 1; at = x .at + 6 }
 
 -- It as one number.
 abbrev pub nextCode : List ℕ → ChangeRun → ℕ
-nextCode s x = codeOf (pack (moveAt s (x .at + 1) .source .0) (moveAt s (x .at + 1) .action .0) (moveAt s (x .at + 1) .target .0)) (bit (eqb (getD s (x .at) 0) 8))
+nextCode s x = codeOf (packOf (moveAt s (x .at + 1))) (eqb (getD s (x .at) 0) 8)
 
 -- The room after it is put down behind those so far.
 abbrev pub changePut : List ℕ → ChangeRun → List ℕ → List ℕ

@@ -1,13 +1,12 @@
 -- Good changes that stand one after another are put down, each as by a turn of its own. Assumes nothing.
 use mathlib.Core.Path.{_≡_, refl, _∙_}
 use mathlib.Core.Logic.{_⊎_, inl, inr}
-use mathlib.Core.Bool.{true, _||_}
+use mathlib.Core.Bool.{Bool, true, false, _||_}
 use mathlib.Core.List.{List}
 use Prim.Native.Nat.{ℕ, _+_, _≤_}
 use native.Mathlib.Omega.{arith}
 use lib.Dec.{eqb}
 use lib.ListN.{length, getD}
-use Rattle.lists.specs.Lists.{bit}
 use Rattle.lists.specs.Tests.{or-out, eqb-is, ltb-is}
 use Rattle.rules.specs.Limits.{most-changes}
 use Rattle.rules.specs.declared.Sizes.{Sizes}
@@ -42,7 +41,7 @@ module _ (z : Sizes) (s : List ℕ) (p : ℕ) where
   turnAt x = T.Go p (x .count + 1) (nextCode s x) (x .at + 6)
 
   -- An insert, or a delete, that is good goes on.
-  good-goes : (x : ChangeRun) (i : ℕ) → GoodChange s z x → bit (eqb (getD s (x .at) 0) 8) ≡ i → changeTurn z p (x .count) (moveAt s (x .at + 1)) i (x .at) (x .at + 6) ≡ turnAt x
+  good-goes : (x : ChangeRun) (i : Bool) → GoodChange s z x → eqb (getD s (x .at) 0) 8 ≡ i → changeTurn z p (x .count) (moveAt s (x .at + 1)) i (x .at) (x .at + 6) ≡ turnAt x
   unfolding changeTurn
   good-goes x i g e = rw (ltb-is (x .count) most-changes .1 (g .few), g .fits, e) refl
 
@@ -52,8 +51,8 @@ module _ (z : Sizes) (s : List ℕ) (p : ℕ) where
   change-turned x g =
       let m = moveAt s (x .at + 1) in
       elim (g .kind) [
-        | inl e ↦ rw (good-goes x 1 g (rw e refl)) at (turned-insert z s p (x .count) (x .at) (x .at + 6) (recordOf 8 s (x .at + 1)) m (change-stands s (x .at) 8 (g .inside-bytes) e refl) refl)
-        | inr e ↦ rw (good-goes x 0 g (rw e refl)) at (turned-delete z s p (x .count) (x .at) (x .at + 6) (recordOf 9 s (x .at + 1)) m (change-stands s (x .at) 9 (g .inside-bytes) e refl) refl)
+        | inl e ↦ rw (good-goes x true g (rw e refl)) at (turned-insert z s p (x .count) (x .at) (x .at + 6) (recordOf 8 s (x .at + 1)) m (change-stands s (x .at) 8 (g .inside-bytes) e refl) refl)
+        | inr e ↦ rw (good-goes x false g (rw e refl)) at (turned-delete z s p (x .count) (x .at) (x .at + 6) (recordOf 9 s (x .at + 1)) m (change-stands s (x .at) 9 (g .inside-bytes) e refl) refl)
       ]
 
   -- All of them.

@@ -1,40 +1,36 @@
 -- Reading a batch on from a place of the bytes, and the numbers that its changes are put down as. Definitions only.
 use mathlib.Core.Path.{_≡_}
-use mathlib.Core.Bool.{cond}
-use mathlib.Core.List.{List, [], _∷_}
-use Prim.Native.Nat.{ℕ, suc, _+_, _*_, _≤_, _<_}
+use mathlib.Core.Bool.{Bool, cond}
+use mathlib.Core.List.{List, [], _∷_, map}
+use Prim.Native.Nat.{ℕ, suc, _+_, _≤_, _<_}
 use lib.Dec.{eqb, ltb}
 use lib.ListN.{length}
 use lib.Seq.{sets}
-use Rattle.lists.specs.Lists.{bit}
 use Rattle.rules.specs.Answers.{numberOf}
 use Rattle.rules.specs.Batch.{Batch, Change, Place, after, stepBatch, putBatch, emptyBatch, readBatch}
 use Rattle.rules.specs.Limits.{most-changes}
 use Rattle.rules.specs.Model.{moveOk}
-use Rattle.rules.specs.Moves.{pack, wrap}
+use Rattle.rules.specs.Moves.{pack}
 use Rattle.rules.specs.Records.{Rec, field, Parts, ends, broken, part, parts, Turn, no, back, next, over, Outcome, refused, accepted, run}
 use Rattle.rules.specs.declared.Move.{Move}
 use Rattle.rules.specs.declared.Refusal.the-variants as Why
 use Rattle.rules.specs.declared.Sizes.{Sizes}
+use Rattle.words.specs.Words.{packOf, codeOf}
 use Rattle.bytes_read.specs.PartsAt.{partsAt}
 use Rattle.batch_read.specs.declared.ReadBatch.{ReadBatch}
 use Rattle.batch_read.specs.declared.ReadBatch.the-variants as B
 use Rattle.batch_read.specs.declared.ChangeTurn.{ChangeTurn}
 use Rattle.batch_read.specs.declared.ChangeTurn.the-variants as T
 
--- A move and a bit as one number of four bytes.
-abbrev pub codeOf : ℕ → ℕ → ℕ
-codeOf q i = wrap (2 * q + i)
-
--- A change as one number: twice the move, and 1 for an insert.
-abbrev pub changeCode : Change → ℕ
-changeCode c = codeOf (c .move) (bit (c .insert))
+-- Changes as numbers.
+abbrev pub codes : List Change → List ℕ
+codes cs = map (λ c. codeOf (c .move) (c .insert)) cs
 
 -- What the turn at a change, and the one at the end record, come to.
-unfoldable pub changeTurn : Sizes → ℕ → ℕ → Move → ℕ → ℕ → ℕ → ChangeTurn
-changeTurn z stamp n m i at k =
+unfoldable pub changeTurn : Sizes → ℕ → ℕ → Move → Bool → ℕ → ℕ → ChangeTurn
+changeTurn z stamp n m insert at k =
     cond (ltb n most-changes)
-    (cond (moveOk z (m .source .0) (m .action .0) (m .target .0)) (T.Go stamp (n + 1) (codeOf (pack (m .source .0) (m .action .0) (m .target .0)) i) k) (T.Stop (B.Refused Why.BadNumber at)))
+    (cond (moveOk z (m .source .0) (m .action .0) (m .target .0)) (T.Go stamp (n + 1) (codeOf (packOf m) insert) k) (T.Stop (B.Refused Why.BadNumber at)))
     (T.Stop (B.Refused Why.BadSize at))
 
 unfoldable pub endTurn : ℕ → ℕ → ℕ → ℕ → ChangeTurn
@@ -70,7 +66,7 @@ from z s stamp n at = summaryAfter stamp n (readOn z n (partsAt s at))
 abbrev pub codesBy : List ℕ → Rec → Turn Place → List ℕ
 codesBy l r (no k) = []
 codesBy l r (back k d) = []
-codesBy l r (next p) = codeOf (pack (field r 0) (field r 1) (field r 2)) (bit (eqb (r .kind) 8)) ∷ l
+codesBy l r (next p) = codeOf (pack (field r 0) (field r 1) (field r 2)) (eqb (r .kind) 8) ∷ l
 codesBy l r over = []
 
 unfoldable pub codesFrom : Sizes → ℕ → Parts → List ℕ

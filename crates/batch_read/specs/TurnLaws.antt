@@ -1,7 +1,7 @@
 -- One turn of the reading of a batch, by the record at the place. Assumes nothing.
 use mathlib.Core.Path.{_≡_, refl, sym, _∙_}
 use mathlib.Core.Logic.{inl, inr}
-use mathlib.Core.Bool.{true, cond}
+use mathlib.Core.Bool.{Bool, true, false, cond}
 use mathlib.Core.List.{List, [], _∷_}
 use Prim.Native.Nat.{ℕ, suc, _+_}
 use native.Mathlib.Omega.{arith}
@@ -14,7 +14,6 @@ use Rattle.lists.specs.Tests.{tell, or-no}
 use Rattle.rules.specs.Batch.{Batch, first, after, stepBatch, putBatch, emptyBatch, readBatch}
 use Rattle.rules.specs.Limits.{most-changes}
 use Rattle.rules.specs.Model.{moveOk}
-use Rattle.rules.specs.Moves.{pack}
 use Rattle.rules.specs.Records.{Rec, ends, broken, no, next, Outcome, refused, accepted, onto, atEnd, run, numbersOf}
 use Rattle.rules.specs.declared.Move.{Move}
 use Rattle.rules.specs.declared.Record.{Record}
@@ -23,13 +22,14 @@ use Rattle.rules.specs.Answers.{numberOf}
 use Rattle.rules.specs.declared.Refusal.{Refusal}
 use Rattle.rules.specs.declared.Refusal.the-variants as Why
 use Rattle.rules.specs.declared.Sizes.{Sizes}
+use Rattle.words.specs.Words.{packOf, codeOf}
 use Rattle.laws.specs.bytes.Kinds.{Other, other-kind, other-kinds}
 use Rattle.bytes_read.specs.PartsAt.{partsAt, PartsBy, parts-at}
 use Rattle.bytes_read.specs.Places.{recordAt}
 use Rattle.bytes_read.specs.declared.Read.{Read}
 use Rattle.bytes_read.specs.declared.Read.the-variants.{Got, Broken}
 use Rattle.batch_read.specs.Going.{Stamped, Began}
-use Rattle.batch_read.specs.Reading.{codeOf, changeTurn, endTurn, summaryAfter, summary, readOn, from, codesBy, codesFrom, codesOf, Goes, Turned}
+use Rattle.batch_read.specs.Reading.{changeTurn, endTurn, summaryAfter, summary, readOn, from, codesBy, codesFrom, codesOf, Goes, Turned}
 use Rattle.batch_read.specs.declared.ChangeTurn.the-variants as T
 use Rattle.batch_read.specs.declared.ReadBatch.the-variants as B
 
@@ -79,17 +79,17 @@ module _ (z : Sizes) (s : List ℕ) (stamp n at k : ℕ) (r : Record) (got : rec
       record { stamped = refl; counted = refl; on = there .0; inside = there .1; same = rw e a; codes = rw e b }
 
   -- A change, by its demands in order.
-  turned-change : (m : Move) (i : ℕ)
+  turned-change : (m : Move) (insert : Bool)
       → stepBatch z (after n) (numbersOf r) ≡ cond (ltb n most-changes) (cond (moveOk z (m .source .0) (m .action .0) (m .target .0)) (next (after (suc n))) (no 4)) (no 3)
-      → ((l : List ℕ) → codesBy l (numbersOf r) (next (after (suc n))) ≡ codeOf (pack (m .source .0) (m .action .0) (m .target .0)) i ∷ l)
-      → Turned z s stamp n at (changeTurn z stamp n m i at k)
+      → ((l : List ℕ) → codesBy l (numbersOf r) (next (after (suc n))) ≡ codeOf (packOf m) insert ∷ l)
+      → Turned z s stamp n at (changeTurn z stamp n m insert at k)
   unfolding changeTurn
-  turned-change m i h c =
+  turned-change m insert h c =
       elim (tell true (ltb n most-changes)) [
         | inr t ↦ rw t (turned-no Why.BadSize (h ∙ rw t refl))
         | inl t ↦ elim (tell true (moveOk z (m .source .0) (m .action .0) (m .target .0))) [
           | inr u ↦ rw (t, u) (turned-no Why.BadNumber (h ∙ rw (t, u) refl))
-          | inl u ↦ rw (t, u) (goes (codeOf (pack (m .source .0) (m .action .0) (m .target .0)) i) (h ∙ rw (t, u) refl) c)
+          | inl u ↦ rw (t, u) (goes (codeOf (packOf m) insert) (h ∙ rw (t, u) refl) c)
         ]
       ]
 
@@ -99,13 +99,13 @@ unfolding stepBatch
 not-due z n r m = let k = simp or-no at (other-kinds (6 ∷ 8 ∷ 9 ∷ []) r m) in rw (k .0, k .1 .0, k .1 .1 .0) refl
 
 -- An insert, a delete, the end, and any other record.
-pub turned-insert : (z : Sizes) (s : List ℕ) (stamp n at k : ℕ) (r : Record) (m : Move) → recordAt s at ≡ Got r k → r ≡ R.Insert m → Turned z s stamp n at (changeTurn z stamp n m 1 at k)
+pub turned-insert : (z : Sizes) (s : List ℕ) (stamp n at k : ℕ) (r : Record) (m : Move) → recordAt s at ≡ Got r k → r ≡ R.Insert m → Turned z s stamp n at (changeTurn z stamp n m true at k)
 unfolding stepBatch
-turned-insert z s stamp n at k r m got e = turned-change z s stamp n at k (R.Insert m) (rw (← e) got) m 1 refl (λ l. refl)
+turned-insert z s stamp n at k r m got e = turned-change z s stamp n at k (R.Insert m) (rw (← e) got) m true refl (λ l. refl)
 
-pub turned-delete : (z : Sizes) (s : List ℕ) (stamp n at k : ℕ) (r : Record) (m : Move) → recordAt s at ≡ Got r k → r ≡ R.Delete m → Turned z s stamp n at (changeTurn z stamp n m 0 at k)
+pub turned-delete : (z : Sizes) (s : List ℕ) (stamp n at k : ℕ) (r : Record) (m : Move) → recordAt s at ≡ Got r k → r ≡ R.Delete m → Turned z s stamp n at (changeTurn z stamp n m false at k)
 unfolding stepBatch
-turned-delete z s stamp n at k r m got e = turned-change z s stamp n at k (R.Delete m) (rw (← e) got) m 0 refl (λ l. refl)
+turned-delete z s stamp n at k r m got e = turned-change z s stamp n at k (R.Delete m) (rw (← e) got) m false refl (λ l. refl)
 
 pub turned-end : (z : Sizes) (s : List ℕ) (stamp n at k : ℕ) (r : Record) → recordAt s at ≡ Got r k → r ≡ R.End → Turned z s stamp n at (endTurn stamp n k (length s))
 unfolding stepBatch readOn run codesFrom endTurn

@@ -1,10 +1,9 @@
 // A batch on the wire, read and judged up to refusal 4.
 ghost use mathlib.Core.Path.{_≡_};
 ghost use mathlib.Core.Bool.{true};
-ghost use Prim.Native.Nat.{_+_, _*_, _≤_, _<_};
+ghost use Prim.Native.Nat.{_+_, _≤_, _<_};
 ghost use lib.ListN.{length};
 ghost use Rattle.rules.specs.Limits.{most-changes};
-ghost use Rattle.rules.specs.Moves.{pack, wrap};
 ghost use Rattle.batch_read.specs.Reading.{changeTurn, endTurn, ReadInto};
 ghost use Rattle.batch_read.specs.Going.{placeOf, answerOf, putChange, Begins, Follows, Going};
 ghost use Rattle.batch_read.specs.Passing.{GoodChange, withChange, changePut, ChangesPut, Within, Forwarded};
@@ -34,20 +33,13 @@ pub struct ChangeRun {
     pub at: usize,
 }
 
-// A change as one number: twice the move, and 1 for an insert.
-fn coded(m: Move, insert: u8) -> u32
-    ensures { λ r. ⌜ r ≡ wrap (2 * pack (m .source .0) (m .action .0) (m .target .0) + insert) ⌝ }
-{
-    ((2 * words::packed(m) + insert as u64) % 4294967296) as u32
-}
-
 // A change after n others: not the 65th, and in range.
 fn change_turn(
     z: Sizes,
     stamp: u32,
     n: usize,
     m: Move,
-    insert: u8,
+    insert: bool,
     at: usize,
     next: usize,
 ) -> ChangeTurn
@@ -59,7 +51,7 @@ fn change_turn(
     if !limits::move_ok(z, m) {
         return ChangeTurn::Stop(ReadBatch::Refused(Refusal::BadNumber, at));
     }
-    ChangeTurn::Go(stamp, n + 1, coded(m, insert), next)
+    ChangeTurn::Go(stamp, n + 1, words::change_of(m, insert), next)
 }
 
 // After the end record: any byte is not due.
@@ -83,8 +75,8 @@ fn turn(read: Read, z: Sizes, t: ChangeTurn, len: usize) -> ChangeTurn
         return ChangeTurn::Stop(ReadBatch::Refused(Refusal::Broken, at));
     };
     match rec {
-        Record::Insert(m) => change_turn(z, stamp, n, m, 1, at, next),
-        Record::Delete(m) => change_turn(z, stamp, n, m, 0, at, next),
+        Record::Insert(m) => change_turn(z, stamp, n, m, true, at, next),
+        Record::Delete(m) => change_turn(z, stamp, n, m, false, at, next),
         Record::End => end_turn(stamp, n, next, len),
         _ => ChangeTurn::Stop(ReadBatch::Refused(Refusal::NotDue, at)),
     }
@@ -157,9 +149,9 @@ fn put_next(bytes: &[u8], changes: &mut [u32], x: ChangeRun) -> ChangeRun
 {
     let at = x.at;
     let n = x.count;
-    let insert = (bytes[at] == 8) as u8;
+    let insert = bytes[at] == 8;
     let m = bytes_read::move_at(bytes, at + 1);
-    rooms::set_word(changes, n, coded(m, insert));
+    rooms::set_word(changes, n, words::change_of(m, insert));
     ChangeRun {
         count: n + 1,
         at: at + 6,

@@ -3,13 +3,12 @@ use mathlib.Core.Path.{_≡_, refl, ap}
 use mathlib.Core.Logic.{inl, inr}
 use mathlib.Core.Bool.{true, cond}
 use mathlib.Core.List.{List}
-use Prim.Native.Nat.{ℕ, zero, suc, _/_, _^_, _≤_, _<_}
+use Prim.Native.Nat.{ℕ, zero, suc, _*_, _/_, _^_, _≤_, _<_}
 use native.Mathlib.Omega.{arith}
-use lib.ListN.{length, take, drop}
+use lib.ListN.{length, drop, length-drop}
 use lib.Dec.{ltb}
 use Rattle.lists.specs.Tests.{tell, ltb-is, ltb-in, ltb-no}
 use Rattle.rules.specs.Limits.{most-moves}
-use Rattle.moves.specs.Fronts.{rest-length}
 
 -- The tests made of n places where each leaves half of them, counted up to k.
 abbrev halvings : ℕ → ℕ → ℕ
@@ -64,14 +63,14 @@ few-tests (suc k) n h =
       | inr t ↦ let e : n ≡ 0 = omega (arith, ltb-no 0 n .0 t) in rw (e, none-to-test) (omega arith)
     ]
 
--- So it is of the first n entries of a list, from some place on: what a search is made of.
-pub search-tests : (k n from : ℕ) (l : List ℕ) → n < 2 ^ k → testsFor (length (drop from (take n l))) ≤ k
-search-tests k n from l h = let e = rest-length l n from in few-tests k (length (drop from (take n l))) (omega arith)
+-- So it is of a list, from some place on: what a search is made of.
+pub search-tests : (k from : ℕ) (l : List ℕ) → length l < 2 ^ k → testsFor (length (drop from l)) ≤ k
+search-tests k from l h = let e = length-drop from l in few-tests k (length (drop from l)) (omega arith)
 
 -- A search among as many moves as a model may have takes at most 11 tests.
-pub eleven-tests : (n from : ℕ) (l : List ℕ) → n ≤ most-moves → testsFor (length (drop from (take n l))) ≤ 11
-eleven-tests n from l h = search-tests 11 n from l (omega arith)
+pub eleven-tests : (from : ℕ) (l : List ℕ) → length l ≤ most-moves → testsFor (length (drop from l)) ≤ 11
+eleven-tests from l h = search-tests 11 from l (omega arith)
 
 -- Among four times as many it takes at most 13.
-pub thirteen-tests : (n from : ℕ) (l : List ℕ) → n ≤ 4096 → testsFor (length (drop from (take n l))) ≤ 13
-thirteen-tests n from l h = search-tests 13 n from l (omega arith)
+pub thirteen-tests : (from : ℕ) (l : List ℕ) → length l ≤ 4 * most-moves → testsFor (length (drop from l)) ≤ 13
+thirteen-tests from l h = search-tests 13 from l (omega arith)

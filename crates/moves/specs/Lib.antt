@@ -1,7 +1,6 @@
 pub mod Ascending
 pub mod Fronts
 pub mod Stamps
-pub mod Leading
 pub mod Halving
 pub mod Searching
 pub mod OwnMoves

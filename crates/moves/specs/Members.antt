@@ -3,11 +3,10 @@ use mathlib.Core.Path.{_≡_, refl, sym, ap, _∙_}
 use mathlib.Core.Logic.{inl, inr}
 use mathlib.Core.Bool.{Bool, true, false, _&&_, _||_}
 use mathlib.Core.List.{List, [], _∷_}
-use Prim.Native.Nat.{ℕ, suc, _<_, min}
+use Prim.Native.Nat.{ℕ, suc, _<_}
 use native.Mathlib.Omega.{arith}
 use native.Mathlib.Decide.{ℕ-discrete}
-use lib.ListN.{length, getD, take, length-take}
-use lib.Seq.{getD-take}
+use lib.ListN.{length, getD}
 use lib.Dec.{eqb, ltb}
 use Rattle.lists.specs.Lists.{elem}
 use Rattle.lists.specs.Tests.{tell, and-is, leb-is, ltb-is, ltb-in, ltb-no, eqb-in, eqb-no}
@@ -51,21 +50,8 @@ told q n (x ∷ l) h =
           rw t (ap (λ (b : Bool). b && eqb x q) (ltb-in 0 (suc (length l)) (omega arith)) ∙ at-front q x l (f .1) (omega arith))
     ]
 
--- The same of the first n entries of a list, as code asks it.
-pub held-at : (q n at : ℕ) (l : List ℕ) → ascends 0 (take n l) ≡ true → at ≡ below q (take n l)
-    → (ltb at (min n (length l)) && eqb (getD l at 0) q) ≡ elem q (take n l)
-held-at q n at l h e =
-    let k : at ≡ leading q (take n l) = e ∙ sym (leading-below q 0 (take n l) h) in
-    let r = told q 0 (take n l) h in
-    elim (tell true (ltb at (min n (length l)))) [
-      | inl t ↦
-          let u = ltb-is at (min n (length l)) .0 t in
-          ap (λ (x : ℕ). ltb at (min n (length l)) && eqb x q) (sym (getD-take n l at 0 (omega arith)))
-          ∙ ap (λ (x : ℕ). ltb at x && eqb (getD (take n l) at 0) q) (sym (length-take n l))
-          ∙ ap (λ (x : ℕ). ltb x (length (take n l)) && eqb (getD (take n l) x 0) q) k ∙ r
-      | inr t ↦
-          let v : ltb (leading q (take n l)) (length (take n l)) ≡ false =
-          ap (λ (x : ℕ). ltb x (length (take n l))) (sym k) ∙ ap (λ (x : ℕ). ltb at x) (length-take n l) ∙ t in
-          ap (λ (b : Bool). b && eqb (getD l at 0) q) t
-          ∙ sym (sym r ∙ ap (λ (b : Bool). b && eqb (getD (take n l) (leading q (take n l)) 0) q) v)
-    ]
+-- The same as code asks it, which has the place from a search.
+pub held-at : (q at : ℕ) (l : List ℕ) → ascends 0 l ≡ true → at ≡ below q l → (ltb at (length l) && eqb (getD l at 0) q) ≡ elem q l
+held-at q at l h e =
+    let k : at ≡ leading q l = e ∙ sym (leading-below q 0 l h) in
+    ap (λ (x : ℕ). ltb x (length l) && eqb (getD l x 0) q) k ∙ told q 0 l h

@@ -1,4 +1,4 @@
--- Two searches find the two ends of the part of a state and an action. Assumes nothing.
+-- Two searches find the two ends of a part. Assumes nothing.
 use mathlib.Core.Path.{_≡_, refl, ap, _∙_}
 use mathlib.Core.Logic.{inl, inr}
 use mathlib.Core.Bool.{true}
@@ -7,8 +7,9 @@ use Prim.Native.Nat.{ℕ, suc, _+_, _≤_}
 use native.Mathlib.Nat.{zero-add}
 use native.Mathlib.Numerals.{one-add}
 use native.Mathlib.Omega.{arith}
-use lib.ListN.{drop}
+use lib.ListN.{length, drop}
 use lib.Dec.{ltb}
+use Rattle.lists.specs.Counts.{count-le}
 use Rattle.lists.specs.Tests.{tell, and-is, and-in, leb-is, ltb-is, ltb-no}
 use Rattle.rules.specs.Moves.{pack}
 use Rattle.moves.specs.Ascending.{ascends, below, leading, none-below, leading-below}
@@ -31,11 +32,21 @@ leads-on a b n (q ∷ l) h o =
           rw (none-below a q (q ∷ l) (and-in (leb-is q q .1 (omega arith)) (f .1)) y) (omega (arith, leading-below b n (q ∷ l) o))
     ]
 
--- The first search finds what lies below the state's first move with the action; the second goes on from there to the next action.
-pub two-ends : (s a first last from end : ℕ) (l : List ℕ) → ascends 0 l ≡ true → from ≡ 0 + leading first l → end ≡ from + leading last (drop from l)
-    → first ≡ pack s a 0 → last ≡ pack s (a + 1) 0 → _≡_ {A = Part} (record { from = from; end = end }) (partOf s a l)
-two-ends s a first last from end l h f e j k =
-    let p : from ≡ below first l = f ∙ zero-add (leading first l) ∙ leading-below first 0 l h in
-    let q : end ≡ below last l = e ∙ ap (λ (x : ℕ). x + leading last (drop x l)) p ∙ leads-on first last 0 l (omega arith) h in
-    let u = p ∙ ap (λ (x : ℕ). below x l) j in
-    let v = q ∙ ap (λ (x : ℕ). below x l) k in λ i. record { from = u i; end = v i }
+-- Two searches, the second from where the first ends, find what lies below two keys.
+module _ (a b from end : ℕ) (l : List ℕ) (h : ascends 0 l ≡ true) (f : from ≡ 0 + leading a l) where
+  pub first-end : from ≡ below a l
+  first-end = f ∙ zero-add (leading a l) ∙ leading-below a 0 l h
+
+  -- What the first finds is a place of the list, or its end.
+  pub first-inside : from ≤ length l
+  first-inside = let c = count-le (λ q. ltb q a) l in omega (arith, first-end)
+
+  pub second-end : a ≤ b → end ≡ from + leading b (drop from l) → end ≡ below b l
+  second-end k e = e ∙ ap (λ (x : ℕ). x + leading b (drop x l)) first-end ∙ leads-on a b 0 l k h
+
+-- So they find the part of a state and an action, by the least number that a move of it can have and one past the greatest.
+pub two-ends : (s a first last from end : ℕ) (l : List ℕ) → ascends 0 l ≡ true → first ≡ pack s a 0 → last ≡ pack s (a + 1) 0 → from ≡ 0 + leading first l
+    → end ≡ from + leading last (drop from l) → _≡_ {A = Part} (record { from = from; end = end }) (partOf s a l)
+two-ends s a first last from end l h j k f e =
+    let u = first-end first last from end l h f ∙ ap (λ (x : ℕ). below x l) j in
+    let v = second-end first last from end l h f (omega arith) e ∙ ap (λ (x : ℕ). below x l) k in λ i. record { from = u i; end = v i }

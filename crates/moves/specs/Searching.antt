@@ -3,16 +3,15 @@ use mathlib.Core.Path.{_≡_, ap, _∙_}
 use mathlib.Core.Logic.{inl, inr}
 use mathlib.Core.Bool.{true, cond}
 use mathlib.Core.List.{List, [], _∷_}
-use Prim.Native.Nat.{ℕ, zero, suc, _+_, _-_, _/_, _≤_, _<_, min}
+use Prim.Native.Nat.{ℕ, zero, suc, _+_, _-_, _/_, _≤_, _<_}
 use native.Mathlib.Nat.{zero-add}
 use native.Mathlib.Omega.{arith}
-use lib.ListN.{length, getD, take, drop}
-use lib.Seq.{getD-take, getD-drop}
+use lib.ListN.{length, getD, drop, length-drop}
+use lib.Seq.{getD-drop}
 use lib.Dec.{ltb}
 use Rattle.lists.specs.Counts.{count-le}
 use Rattle.lists.specs.Tests.{tell, and-is, leb-is, ltb-is, ltb-no}
 use Rattle.moves.specs.Ascending.{ascends, leading, leading-below}
-use Rattle.moves.specs.Fronts.{rest-length}
 use Rattle.moves.specs.Halving.{testsFor, none-to-test, test-more, tests-places}
 
 -- What is left of an ascending list ascends.
@@ -51,51 +50,48 @@ follows key (suc i) (q ∷ l) k y =
       | inr t ↦ rw t (omega arith)
     ]
 
--- The search in the first n entries of l, from place `from` on.
-module _ (key : ℕ) (l : List ℕ) (n from : ℕ) where
+-- The search in l, from place `from` on.
+module _ (key : ℕ) (l : List ℕ) (from : ℕ) where
   -- The places to search.
   abbrev places : ℕ
-  places = length (drop from (take n l))
+  places = length (drop from l)
 
   -- The place of the first entry that is not below the key.
   abbrev first : ℕ
-  first = from + leading key (drop from (take n l))
+  first = from + leading key (drop from l)
 
   -- It is `at` or one of the `left` places after it, and the tests made and those still to make are all that there are.
   abbrev pub Narrowed : ℕ → ℕ → ℕ → Type 0
   Narrowed at left made = (((from ≤ at) × (at + left ≤ from + places)) × ((at ≤ first) × (first ≤ at + left))) × (made + testsFor left ≡ testsFor places)
 
   -- Where the entry at a place lies below the key, the place searched for lies past it; elsewhere it does not.
-  entry-tells : ascends 0 (take n l) ≡ true → (p : ℕ) → from ≤ p → p < from + places
-      → (getD l p 0 < key → p < first) × (key ≤ getD l p 0 → first ≤ p)
+  entry-tells : ascends 0 l ≡ true → (p : ℕ) → from ≤ p → p < from + places → (getD l p 0 < key → p < first) × (key ≤ getD l p 0 → first ≤ p)
   entry-tells h p a b =
-      let k = rest-ascends from 0 (take n l) h in
-      let w = rest-length l n from in
+      let k = rest-ascends from 0 l h in
       let u : from + (p - from) ≡ p = omega arith in
-      let e : getD (drop from (take n l)) (p - from) 0 ≡ getD l p 0 =
-      getD-drop from (take n l) (p - from) 0 ∙ ap (λ (x : ℕ). getD (take n l) x 0) u ∙ getD-take n l p 0 (omega arith) in (
-        λ y. let r = leads key (k .0) (p - from) (drop from (take n l)) (k .1) (omega arith) (rw e y) in omega arith,
-        λ y. let r = follows key (p - from) (drop from (take n l)) (omega arith) (rw e y) in omega arith,
+      let e : getD (drop from l) (p - from) 0 ≡ getD l p 0 = getD-drop from l (p - from) 0 ∙ ap (λ (x : ℕ). getD l x 0) u in (
+        λ y. let r = leads key (k .0) (p - from) (drop from l) (k .1) (omega arith) (rw e y) in omega arith,
+        λ y. let r = follows key (p - from) (drop from l) (omega arith) (rw e y) in omega arith,
       )
 
   -- At the start it may be any of the places.
-  pub wide : (left : ℕ) → ascends 0 (take n l) ≡ true → left ≡ min n (length l) - min from (min n (length l)) → Narrowed from left 0
+  pub wide : (left : ℕ) → ascends 0 l ≡ true → left ≡ length l - from → Narrowed from left 0
   wide left h e =
-      let w = rest-length l n from in
-      let k = rest-ascends from 0 (take n l) h in
-      let b = leading-below key (k .0) (drop from (take n l)) (k .1) in
-      let c = count-le (λ q. ltb q key) (drop from (take n l)) in
+      let w = length-drop from l in
+      let k = rest-ascends from 0 l h in
+      let b = leading-below key (k .0) (drop from l) (k .1) in
+      let c = count-le (λ q. ltb q key) (drop from l) in
       let f : left ≡ places = omega arith in (omega arith, rw f (zero-add (testsFor places)))
 
   -- The places left are places of the list, and there are fewer tests made than places.
   pub inside : (at left made : ℕ) → Narrowed at left made → 0 < left → (at + left ≤ length l) × (made < length l)
   inside at left made w k =
-      let d = rest-length l n from in
+      let d = length-drop from l in
       let c = test-more left k in
       let p = tests-places places in (omega arith, omega arith)
 
   -- One test leaves half of the places: those past the one tested, or as many from `at` on.
-  pub narrower : (at left made middle rest next more : ℕ) → ascends 0 (take n l) ≡ true → Narrowed at left made → 0 < left
+  pub narrower : (at left made middle rest next more : ℕ) → ascends 0 l ≡ true → Narrowed at left made → 0 < left
       → (next ≡ cond (ltb (getD l middle 0) key) (middle + 1) at) × (more ≡ made + 1) → middle + 1 + rest ≡ at + left → rest ≡ left / 2 → Narrowed next rest more
   narrower at left made middle rest next more h w k e m d =
       let t = entry-tells h middle (omega arith) (omega arith) in

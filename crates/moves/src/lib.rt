@@ -2,17 +2,16 @@
 ghost use mathlib.Core.Path.{_≡_};
 ghost use mathlib.Core.Bool.{true, cond};
 ghost use Prim.Native.Nat.{_+_, _-_, _≤_, _<_, min};
-ghost use lib.ListN.{length, getD, take, drop};
+ghost use lib.ListN.{length, getD, drop};
 ghost use lib.Dec.{ltb};
 ghost use Rattle.lists.specs.Lists.{elem};
-ghost use Rattle.rules.specs.Moves.{source, action, target, weight, wrap, stampOf};
+ghost use Rattle.rules.specs.Moves.{weight, wrap, stampOf};
 ghost use Rattle.laws.specs.moves.Emptied.{movesOf};
 ghost use Rattle.moves.specs.Ascending.{ascends, below, leading};
 ghost use Rattle.moves.specs.Halving.{testsFor};
 ghost use Rattle.moves.specs.OwnMoves.{partOf};
 ghost use Rattle.moves.specs.Stamps.{weightOf};
 use rules::Action;
-use rules::Move;
 use rules::State;
 
 // A part of the list: the place of its first move, and the place past its last.
@@ -31,39 +30,6 @@ pub fn least(a: usize, b: usize) -> usize
     b
 }
 
-// Source, action and target of a packed move.
-pub fn source_of(m: u32) -> u32
-    ensures { λ r. ⌜ (r ≡ source m) × (r < 65536) ⌝ }
-{
-    m / 65536
-}
-
-pub fn action_of(m: u32) -> u32
-    ensures { λ r. ⌜ (r ≡ action m) × (r < 64) ⌝ }
-{
-    m % 65536 / 1024
-}
-
-pub fn target_of(m: u32) -> u32
-    ensures { λ r. ⌜ (r ≡ target m) × (r < 1024) ⌝ }
-{
-    m % 1024
-}
-
-// A packed move, taken apart.
-pub fn unpacked(m: u32) -> Move
-    ensures { λ r. ⌜ (r .source .0 ≡ source m) × ((r .action .0 ≡ action m) × (r .target .0 ≡ target m)) ⌝ }
-{
-    let from = source_of(m) as u16;
-    let by = action_of(m) as u8;
-    let to = target_of(m) as u16;
-    Move {
-        source: State(from),
-        action: Action(by),
-        target: State(to),
-    }
-}
-
 // What so many moves add to the stamp, wrapping, by the sums of their sources, actions and targets.
 fn weighed(sources: u32, actions: u32, targets: u32, n: u32) -> u32
     ensures { λ r. ⌜ r ≡ wrap (weightOf sources actions targets n) ⌝ }
@@ -79,7 +45,10 @@ fn weighed(sources: u32, actions: u32, targets: u32, n: u32) -> u32
 pub fn weight_of(m: u32) -> u32
     ensures { λ r. ⌜ r ≡ wrap (weight m) ⌝ }
 {
-    weighed(source_of(m), action_of(m), target_of(m), 1)
+    let from = words::source_of(m);
+    let by = words::action_of(m);
+    let to = words::target_of(m);
+    weighed(from.0 as u32, by.0 as u32, to.0 as u32, 1)
 }
 
 // The stamp with one move more.
@@ -96,23 +65,22 @@ pub fn stamp_without(stamp: u32, m: u32) -> u32
     std::num::wrapping_sub_u32(stamp, weight_of(m))
 }
 
-// The stamp of the first n moves: sources, actions and targets are summed apart, and weighed once.
-pub fn stamp_of(moves: &[u32], n: usize) -> u32
-    ensures { λ r. ⌜ r ≡ stampOf (take n (now (moves .entry))) ⌝ }
+// The stamp of the moves: sources, actions and targets are summed apart, and weighed once.
+pub fn stamp_of(moves: &[u32]) -> u32
+    ensures { λ r. ⌜ r ≡ stampOf (now (moves .entry)) ⌝ }
 {
-    let end = least(n, moves.len());
     let mut i: usize = 0;
     let mut sources: u32 = 0;
     let mut actions: u32 = 0;
     let mut targets: u32 = 0;
-    while i < end {
+    while i < moves.len() {
         let m = moves[i];
-        sources = std::num::wrapping_add_u32(sources, source_of(m));
-        actions = std::num::wrapping_add_u32(actions, action_of(m));
-        targets = std::num::wrapping_add_u32(targets, target_of(m));
+        sources = std::num::wrapping_add_u32(sources, words::source_of(m).0 as u32);
+        actions = std::num::wrapping_add_u32(actions, words::action_of(m).0 as u32);
+        targets = std::num::wrapping_add_u32(targets, words::target_of(m).0 as u32);
         i = i + 1;
     }
-    weighed(sources, actions, targets, (end % 4294967296) as u32)
+    weighed(sources, actions, targets, (i % 4294967296) as u32)
 }
 
 // How far a search is: the place that it goes on from, and how many tests it took.
@@ -139,15 +107,13 @@ fn tested(moves: &[u32], found: Found, middle: usize, key: u64) -> Found
     }
 }
 
-// The place of the first of the n moves, from `from` on, that does not lie below the key, in an ascending list, found by halving: it is
+// The place of the first of the moves, from `from` on, that does not lie below the key, in an ascending list, found by halving: it is
 // where the search is or one of the `left` places after it, and each test, made in the middle of these, leaves half of them.
-fn search(moves: &[u32], n: usize, from: usize, key: u64) -> Found
-    requires { ⌜ ascends 0 (take n (now moves)) ≡ true ⌝ }
-    ensures { λ r. ⌜ (r .at ≡ from + leading key (drop from (take n (now (moves .entry)))))
-        × (r .tests ≡ testsFor (length (drop from (take n (now (moves .entry)))))) ⌝ }
+fn search(moves: &[u32], from: usize, key: u64) -> Found
+    requires { ⌜ (ascends 0 (now moves) ≡ true) × (from ≤ length (now moves)) ⌝ }
+    ensures { λ r. ⌜ (r .at ≡ from + leading key (drop from (now (moves .entry)))) × (r .tests ≡ testsFor (length (drop from (now (moves .entry))))) ⌝ }
 {
-    let end = least(n, moves.len());
-    let mut left = end - least(from, end);
+    let mut left = moves.len() - from;
     let mut found = Found { at: from, tests: 0 };
     while 0 < left {
         let before = (left - 1) / 2;
@@ -157,45 +123,43 @@ fn search(moves: &[u32], n: usize, from: usize, key: u64) -> Found
     found
 }
 
-// The place of the first of the n moves that is not below q.
-pub fn place_of(moves: &[u32], n: usize, q: u32) -> usize
-    requires { ⌜ ascends 0 (take n (now moves)) ≡ true ⌝ }
-    ensures { λ r. ⌜ r ≡ below q (take n (now (moves .entry))) ⌝ }
+// The place of the first of the moves that is not below q.
+pub fn place_of(moves: &[u32], q: u32) -> usize
+    requires { ⌜ ascends 0 (now moves) ≡ true ⌝ }
+    ensures { λ r. ⌜ r ≡ below q (now (moves .entry)) ⌝ }
 {
-    let found = search(moves, n, 0, q as u64);
+    let found = search(moves, 0, q as u64);
     found.at
 }
 
-// Whether q is one of the first n moves: the one at its place tells.
-pub fn holds_move(moves: &[u32], n: usize, q: u32) -> bool
-    requires { ⌜ ascends 0 (take n (now moves)) ≡ true ⌝ }
-    ensures { λ r. ⌜ r ≡ elem q (take n (now (moves .entry))) ⌝ }
+// Whether q is one of the moves: the one at its place tells.
+pub fn holds_move(moves: &[u32], q: u32) -> bool
+    requires { ⌜ ascends 0 (now moves) ≡ true ⌝ }
+    ensures { λ r. ⌜ r ≡ elem q (now (moves .entry)) ⌝ }
 {
-    let at = place_of(moves, n, q);
-    (at < least(n, moves.len())) & (rooms::word_at(moves, at) == q)
+    let at = place_of(moves, q);
+    (at < moves.len()) & (rooms::word_at(moves, at) == q)
 }
 
-// Which part of the first n moves belongs to a state and an action: two searches find its ends.
-pub fn part_of(moves: &[u32], n: usize, source: u32, action: u32) -> Part
-    requires { ⌜ ascends 0 (take n (now moves)) ≡ true ⌝ }
-    ensures { λ r. ⌜ r ≡ partOf source action (take n (now (moves .entry))) ⌝ }
+// Which part of the moves belongs to a state and an action: two searches find its ends.
+pub fn part_of(moves: &[u32], here: State, by: Action) -> Part
+    requires { ⌜ ascends 0 (now moves) ≡ true ⌝ }
+    ensures { λ r. ⌜ r ≡ partOf (here .0) (by .0) (now (moves .entry)) ⌝ }
 {
-    let first = 65536 * (source as u64) + 1024 * (action as u64);
-    let from = search(moves, n, 0, first);
-    let end = search(moves, n, from.at, first + 1024);
+    let from = search(moves, 0, words::own_from(here, by));
+    let end = search(moves, from.at, words::own_end(here, by));
     Part {
         from: from.at,
         end: end.at,
     }
 }
 
-// How many of the first n moves are of a state: two searches find the ends of its part.
-pub fn moves_of(moves: &[u32], n: usize, here: State) -> usize
-    requires { ⌜ ascends 0 (take n (now moves)) ≡ true ⌝ }
-    ensures { λ r. ⌜ (r ≡ movesOf (here .0) (take n (now (moves .entry)))) × (r ≤ length (now (moves .entry))) ⌝ }
+// How many of the moves are of a state: two searches find the ends of its part.
+pub fn moves_of(moves: &[u32], here: State) -> usize
+    requires { ⌜ ascends 0 (now moves) ≡ true ⌝ }
+    ensures { λ r. ⌜ (r ≡ movesOf (here .0) (now (moves .entry))) × (r ≤ length (now (moves .entry))) ⌝ }
 {
-    let first = 65536 * (here.0 as u64);
-    let from = search(moves, n, 0, first);
-    let end = search(moves, n, 0, first + 65536);
+    let from = search(moves, 0, words::state_from(here));
+    let end = search(moves, from.at, words::state_end(here));
     end.at - from.at
 }

@@ -60,9 +60,10 @@ fn bytes_ok(room: &[u8], most: u8) -> bool
 fn in_range(states: u32, actions: u32, q: u32) -> bool
     ensures { λ r. ⌜ r ≡ inside states actions q ⌝ }
 {
-    (moves::source_of(q) < states)
-        & (moves::action_of(q) < actions)
-        & (moves::target_of(q) < states)
+    let from = words::source_of(q);
+    let by = words::action_of(q);
+    let to = words::target_of(q);
+    ((from.0 as u32) < states) & ((by.0 as u32) < actions) & ((to.0 as u32) < states)
 }
 
 // Whether all moves are in range.
@@ -107,8 +108,8 @@ fn moving(moves: &[u32]) -> u32
     let mut i: usize = 0;
     let mut r: u32 = 0;
     while i < moves.len() {
-        let m = moves::unpacked(moves[i]);
-        r = limits::moving_with(r, m.source);
+        let from = words::source_of(moves[i]);
+        r = limits::moving_with(r, from);
         i = i + 1;
     }
     r
@@ -252,5 +253,5 @@ pub fn rest_ok(
     model_ok(session, &labels[..states], &equations[..variables], &moves[..count])
         & bytes_ok(&values[..pairs], 1)
         & bytes_ok(&marks[..pairs], 3)
-        & (session.stamp == moves::stamp_of(moves, count))
+        & (session.stamp == moves::stamp_of(&moves[..count]))
 }

@@ -10,7 +10,9 @@ same-length : tie.Need-same-length
 same-length c = search needs
 
 returns : tie.Need-returns
-returns c = rw (c .before .before .before .before .if1 .taken) (c .before .before .insert-one .ensures)
+returns c =
+    let after-insert-one = c .before .before in
+    rw (after-insert-one .before .before .if1 .taken) (after-insert-one .insert-one .ensures)
 
 delete-one-requires : tie.Need-delete-one-requires
 delete-one-requires c κs = search needs
@@ -19,7 +21,9 @@ same-length-2 : tie.Need-same-length-2
 same-length-2 c = search needs
 
 returns-2 : tie.Need-returns-2
-returns-2 c = rw (c .before .before .before .before .if1 .left) (c .before .before .delete-one .ensures)
+returns-2 c =
+    let after-delete-one = c .before .before in
+    rw (after-delete-one .before .before .if1 .left) (after-delete-one .delete-one .ensures)
 
 pub change-one-spec : {M : Type 1} → statement M
 change-one-spec =

@@ -1,4 +1,5 @@
--- A walk from the front: the whole clearing is what was cleared so far and what is still to be cleared. Assumes nothing.
+-- A walk from the front: the clearing still to be made of what is there comes to the whole clearing, and the places left get fewer.
+-- Assumes nothing.
 use mathlib.Core.Path.{_≡_, refl, sym, ap, _∙_}
 use Prim.Native.Nat.{ℕ, _-_, _≤_}
 use lib.ListN.{length, length-set}
@@ -31,9 +32,8 @@ loop-less c = omega arith
 
 loop-again : tie.Need-loop-again Inv-loop μ-loop
 loop-again c =
-    let at-loop = c .before in
-    let a = at-loop .before .args in
-    let s = at-loop .loop in
+    let a = c .before .before .args in
+    let s = c .before .loop in
     (simp length-set (s .inv .0), omega arith, clear-on (s .moves) (s .i) (a .end) (omega arith) (omega arith) ∙ s .inv .2)
 
 same-length : tie.Need-same-length Inv-loop μ-loop

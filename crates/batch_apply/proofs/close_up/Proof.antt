@@ -1,4 +1,5 @@
--- A walk from the front: the whole closing is what was copied so far and what is still to be copied. Assumes nothing.
+-- A walk from the front: the closing up still to be made of what is there comes to the whole, and the words left get fewer. Assumes
+-- nothing.
 use mathlib.Core.Path.{_≡_, refl, sym, ap, _∙_}
 use mathlib.Core.Bool.{not}
 use Prim.Native.Nat.{ℕ, _-_, _≤_}

@@ -1,8 +1,13 @@
 -- By whether the change is an insert. Assumes nothing.
-use borrow.Author.Tests.{eq-eqb, ne-eqb}
 use borrow.Author.Needs.{needs}
 use Rattle.batch_apply.proofs.insert_one.Statement.{statement}
 use Rattle.batch_apply.proofs.insert_one.Tie as tie
+
+inserts-requires : tie.Need-inserts-requires
+inserts-requires c κs = search needs
+
+move-of-requires : tie.Need-move-of-requires
+move-of-requires c κs = search needs
 
 insert-move-requires : tie.Need-insert-move-requires
 insert-move-requires c κs = search needs
@@ -11,10 +16,16 @@ same-length : tie.Need-same-length
 same-length c = search needs
 
 returns : tie.Need-returns
-returns c = rw (eq-eqb _ _ (c .before .before .before .before .if1 .taken)) (c .before .before .insert-move .ensures)
+returns c =
+    let after-insert-move = c .before .before in
+    let in-then1 = after-insert-move .before .before .before in
+    rw (← in-then1 .before .inserts .ensures, in-then1 .if1 .taken) (rw (after-insert-move .before .move-of .ensures) at (after-insert-move .insert-move .ensures))
 
 returns-2 : tie.Need-returns-2
-returns-2 c = rw (ne-eqb _ _ (c .if1 .left))
+returns-2 c =
+    rw (← c .before .inserts .ensures, c .if1 .left)
 
 pub insert-one-spec : {M : Type 1} → statement M
-insert-one-spec = tie.close (tie.spec insert-move-requires same-length returns returns-2)
+insert-one-spec =
+    tie.close
+    (tie.spec inserts-requires move-of-requires insert-move-requires same-length returns returns-2)

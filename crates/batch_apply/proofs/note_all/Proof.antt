@@ -1,11 +1,13 @@
--- A walk from the last change to the first: the places of the moves that the changes passed delete are noted. Assumes nothing.
-use mathlib.Core.Path.{_≡_, refl, sym, ap, ap₂, _∙_}
+-- A walk from the last change to the first: the places of the moves that the changes passed delete are noted, and the changes before get
+-- fewer. Assumes nothing.
+use mathlib.Core.Path.{_≡_, refl, sym, ap, _∙_}
 use mathlib.Core.List.{List}
-use Prim.Native.Nat.{ℕ, _≤_, min}
-use lib.ListN.{length, take}
+use Prim.Native.Nat.{_-_, _≤_}
+use lib.ListN.{length, getD}
 use Rattle.rules.specs.Batch.{Change}
-use Rattle.batch_judge.specs.Changes.{changeOf, changesFrom, changes-less, changes-over}
-use Rattle.batch_apply.specs.Striking.{Noted, notedBy, notedAll}
+use Rattle.words.specs.Words.{changeOf}
+use Rattle.batch_judge.specs.Changes.{changesFrom, changes-less, changes-over}
+use Rattle.batch_apply.specs.Striking.{Noted, noted, notedBy, notedAll}
 use Rattle.batch_apply.specs.Notes.{noted-near}
 use borrow.Author.Needs.{needs}
 use native.Mathlib.Omega.{arith}
@@ -13,31 +15,31 @@ use Rattle.batch_apply.proofs.note_all.Statement.{statement}
 use Rattle.batch_apply.proofs.note_all.Tie as tie
 
 abbrev Inv-loop : tie.InvT-loop
-Inv-loop changes count moves n places₀ i₀ top₀ places i top =
-    (i ≤ min count (length changes)) × ((i ≤ top) × (top ≤ length places)) × (length places ≡ length places₀)
-    × (_≡_ {A = Noted} (record { places = places; top = top }) (notedAll (take n moves) (changesFrom changes count i) (record { places = places₀; top = length places₀ })))
+Inv-loop changes moves places₀ i₀ top₀ places i top =
+    (i ≤ length changes) × ((i ≤ top) × (top ≤ length places)) × (length places ≡ length places₀)
+    × (noted places top ≡ notedAll moves (changesFrom changes i) (noted places₀ (length places₀)))
 
 abbrev μ-loop : tie.MeasureT-loop
-μ-loop changes count moves n places₀ i₀ top₀ places i top = i
-
-least-requires : tie.Need-least-requires Inv-loop μ-loop
-least-requires c κs = search needs
+μ-loop changes moves places₀ i₀ top₀ places i top = i
 
 loop-holds : tie.Need-loop-holds Inv-loop μ-loop
 loop-holds c =
-    let a = c .before .before .before .before .args in
-    (omega arith, (omega arith, omega arith), refl, rw (changes-over (a .changes .now) (a .count) (c .least .result) (omega arith)))
+    let at-start = c .before .before .before in
+    let l = at-start .args .changes .now in
+    (omega arith, (omega arith, omega arith), refl, rw (changes-over l (length l) (omega arith)))
 
 sub-i : tie.Need-sub-i Inv-loop μ-loop
 sub-i c = search needs
 
-word-at-requires : tie.Need-word-at-requires Inv-loop μ-loop
-word-at-requires c κs = search needs
+mul-note-one : tie.Need-mul-note-one Inv-loop μ-loop
+mul-note-one c = search needs
+
+shared-slice-read-note-one : tie.Need-shared-slice-read-note-one Inv-loop μ-loop
+shared-slice-read-note-one c = search needs
 
 note-one-requires : tie.Need-note-one-requires Inv-loop μ-loop
 note-one-requires c κs =
-    let at-loop = c .before .before .before in
-    let at-start = at-loop .before .before .before .before .before in
+    let at-start = c .before .before .before .before .before .before .before in
     (at-start .pre .0, (omega arith, omega arith))
 
 loop-less : tie.Need-loop-less Inv-loop μ-loop
@@ -45,32 +47,34 @@ loop-less c = search needs
 
 loop-again : tie.Need-loop-again Inv-loop μ-loop
 loop-again c =
-    let after-note = c .before .before in
-    let after-word = after-note .before .before in
-    let at-loop = after-word .before .before in
-    let a = at-loop .before .before .before .before .before .args in
+    let after-note-one = c .before .before in
+    let at-loop = after-note-one .before .before .before .before in
+    let at-start = at-loop .before .before .before .before in
+    let a = at-start .args in
+    let l = a .changes .now in
+    let ms = a .moves .now in
     let s = at-loop .loop in
-    let ms = take (a .n) (a .moves .now) in
-    let start : Noted = record { places = a .places .now; top = length (a .places .now) } in
-    let here : Noted = record { places = s .places; top = s .top } in
-    let e = after-note .note-one .ensures in
-    let near = noted-near ms (changeOf (after-word .word-at .result)) here in
+    let w = changeOf (getD l (s .i - 1) 0) in
+    let e = after-note-one .note-one .ensures in
+    let near = noted-near ms w (noted (s .places) (s .top)) in
     let top = ap (λ (k : Noted). k .top) e in
-    let long = after-note .note-one .kept .1 .1 .1 .0 in (
+    let long = after-note-one .note-one .kept .1 .1 .0 in
+    let less = changes-less l (s .i) (omega arith) (omega arith) in (
       omega arith,
       (omega arith, omega arith),
       long ∙ s .inv .2,
-      e ∙ ap₂ (λ (w : ℕ) (x : Noted). notedBy ms (changeOf w) x) (after-word .word-at .ensures) (s .inv .3)
-          ∙ sym (ap (λ (cs : List Change). notedAll ms cs start) (changes-less (a .changes .now) (a .count) (s .i) (omega arith) (omega arith))),
+      e ∙ ap (notedBy ms w) (s .inv .3) ∙ sym (ap (λ (cs : List Change). notedAll ms cs (noted (a .places .now) (length (a .places .now)))) less),
     )
 
 same-length : tie.Need-same-length Inv-loop μ-loop
-same-length c = c .before .loop .inv .2
+same-length c =
+    c .before .loop .inv .2
 
 returns : tie.Need-returns Inv-loop μ-loop
 returns c =
-    let e : c .before .loop .i ≡ 0 = omega arith in
-    rw e at (c .before .loop .inv .3)
+    let at-loop = c .before in
+    let e : at-loop .loop .i ≡ 0 = omega arith in
+    rw e at (at-loop .loop .inv .3)
 
 pub note-all-spec : {M : Type 1} → statement M
 note-all-spec =
@@ -78,10 +82,10 @@ note-all-spec =
     (tie.spec
     Inv-loop
     μ-loop
-    least-requires
     loop-holds
     sub-i
-    word-at-requires
+    mul-note-one
+    shared-slice-read-note-one
     note-one-requires
     loop-less
     loop-again

@@ -20,7 +20,9 @@ add-result c = search needs
 
 returns : tie.Need-returns
 returns c =
-    ap₂ (λ (x y : ℕ). leb x y) (ap₂ (λ (x y : ℕ). x + y) (c .before .before .moves-of .ensures .0) (c .before .named-of .ensures .0)) (c .named-of2 .ensures .0)
+    let after-moves-of = c .before .before in
+    ap₂ (λ (x y : ℕ). leb x y) (ap₂ (λ (x y : ℕ). x + y) (after-moves-of .moves-of .ensures .0) (c .before .named-of .ensures .0)) (c .named-of2 .ensures .0)
 
 pub empties-spec : {M : Type 1} → statement M
-empties-spec = tie.close (tie.spec moves-of-requires named-of-requires named-of-requires-2 add-result returns)
+empties-spec =
+    tie.close (tie.spec moves-of-requires named-of-requires named-of-requires-2 add-result returns)

@@ -1,23 +1,21 @@
 -- The five questions in their order. Assumes nothing.
 use mathlib.Core.Path.{ap, ap₂, _∙_}
-use lib.ListN.{take}
 use Rattle.rules.specs.Batch.{unless}
-use Rattle.batch_judge.specs.Changes.{changesOf}
 use Rattle.batch_judge.specs.Fits.{held-ascends, verdict-judges}
-use Rattle.batch_judge.specs.Judging.{orElse}
+use Rattle.batch_judge.specs.Judging.{batchIn, orElse}
 use borrow.Author.Needs.{needs}
 use Rattle.batch_judge.proofs.judge_batch.Statement.{statement}
 use Rattle.batch_judge.proofs.judge_batch.Tie as tie
 
 -- The points of the program: from what is known at a later one to what was known at an earlier one.
-abbrev start-before-repeats : tie.After-repeats → tie.Start
-start-before-repeats c = c .before .before .before .before .before .before
+abbrev start-before-refused-unless : tie.After-refused-unless → tie.Start
+start-before-refused-unless c = c .before .before .before .before
 
-abbrev repeats-before-lives : tie.After-lives → tie.After-repeats
-repeats-before-lives c = c .before .before .before .before
+abbrev refused-unless-before-misplaces : tie.After-misplaces → tie.After-refused-unless
+refused-unless-before-misplaces c = c .before .before
 
-cast-n : tie.Need-cast-n
-cast-n c = search needs
+abbrev misplaces-before-refused-unless2 : tie.After-refused-unless2 → tie.After-misplaces
+misplaces-before-refused-unless2 c = c .before .before
 
 refused-unless-requires : tie.Need-refused-unless-requires
 refused-unless-requires c κs = search needs
@@ -27,7 +25,7 @@ repeats-requires c κs = search needs
 
 misplaces-requires : tie.Need-misplaces-requires
 misplaces-requires c κs =
-    let at-start = start-before-repeats c in
+    let at-start = start-before-refused-unless (c .before) in
     (at-start .pre .0, held-ascends (at-start .args .session) (at-start .args .moves .now) (at-start .pre .1))
 
 fits-requires : tie.Need-fits-requires
@@ -38,7 +36,8 @@ refused-unless-requires-2 c κs = search needs
 
 lives-requires : tie.Need-lives-requires
 lives-requires c κs =
-    let at-start = start-before-repeats (c .before .before .before) in held-ascends (at-start .args .session) (at-start .args .moves .now) (at-start .pre .1)
+    let at-start = start-before-refused-unless (refused-unless-before-misplaces (misplaces-before-refused-unless2 c)) in
+    held-ascends (at-start .args .session) (at-start .args .moves .now) (at-start .pre .1)
 
 refused-unless-requires-3 : tie.Need-refused-unless-requires-3
 refused-unless-requires-3 c κs = search needs
@@ -57,29 +56,29 @@ first-of-requires-4 c κs = search needs
 
 returns : tie.Need-returns
 returns c =
-    let after-live = c .before .before .before .before in
-    let after-lives = after-live .before in
-    let after-small = after-lives .before in
-    let after-repeats = repeats-before-lives after-lives in
-    let at-start = start-before-repeats after-repeats in
+    let after-first-of2 = c .before .before in
+    let after-refused-unless3 = after-first-of2 .before .before in
+    let after-refused-unless2 = after-refused-unless3 .before .before in
+    let after-misplaces = misplaces-before-refused-unless2 after-refused-unless2 in
+    let after-refused-unless = refused-unless-before-misplaces after-misplaces in
+    let at-start = start-before-refused-unless after-refused-unless in
     let a = at-start .args in
-    verdict-judges (a .session) (a .room) (a .moves .now) (record { stamp = a .stamp; changes = changesOf (take (a .count) (a .changes .now)) })
+    verdict-judges (a .session) (a .room) (a .moves .now) (batchIn (a .stamp) (a .changes .now))
     (c .first-of4 .result) (at-start .pre .1)
     (c .first-of4 .ensures
-    ∙ ap₂ orElse (after-repeats .before .refused-unless .ensures)
+    ∙ ap₂ orElse (after-refused-unless .refused-unless .ensures)
     (c .before .first-of3 .ensures
-    ∙ ap₂ orElse (after-repeats .repeats .ensures)
-    (c .before .before .first-of2 .ensures
-    ∙ ap₂ orElse (after-small .before .before .misplaces .ensures)
-    (c .before .before .before .first-of .ensures
-    ∙ ap₂ orElse (after-small .refused-unless2 .ensures ∙ ap (unless 10) (after-small .before .fits2 .ensures))
-    (after-live .refused-unless3 .ensures ∙ ap (unless 16) (after-lives .lives .ensures))))))
+    ∙ ap₂ orElse (after-misplaces .before .repeats .ensures)
+    (after-first-of2 .first-of2 .ensures
+    ∙ ap₂ orElse (after-misplaces .misplaces .ensures)
+    (after-first-of2 .before .first-of .ensures
+    ∙ ap₂ orElse (after-refused-unless2 .refused-unless2 .ensures ∙ ap (unless 10) (after-refused-unless2 .before .fits2 .ensures))
+    (after-refused-unless3 .refused-unless3 .ensures ∙ ap (unless 16) (after-refused-unless3 .before .lives .ensures))))))
 
 pub judge-batch-spec : {M : Type 1} → statement M
 judge-batch-spec =
     tie.close
     (tie.spec
-    cast-n
     refused-unless-requires
     repeats-requires
     misplaces-requires

@@ -1,4 +1,4 @@
--- `batch_judge::lives` meets its contract. Assumes nothing.
+-- Only a live model is asked. Assumes nothing.
 use mathlib.Core.Path.{refl}
 use borrow.Author.Needs.{needs}
 use borrow.Author.Tests.{eq-eqb, ne-eqb}

@@ -1,9 +1,11 @@
--- A walk from the front: what is misplaced from the start is what is misplaced from here. Assumes nothing.
+-- A walk from the front: what is misplaced from the start is what is misplaced from here on, and the changes left get fewer. Assumes
+-- nothing.
 use mathlib.Core.Path.{_≡_, refl, sym, _∙_}
 use Prim.Native.Nat.{_+_, _*_, _-_, _≤_}
-use lib.ListN.{take}
+use lib.ListN.{length}
 use Rattle.rules.specs.Batch.{misplaced}
-use Rattle.batch_judge.specs.Changes.{changesOf, changesFrom}
+use Rattle.words.specs.Words.{changesOf}
+use Rattle.batch_judge.specs.Changes.{changesFrom}
 use Rattle.batch_judge.specs.Judging.{misplaced-here, misplaced-on, misplaced-over}
 use borrow.Author.Needs.{needs}
 use native.Mathlib.Omega.{arith}
@@ -11,19 +13,19 @@ use Rattle.batch_judge.proofs.misplaces.Statement.{statement}
 use Rattle.batch_judge.proofs.misplaces.Tie as tie
 
 abbrev Inv-loop : tie.InvT-loop
-Inv-loop changes count moves n end i₀ at₀ i at = (at ≡ 5 + 6 * i) × (i ≤ 64) × (misplaced (take n moves) 5 (changesOf (take count changes)) ≡ misplaced (take n moves) at (changesFrom changes count i))
+Inv-loop changes moves i₀ at₀ i at = (at ≡ 5 + 6 * i) × (i ≤ length changes) × (misplaced moves 5 (changesOf changes) ≡ misplaced moves at (changesFrom changes i))
 
 abbrev μ-loop : tie.MeasureT-loop
-μ-loop changes count moves n end i₀ at₀ i at = end - i
-
-least-requires : tie.Need-least-requires Inv-loop μ-loop
-least-requires c κs = search needs
+μ-loop changes moves i₀ at₀ i at = length changes - i
 
 loop-holds : tie.Need-loop-holds Inv-loop μ-loop
 loop-holds c = (omega arith, omega arith, refl)
 
-word-at-requires : tie.Need-word-at-requires Inv-loop μ-loop
-word-at-requires c κs = search needs
+mul-w : tie.Need-mul-w Inv-loop μ-loop
+mul-w c = search needs
+
+shared-slice-read-w : tie.Need-shared-slice-read-w Inv-loop μ-loop
+shared-slice-read-w c = search needs
 
 is-wrong-requires : tie.Need-is-wrong-requires Inv-loop μ-loop
 is-wrong-requires c κs = search needs
@@ -32,8 +34,14 @@ wrong-at-requires : tie.Need-wrong-at-requires Inv-loop μ-loop
 wrong-at-requires c κs = search needs
 
 returns : tie.Need-returns Inv-loop μ-loop
-returns c = let a = c .before .before .before .before .before .before .before .before .before .args in let s = c .before .before .before .before .before .loop in let e = c .before .before .before .word-at .ensures in
-    c .wrong-at .ensures ∙ rw e (sym (s .inv .2 ∙ misplaced-here (take (a .n) (a .moves .now)) (a .changes .now) (a .count) (s .i) (s .at) (omega arith) (rw (c .before .before .is-wrong .ensures, e) at (c .before .if1 .taken))))
+returns c =
+    let after-is-wrong = c .before .before in
+    let at-loop = after-is-wrong .before .before .before in
+    let at-start = at-loop .before .before .before in
+    let a = at-start .args in
+    let s = at-loop .loop in
+    let h = sym (after-is-wrong .is-wrong .ensures) ∙ c .before .if1 .taken in
+    c .wrong-at .ensures ∙ sym (s .inv .2 ∙ misplaced-here (a .moves .now) (a .changes .now) (s .i) (s .at) (omega arith) h)
 
 add-at : tie.Need-add-at Inv-loop μ-loop
 add-at c = search needs
@@ -45,14 +53,20 @@ loop-less : tie.Need-loop-less Inv-loop μ-loop
 loop-less c = search needs
 
 loop-again : tie.Need-loop-again Inv-loop μ-loop
-loop-again c = let a = c .before .before .before .before .before .before .before .before .args in let s = c .before .before .before .before .loop in let e = c .before .before .word-at .ensures in
-    (omega arith, omega arith, s .inv .2 ∙ misplaced-on (take (a .n) (a .moves .now)) (a .changes .now) (a .count) (s .i) (s .at) (omega arith) (rw (c .before .is-wrong .ensures, e) at (c .if1 .left)))
+loop-again c =
+    let at-loop = c .before .before .before .before in
+    let at-start = at-loop .before .before .before in
+    let a = at-start .args in
+    let s = at-loop .loop in
+    let h = sym (c .before .is-wrong .ensures) ∙ c .if1 .left in
+    (omega arith, omega arith, s .inv .2 ∙ misplaced-on (a .moves .now) (a .changes .now) (s .i) (s .at) (omega arith) h)
 
 returns-2 : tie.Need-returns-2 Inv-loop μ-loop
 returns-2 c =
-    let a = c .before .before .before .before .before .args in
+    let at-start = c .before .before .before .before in
+    let a = at-start .args in
     let s = c .before .loop in
-    sym (s .inv .2 ∙ misplaced-over (take (a .n) (a .moves .now)) (a .changes .now) (a .count) (s .i) (s .at) (omega arith))
+    sym (s .inv .2 ∙ misplaced-over (a .moves .now) (a .changes .now) (s .i) (s .at) (omega arith))
 
 pub misplaces-spec : {M : Type 1} → statement M
 misplaces-spec =
@@ -60,9 +74,9 @@ misplaces-spec =
     (tie.spec
     Inv-loop
     μ-loop
-    least-requires
     loop-holds
-    word-at-requires
+    mul-w
+    shared-slice-read-w
     is-wrong-requires
     wrong-at-requires
     returns

@@ -1,10 +1,12 @@
--- A walk from the front: what repeats from the start is what repeats from here. Assumes nothing.
-use mathlib.Core.Path.{_≡_, refl, sym, _∙_}
+-- A walk from the front: what repeats from the start is what repeats from here on, and the changes left get fewer. Assumes nothing.
+use mathlib.Core.Path.{_≡_, refl, sym, ap, _∙_}
 use mathlib.Core.List.{[]}
-use Prim.Native.Nat.{_+_, _*_, _-_, _≤_}
-use lib.ListN.{take}
+use Prim.Native.Nat.{ℕ, _+_, _*_, _-_, _≤_}
+use lib.ListN.{length}
+use Rattle.lists.specs.Lists.{elem}
 use Rattle.rules.specs.Batch.{repeated}
-use Rattle.batch_judge.specs.Changes.{changesOf, changesFrom}
+use Rattle.words.specs.Words.{changesOf}
+use Rattle.batch_judge.specs.Changes.{changesFrom}
 use Rattle.batch_judge.specs.Judging.{seenAt, repeated-here, repeated-on, repeated-over}
 use borrow.Author.Needs.{needs}
 use native.Mathlib.Omega.{arith}
@@ -12,28 +14,35 @@ use Rattle.batch_judge.proofs.repeats.Statement.{statement}
 use Rattle.batch_judge.proofs.repeats.Tie as tie
 
 abbrev Inv-loop : tie.InvT-loop
-Inv-loop changes count end i₀ at₀ i at = (at ≡ 5 + 6 * i) × (i ≤ 64) × (repeated [] 5 (changesOf (take count changes)) ≡ repeated (seenAt changes i) at (changesFrom changes count i))
+Inv-loop changes i₀ at₀ i at = (at ≡ 5 + 6 * i) × (i ≤ length changes) × (repeated [] 5 (changesOf changes) ≡ repeated (seenAt changes i) at (changesFrom changes i))
 
 abbrev μ-loop : tie.MeasureT-loop
-μ-loop changes count end i₀ at₀ i at = end - i
-
-least-requires : tie.Need-least-requires Inv-loop μ-loop
-least-requires c κs = search needs
+μ-loop changes i₀ at₀ i at = length changes - i
 
 loop-holds : tie.Need-loop-holds Inv-loop μ-loop
 loop-holds c = (omega arith, omega arith, refl)
 
-word-at-requires : tie.Need-word-at-requires Inv-loop μ-loop
-word-at-requires c κs = search needs
+mul-move-of : tie.Need-mul-move-of Inv-loop μ-loop
+mul-move-of c = search needs
+
+shared-slice-read-move-of : tie.Need-shared-slice-read-move-of Inv-loop μ-loop
+shared-slice-read-move-of c = search needs
+
+move-of-requires : tie.Need-move-of-requires Inv-loop μ-loop
+move-of-requires c κs = search needs
 
 named-before-requires : tie.Need-named-before-requires Inv-loop μ-loop
 named-before-requires c κs = search needs
 
 returns : tie.Need-returns Inv-loop μ-loop
 returns c =
-    let a = c .before .before .before .before .before .before .before .args in
-    let s = c .before .before .before .before .loop in
-    sym (s .inv .2 ∙ repeated-here (a .changes .now) (a .count) (s .i) (s .at) (omega arith) (rw (c .before .named-before .ensures, c .before .before .word-at .ensures) at (c .if1 .taken)))
+    let after-move-of = c .before .before in
+    let at-loop = after-move-of .before .before .before in
+    let at-start = at-loop .before .before in
+    let l = at-start .args .changes .now in
+    let s = at-loop .loop in
+    let named = ap (λ (q : ℕ). elem q (seenAt l (s .i))) (sym (after-move-of .move-of .ensures)) ∙ sym (c .before .named-before .ensures) in
+    sym (s .inv .2 ∙ repeated-here l (s .i) (s .at) (omega arith) (named ∙ c .if1 .taken))
 
 add-at : tie.Need-add-at Inv-loop μ-loop
 add-at c = search needs
@@ -45,14 +54,20 @@ loop-less : tie.Need-loop-less Inv-loop μ-loop
 loop-less c = search needs
 
 loop-again : tie.Need-loop-again Inv-loop μ-loop
-loop-again c = let a = c .before .before .before .before .before .before .before .args in let s = c .before .before .before .before .loop in
-    (omega arith, omega arith, s .inv .2 ∙ repeated-on (a .changes .now) (a .count) (s .i) (s .at) (omega arith) (rw (c .before .named-before .ensures, c .before .before .word-at .ensures) at (c .if1 .left)))
+loop-again c =
+    let after-move-of = c .before .before in
+    let at-loop = after-move-of .before .before .before in
+    let at-start = at-loop .before .before in
+    let l = at-start .args .changes .now in
+    let s = at-loop .loop in
+    let named = ap (λ (q : ℕ). elem q (seenAt l (s .i))) (sym (after-move-of .move-of .ensures)) ∙ sym (c .before .named-before .ensures) in
+    (omega arith, omega arith, s .inv .2 ∙ repeated-on l (s .i) (s .at) (omega arith) (named ∙ c .if1 .left))
 
 returns-2 : tie.Need-returns-2 Inv-loop μ-loop
 returns-2 c =
-    let a = c .before .before .before .before .args in
+    let at-start = c .before .before .before in
     let s = c .before .loop in
-    sym (s .inv .2 ∙ repeated-over (a .changes .now) (a .count) (s .i) (s .at) (omega arith))
+    sym (s .inv .2 ∙ repeated-over (at-start .args .changes .now) (s .i) (s .at) (omega arith))
 
 pub repeats-spec : {M : Type 1} → statement M
 repeats-spec =
@@ -60,9 +75,10 @@ repeats-spec =
     (tie.spec
     Inv-loop
     μ-loop
-    least-requires
     loop-holds
-    word-at-requires
+    mul-move-of
+    shared-slice-read-move-of
+    move-of-requires
     named-before-requires
     returns
     add-at

@@ -1,4 +1,4 @@
--- `batch_read::end_turn` meets its contract. Assumes nothing.
+-- Whether a byte stands after the end record decides. Assumes nothing.
 use mathlib.Core.Path.{refl}
 use borrow.Author.Tests.{lt-ltb, le-ltb}
 use Rattle.batch_read.specs.Reading.{endTurn}

@@ -1,4 +1,4 @@
--- `batch_read::first_turn` meets its contract. Assumes nothing.
+-- What is read at the front decides: nothing, the stamp, or another record. Assumes nothing.
 use mathlib.Core.Path.{sym, _∙_}
 use borrow.Author.Needs.{needs}
 use Rattle.batch_read.specs.TurnLaws.{first-stamp, first-broken, first-other}

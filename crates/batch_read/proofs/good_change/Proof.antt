@@ -1,4 +1,4 @@
--- `batch_read::good_change` meets its contract. Assumes nothing.
+-- The test of the code is the four parts of `GoodChange`. Assumes nothing.
 use mathlib.Core.Bool.{false≢true}
 use native.Mathlib.Omega.{arith}
 use borrow.Author.Needs.{needs}

@@ -1,4 +1,4 @@
--- `batch_read::place_of` meets its contract. Assumes nothing.
+-- Each sort of turn is its own place. Assumes nothing.
 use mathlib.Core.Path.{refl}
 use borrow.Author.Needs.{needs}
 use Rattle.batch_read.proofs.place_of.Statement.{statement}

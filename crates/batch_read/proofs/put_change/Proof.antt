@@ -1,4 +1,4 @@
--- `batch_read::put_change` meets its contract. Assumes nothing.
+-- A change is put down where both turns go on. Assumes nothing.
 use mathlib.Core.Path.{refl}
 use borrow.Author.Needs.{needs}
 use Rattle.batch_read.proofs.put_change.Statement.{statement}
@@ -29,7 +29,11 @@ same-length : tie.Need-same-length
 same-length c = search needs
 
 returns-3 : tie.Need-returns-3
-returns-3 c = rw (c .before .before .before .before .before .before .before .before .t .given .1, c .before .before .before .before .before .u .given .1) (c .before .before .set-word .ensures)
+returns-3 c =
+    let after-set-word = c .before .before in
+    let after-u = after-set-word .before .before .before in
+    let after-t = after-u .before .before .before in
+    rw (after-t .t .given .1, after-u .u .given .1) (after-set-word .set-word .ensures)
 
 pub put-change-spec : {M : Type 1} → statement M
 put-change-spec = tie.close (tie.spec enum-known-t enum-told returns enum-known-u enum-told-2 returns-2 set-word-requires same-length returns-3)

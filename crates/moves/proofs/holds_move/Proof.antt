@@ -1,7 +1,7 @@
 -- The entry at the place of the move tells. Assumes nothing.
 use mathlib.Core.Path.{ap, _∙_}
 use mathlib.Core.Bool.{_&&_}
-use Prim.Native.Nat.{ℕ, min}
+use Prim.Native.Nat.{ℕ}
 use lib.ListN.{length}
 use lib.Dec.{eqb, ltb}
 use borrow.Author.Needs.{needs}
@@ -12,21 +12,17 @@ use Rattle.moves.proofs.holds_move.Tie as tie
 place-of-requires : tie.Need-place-of-requires
 place-of-requires c κs = search needs
 
-least-requires : tie.Need-least-requires
-least-requires c κs = search needs
-
 word-at-requires : tie.Need-word-at-requires
 word-at-requires c κs = search needs
 
 returns : tie.Need-returns
 returns c =
-    let s = c .before .before .before .before in
-    let a = s .args in
-    let at = c .before .before .place-of .result in
-    ap (λ (e : ℕ). ltb at e && eqb (c .word-at .result) (a .q)) (c .before .least .ensures)
-    ∙ ap (λ (w : ℕ). ltb at (min (a .n) (length (a .moves .now))) && eqb w (a .q)) (c .word-at .ensures)
-    ∙ held-at (a .q) (a .n) at (a .moves .now) (s .pre) (c .before .before .place-of .ensures)
+    let after-place-of = c .before in
+    let at-start = after-place-of .before .before in
+    let a = at-start .args in
+    let at = after-place-of .place-of .result in
+    ap (λ (w : ℕ). ltb at (length (a .moves .now)) && eqb w (a .q)) (c .word-at .ensures)
+    ∙ held-at (a .q) at (a .moves .now) (at-start .pre) (after-place-of .place-of .ensures)
 
 pub holds-move-spec : {M : Type 1} → statement M
-holds-move-spec =
-    tie.close (tie.spec place-of-requires least-requires word-at-requires returns)
+holds-move-spec = tie.close (tie.spec place-of-requires word-at-requires returns)

@@ -12,9 +12,29 @@ action-of-requires c κs = search needs
 target-of-requires : tie.Need-target-of-requires
 target-of-requires c κs = search needs
 
+cast-result : tie.Need-cast-result
+cast-result c = search needs
+
+cast-result-2 : tie.Need-cast-result-2
+cast-result-2 c = search needs
+
+cast-result-3 : tie.Need-cast-result-3
+cast-result-3 c = search needs
+
 returns : tie.Need-returns
-returns c = rw (c .target-of .ensures .0, c .before .action-of .ensures .0, c .before .before .source-of .ensures .0)
+returns c =
+    let after-target-of = c .before .before .before in
+    let after-source-of = after-target-of .before .before in
+    rw (after-target-of .target-of .ensures, after-target-of .before .action-of .ensures, after-source-of .source-of .ensures)
 
 pub in-range-spec : {M : Type 1} → statement M
 in-range-spec =
-    tie.close (tie.spec source-of-requires action-of-requires target-of-requires returns)
+    tie.close
+    (tie.spec
+    source-of-requires
+    action-of-requires
+    target-of-requires
+    cast-result
+    cast-result-2
+    cast-result-3
+    returns)

@@ -70,13 +70,19 @@ slice-aggregate-bytes-ok-2 c =
 bytes-ok-requires-2 : tie.Need-bytes-ok-requires-2
 bytes-ok-requires-2 c κs = search needs
 
+slice-aggregate-stamp-of : tie.Need-slice-aggregate-stamp-of
+slice-aggregate-stamp-of c =
+    let after-model-ok = c .before .before .before .before .before in
+    let at-start = start-before-model-ok-arg (after-model-ok .before .before .before) in
+    sym (length-take-le (at-start .args .session .moves) (at-start .args .moves .now) (at-start .pre .moves-room))
+
 stamp-of-requires : tie.Need-stamp-of-requires
 stamp-of-requires c κs = search needs
 
 returns : tie.Need-returns
 unfolding restOk
 returns c =
-    let after-bytes-ok2 = c .before .before in
+    let after-bytes-ok2 = c .before .before .before in
     let after-bytes-ok = after-bytes-ok2 .before .before in
     let after-model-ok = after-bytes-ok .before .before in
     let after-pairs-of = after-model-ok .before .before .before .before .before .before .before in
@@ -98,5 +104,6 @@ rest-ok-spec =
     bytes-ok-requires
     slice-aggregate-bytes-ok-2
     bytes-ok-requires-2
+    slice-aggregate-stamp-of
     stamp-of-requires
     returns)
