@@ -84,7 +84,7 @@ module _ (l : Rooms) (m : Model) (w : WellFormed m) (r : lentOk (lengthsOf l) (m
       record { long-labels = k .0 .0 .0; long-equations = k .0 .0 .1; long-moves = h .room; model = subst WellFormed (sym laid-table) (still-good m w) }
 
 -- The rooms l, and a reading of the bytes s into them that answered r and left u.
-module _ (l : Rooms) (s : List ℕ) (y : AreBytes s) (r : ReadModel) (u : Stored) (h : ReadInto s (length (l .values)) (length (l .marks)) (length (l .index)) (length (l .queue)) (readRooms l) r u) where
+module _ (l : Rooms) (s : List ℕ) (y : AreBytes s) (r : ReadModel) (u : Stored) (h : ReadInto s (lengthsOf l) (readRooms l) r u) where
   -- A refusal of the reading is the answer, and the rooms stay.
   pub load-refused : (why : Refusal) (p : ℕ) → r ≡ M.Refused why p → loaded (refused (numberOf why) p) (withRead u (l .values) (l .marks) (l .index) (l .queue)) ≡ load l s
   unfolding load

@@ -4,6 +4,7 @@ ghost use Rattle.rules.specs.Rooms.{roomsWith};
 ghost use Rattle.rules.specs.Calls.{load};
 ghost use Rattle.rules.specs.Answers.{loadedSays};
 ghost use Rattle.call_load.specs.LoadLaws.{loaded};
+use limits::Lent;
 use model_judge::ReadModel;
 use rules::Loaded;
 use rules::Session;
@@ -23,16 +24,16 @@ pub fn load(
     ensures { λ r. ⌜ loaded (loadedSays r) (roomsWith (now (labels .exit)) (now (equations .exit)) (now (values .exit)) (now (marks .exit)) (now (moves .exit)) (now (index .exit)) (now (queue .exit)))
         ≡ load (roomsWith (now (labels .entry)) (now (equations .entry)) (now (values .entry)) (now (marks .entry)) (now (moves .entry)) (now (index .entry)) (now (queue .entry))) (now (bytes .entry)) ⌝ }
 {
-    let found = model_store::read_model(
-        bytes,
-        values.len(),
-        marks.len(),
-        index.len(),
-        queue.len(),
-        labels,
-        equations,
-        moves,
-    );
+    let lent = Lent {
+        labels: labels.len(),
+        equations: equations.len(),
+        values: values.len(),
+        marks: marks.len(),
+        moves: moves.len(),
+        index: index.len(),
+        queue: queue.len(),
+    };
+    let found = model_store::read_model(bytes, lent, labels, equations, moves);
     match found {
         ReadModel::Refused(why, at) => Loaded::Refused(why, at),
         ReadModel::Good(sizes, live, count) => {

@@ -1,11 +1,11 @@
 // The most of each thing, and whether the numbers of a model lie inside their limits.
 ghost use mathlib.Core.Path.{_≡_};
-ghost use Prim.Native.Nat.{_*_, _<_};
-ghost use Rattle.rules.specs.Limits.{sizesOk};
+ghost use Prim.Native.Nat.{_+_, _*_, _<_};
+ghost use Rattle.rules.specs.Limits.{most-moves, sizesOk};
 ghost use Rattle.rules.specs.Load.{movingWith};
-ghost use Rattle.rules.specs.Model.{labelOk, moveOk, operandsOk, namesOk};
+ghost use Rattle.rules.specs.Model.{signed, labelOk, moveOk, operandsOk, namesOk};
 ghost use Rattle.rules.specs.Rooms.{pairsOf, roomsOk, indexNeeds, queueNeeds, workOk, lentOk};
-ghost use Rattle.limits.specs.Lent.{lengthsBy};
+ghost use Rattle.limits.specs.Lent.{lengthsBy, products-end};
 use rules::Move;
 use rules::Sizes;
 use rules::State;
@@ -46,6 +46,13 @@ pub fn sizes_ok(z: Sizes) -> bool
         & (z.blocks <= MOST_BLOCKS)
 }
 
+// Whether equations have signs of their own: the sizes give no blocks.
+pub fn signed(z: Sizes) -> bool
+    ensures { λ r. ⌜ r ≡ signed z ⌝ }
+{
+    z.blocks == 0
+}
+
 // How many states, from the first on, have a move each, with one more move of a state.
 pub fn moving_with(n: u32, here: State) -> u32
     ensures { λ r. ⌜ r ≡ movingWith n (here .0) ⌝ }
@@ -58,14 +65,14 @@ pub fn moving_with(n: u32, here: State) -> u32
 
 // A byte times a number of two bytes.
 fn product(k: u8, n: u16) -> usize
-    ensures { λ r. ⌜ (r ≡ k * n) × (r < 16777216) ⌝ }
+    ensures { λ r. ⌜ (r ≡ k * n) × (r < products-end) ⌝ }
 {
     (k as usize) * (n as usize)
 }
 
 // How many pairs there are.
 pub fn pairs_of(z: Sizes) -> usize
-    ensures { λ r. ⌜ (r ≡ pairsOf z) × (r < 16777216) ⌝ }
+    ensures { λ r. ⌜ (r ≡ pairsOf z) × (r < products-end) ⌝ }
 {
     product(z.variables, z.states)
 }
@@ -84,7 +91,7 @@ pub fn rooms_ok(l: Lent, z: Sizes) -> bool
 // The places used of the index: a head for each action and target, and a link for each move that the move room, `room` places
 // long, can hold.
 pub fn index_needs(z: Sizes, room: usize) -> usize
-    ensures { λ r. ⌜ (r ≡ indexNeeds z room) × (r < 16778240) ⌝ }
+    ensures { λ r. ⌜ (r ≡ indexNeeds z room) × (r < products-end + most-moves) ⌝ }
 {
     let heads = product(z.actions, z.states);
     if room < MOST_MOVES {
@@ -95,7 +102,7 @@ pub fn index_needs(z: Sizes, room: usize) -> usize
 
 // The places used of the queue: one for each pair, and one more.
 pub fn queue_needs(z: Sizes) -> usize
-    ensures { λ r. ⌜ (r ≡ queueNeeds z) × (r < 16777217) ⌝ }
+    ensures { λ r. ⌜ (r ≡ queueNeeds z) × (r < products-end + 1) ⌝ }
 {
     pairs_of(z) + 1
 }

@@ -10,6 +10,7 @@ use Rattle.lists.specs.Lists.{lowest}
 use Rattle.lists.specs.Tests.{tell, and-in, and-no, eqb-is, eqb-no, ltb-in, ltb-no}
 use Rattle.model_chains.specs.Stored.{held}
 use Rattle.rules.specs.Load.{inside}
+use Rattle.rules.specs.Limits.{most-variables}
 use Rattle.rules.specs.Model.{guilty}
 use Rattle.rules.specs.declared.Equation.{Equation}
 use Rattle.rules.specs.Rooms.{Lengths}
@@ -28,7 +29,7 @@ use Rattle.model_judge.specs.declared.OneTurn.{OneTurn}
 use Rattle.model_judge.specs.declared.OneTurn.the-variants as T
 
 -- The question, asked of words that hold the equations: a guilty one, and none.
-module _ (s : List ℕ) (r : Record) (y : Progress) (n k : ℕ) (ws : List ℕ) (low : ℕ) (few : k ≤ 32) (w : Words s n k k ws) (l : low ≡ lowest k (guilty (held k ws))) where
+module _ (s : List ℕ) (r : Record) (y : Progress) (n k : ℕ) (ws : List ℕ) (low : ℕ) (few : k ≤ most-variables) (w : Words s n k k ws) (l : low ≡ lowest k (guilty (held k ws))) where
   low-is : low ≡ lowestTo s n k
   low-is = l ∙ ap (λ (es : List Equation). lowest k (guilty es)) (words-held s n k ws few w)
 
@@ -53,7 +54,7 @@ module _ (s : List ℕ) (t : OneTurn) (r : Record) (y : Progress) (n : ℕ) (is 
     asks-here : asksAfter r y ≡ true
     asks-here = and-in c (eqb-is (y .blocks .equations) (y .sizes .variables) .1 e)
 
-    pub askable-here : Askable s t → (y .sizes .variables ≤ 32) × (n ≤ length s) × Spelled s n (y .sizes .variables)
+    pub askable-here : Askable s t → (y .sizes .variables ≤ most-variables) × (n ≤ length s) × Spelled s n (y .sizes .variables)
     askable-here a = let b : Askable s (T.Go r y n) = rw is at a in (b .0, b .1, b .2 asks-here)
 
     pub after-last : (u : OneTurn) → u ≡ answeredTurn s r y n (y .sizes .variables) → u ≡ askedTurn s t

@@ -1,14 +1,15 @@
 -- The chains, asked after the last equation with a sign. The equations are read back from the bytes: their records follow one
 -- another, 5 bytes each, and end where the last one does. Definitions only.
 use mathlib.Core.Path.{_≡_}
-use mathlib.Core.Bool.{Bool, true, false, cond, _&&_}
+use mathlib.Core.Bool.{Bool, true, cond, _&&_}
 use mathlib.Core.List.{List, [], _∷_}
 use Prim.Native.Nat.{ℕ, zero, suc, _+_, _-_, _*_, _≤_, _<_}
 use lib.Dec.{eqb, ltb}
 use lib.ListN.{length, getD}
 use Rattle.lists.specs.Lists.{lowest}
-use Rattle.rules.specs.Load.{State, before, signedOf, inside, step, put, last}
-use Rattle.rules.specs.Model.{Model, guilty}
+use Rattle.rules.specs.Load.{State, signedOf, inside, step, put, last}
+use Rattle.rules.specs.Limits.{most-variables}
+use Rattle.rules.specs.Model.{Model, signed, guilty}
 use Rattle.rules.specs.declared.Equation.{Equation}
 use Rattle.rules.specs.Records.{Outcome, run, numbersOf}
 use Rattle.rules.specs.Rooms.{Lengths}
@@ -17,7 +18,7 @@ use Rattle.rules.specs.declared.Refusal.the-variants as Why
 use Rattle.bytes_read.specs.PartsAt.{partsAt}
 use Rattle.bytes_read.specs.Places.{recordAt}
 use Rattle.bytes_read.specs.declared.Read.{Read}
-use Rattle.model_judge.specs.Progress.{sofarOf, Kept}
+use Rattle.model_judge.specs.Progress.{sofarOf, KeptIn}
 use Rattle.model_judge.specs.Passing.{Forwarded}
 use Rattle.model_judge.specs.Turning.{Summary, summaryAfter, movesOf, Turned}
 use Rattle.model_judge.specs.declared.Progress.{Progress}
@@ -71,15 +72,15 @@ askedTurn s (T.Go r y n) = cond (asksAfter r y) (answeredTurn s r y n (y .sizes 
 -- What the question is handed: where it is asked, the records stand in the bytes.
 abbrev pub Askable : List ℕ → OneTurn → Type 0
 Askable s (T.Stop a) = Unit {0}
-Askable s (T.Go r y n) = (y .sizes .variables ≤ 32) × (n ≤ length s) × (asksAfter r y ≡ true → Spelled s n (y .sizes .variables))
+Askable s (T.Go r y n) = (y .sizes .variables ≤ most-variables) × (n ≤ length s) × (asksAfter r y ≡ true → Spelled s n (y .sizes .variables))
 
 -- In a model with signs, the records of the equations read so far end at the place of the next, up to the last of them.
 abbrev pub SpelledSofar : List ℕ → Progress → ℕ → Type 0
-SpelledSofar s x n = x .sizes .blocks ≡ 0 → x .blocks .equations < x .sizes .variables → Spelled s n (x .blocks .equations)
+SpelledSofar s x n = signed (x .sizes) ≡ true → x .blocks .equations < x .sizes .variables → Spelled s n (x .blocks .equations)
 
 -- What one turn with its question is handed: what was read at the place of the turn before.
 pub record Reading (s : List ℕ) (read : Read) (x : Progress) (n : ℕ) : Type 0 where
-  pub kept : Kept (sofarOf x)
+  pub kept : KeptIn x
   pub read-there : read ≡ recordAt s n
   pub spelled : SpelledSofar s x n
 

@@ -14,10 +14,10 @@ use Rattle.rules.specs.Load.{Sofar, State, before, inside, started, sizesOf, si
 use Rattle.rules.specs.Model.{Model, guilty}
 use Rattle.rules.specs.declared.Equation.{Equation}
 use Rattle.rules.specs.Moves.{pack}
-use Rattle.rules.specs.Records.{Rec, field, Parts, ends, broken, part, Turn, no, back, next, over, demand, Outcome, refused, accepted, onto, atEnd, onTurn, run, parts}
+use Rattle.rules.specs.Records.{Rec, field, Parts, ends, broken, part, Turn, no, back, next, over, demand, accepted, onto, atEnd, onTurn, run, parts}
 use Rattle.rules.specs.Rooms.{Lengths}
 use Rattle.laws.specs.bytes.RecordLaws.{judged, un-onto, never}
-use Rattle.model_judge.specs.Plain.{plain, unasked, withSigns, readPlain}
+use Rattle.model_judge.specs.Plain.{plain, withSigns, readPlain}
 use Rattle.model_judge.specs.Turning.{Stops}
 
 -- What a record does without chains, and with them, after the equations es.

@@ -12,6 +12,7 @@ use Rattle.rules.specs.Load.{Sofar}
 use Rattle.rules.specs.Model.{moveOk}
 use Rattle.rules.specs.Moves.{pack, source}
 use Rattle.rules.specs.Records.{Turn, no, demand}
+use Rattle.words.specs.WordLaws.{parts-pack}
 use Rattle.model_judge.specs.Progress.{Kept}
 
 -- The demands before number k were met, and k was not.
@@ -55,4 +56,4 @@ below-both a b c =
 -- The source of a move in range is told by its number.
 pub source-back : (x : Sofar) (s a t : ℕ) → Kept x → moveOk (x .sizes) s a t ≡ true → source (pack s a t) ≡ s
 unfolding moveOk
-source-back x s a t k h = let f = simp tests at h in omega arith
+source-back x s a t k h = let f = simp tests at h in parts-pack s a t (omega arith) (omega arith) .0

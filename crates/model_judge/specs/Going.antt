@@ -1,14 +1,16 @@
 -- A reading turn by turn: what a turn is handed, and what holds of it from record to record. Definitions only.
 use mathlib.Core.Path.{_≡_}
+use mathlib.Core.Bool.{true}
 use mathlib.Core.List.{List}
 use Prim.Native.Nat.{ℕ, suc, _-_, _≤_, _<_}
 use lib.ListN.{length}
 use Rattle.rules.specs.Load.{before, inside}
+use Rattle.rules.specs.Model.{signed}
 use Rattle.rules.specs.Rooms.{Lengths}
 use Rattle.rules.specs.declared.Refusal.the-variants as Why
 use Rattle.bytes_read.specs.Places.{recordAt}
 use Rattle.bytes_read.specs.declared.Read.{Read}
-use Rattle.model_judge.specs.Progress.{sofarOf, Kept}
+use Rattle.model_judge.specs.Progress.{sofarOf, KeptIn}
 use Rattle.rules.specs.declared.Equation.{Equation}
 use Rattle.model_judge.specs.Asking.{whole, signsTo, SpelledSofar}
 use Rattle.model_judge.specs.Plain.{withSigns}
@@ -32,7 +34,7 @@ answerOf (T.Go r x n) = M.Refused Why.Broken n
 -- What a turn is handed is inside the limits.
 abbrev pub KeptTurn : OneTurn → Type 0
 KeptTurn (T.Stop a) = Unit {0}
-KeptTurn (T.Go r x n) = Kept (sofarOf x)
+KeptTurn (T.Go r x n) = KeptIn x
 
 -- The first turn, from what was read at the front of some bytes.
 abbrev pub Begins : Lengths → Read → OneTurn → Type 0
@@ -45,7 +47,7 @@ Follows l read (T.Go r x n) len u = (s : List ℕ) → read ≡ recordAt s n →
 
 -- Between two turns: what has been read is inside the limits, and the place lies in the bytes past the first record.
 pub record Inside (s : List ℕ) (x : Progress) (n : ℕ) : Type 0 where
-  pub kept : Kept (sofarOf x)
+  pub kept : KeptIn x
   pub begun : 0 < n
   pub inside-bytes : n ≤ length s
 
@@ -58,7 +60,7 @@ pub record Onward (l : Lengths) (s : List ℕ) (x : Progress) (n : ℕ) : Type 0
   pub here : Inside s x n
   pub spelled : SpelledSofar s x n
   pub signs : List Equation
-  pub held : x .sizes .blocks ≡ 0 → x .blocks .equations < x .sizes .variables → signs ≡ signsTo s n (x .blocks .equations)
+  pub held : signed (x .sizes) ≡ true → x .blocks .equations < x .sizes .variables → signs ≡ signsTo s n (x .blocks .equations)
   pub same : whole l s before 0 ≡ whole l s (inside (withSigns signs (sofarOf x))) n
 
 abbrev pub Going : Lengths → List ℕ → OneTurn → Type 0

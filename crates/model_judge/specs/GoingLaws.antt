@@ -1,19 +1,19 @@
 -- From turn to turn the whole keeps its answer, and each turn comes nearer to the end. Assumes nothing.
 use mathlib.Core.Path.{_≡_, refl, sym, ap, ap₂, _∙_, subst}
-use mathlib.Core.Logic.{_⊎_, inl, inr}
-use mathlib.Core.Bool.{Bool, true, false, cond}
+use mathlib.Core.Logic.{inl, inr}
+use mathlib.Core.Bool.{true, false, cond}
 use mathlib.Core.List.{List, [], _∷_, _++_}
 use Prim.Native.Nat.{ℕ, suc, _+_, _-_, _*_, _≤_, _<_}
 use native.Mathlib.Omega.{arith}
 use lib.Dec.{eqb, ltb}
 use lib.ListN.{length, getD}
 use Rattle.lists.specs.Lists.{someBelow, lowest}
-use Rattle.lists.specs.Tests.{tests, tell, and-is, and-in, and-no, eqb-is, eqb-in, eqb-no, eqb-off, ltb-is, leb-is, ltb-out}
+use Rattle.lists.specs.Tests.{tests, tell, and-is, eqb-is, eqb-no, eqb-off, ltb-is, leb-is, ltb-out, eqb-in}
 use Rattle.lists.specs.Ranges.{lowest-found}
-use Rattle.rules.specs.Load.{Sofar, State, before, inside, signOf, afterSigned, askChains, settleStyle, readModel, step, put, last}
-use Rattle.rules.specs.Model.{Model, guilty}
+use Rattle.rules.specs.Load.{Sofar, State, before, inside, signOf, askChains, settleStyle, readModel, step, put, last}
+use Rattle.rules.specs.Model.{Model, signed, guilty}
 use Rattle.rules.specs.declared.Equation.{Equation}
-use Rattle.rules.specs.Records.{Rec, Turn, no, back, next, Outcome, refused, accepted, onto, run, numbersOf}
+use Rattle.rules.specs.Records.{Rec, Turn, back, next, Outcome, refused, accepted, onto, run, numbersOf}
 use Rattle.rules.specs.Rooms.{Lengths}
 use Rattle.rules.specs.declared.Record.{Record}
 use Rattle.bytes_read.specs.PartsAt.{partsAt}
@@ -21,13 +21,14 @@ use Rattle.bytes_read.specs.Places.{recordAt}
 use Rattle.bytes_read.specs.declared.Read.{Read}
 use Rattle.model_judge.specs.Asking.{wholeOn, whole, signAt, signsTo, Spelled, isSigned, asksAfter, lowestTo, askedTurn, Askable, SpelledSofar, Ready, Asked}
 use Rattle.model_judge.specs.Beside.{Beside, goes, asks, beside, stops-same, stops-before}
-use Rattle.model_judge.specs.Going.{placeOf, answerOf, KeptTurn, Follows, Inside, InsideTurn, Onward, Going, left}
+use Rattle.model_judge.specs.Due.{no-blocks}
+use Rattle.model_judge.specs.Going.{placeOf, answerOf, KeptTurn, Inside, InsideTurn, Onward, Going, left}
 use Rattle.model_judge.specs.Passing.{Passed, here, on, Forwarded}
-use Rattle.model_judge.specs.Plain.{plain, withSigns, without}
-use Rattle.model_judge.specs.Progress.{sofarOf, Kept}
+use Rattle.model_judge.specs.Plain.{plain, withSigns}
+use Rattle.model_judge.specs.Progress.{sofarOf, Kept, KeptIn}
 use Rattle.model_judge.specs.SignsRead.{signed-there, signs-length, one-more, spelled-none, spelled-more}
 use Rattle.model_judge.specs.TurnLaws.{Stepped, label, block, equation, move, lives, sign, stepped, counted-by, first-is}
-use Rattle.model_judge.specs.Turning.{readSays, summary, summaryAfter, readOn, from, Goes, Turned}
+use Rattle.model_judge.specs.Turning.{readSays, summary, summaryAfter, readOn, Goes, Turned}
 use Rattle.model_judge.specs.declared.Progress.{Progress}
 use Rattle.model_judge.specs.declared.OneTurn.{OneTurn}
 use Rattle.model_judge.specs.declared.OneTurn.the-variants as T
@@ -36,6 +37,9 @@ use Rattle.model_judge.specs.declared.OneTurn.the-variants as T
 pub inside-kept : (s : List ℕ) (t : OneTurn) → InsideTurn s t → KeptTurn t
 inside-kept s (T.Stop a) g = tt
 inside-kept s (T.Go r x n) g = g .kept
+
+pub inside-go : (s : List ℕ) (t : OneTurn) (r : Record) (x : Progress) (n : ℕ) → t ≡ T.Go r x n → InsideTurn s t → Inside s x n
+inside-go s t r x n e i = rw e at i
 
 -- A turn that goes on stands in the bytes past the place before, and is nearer to the end.
 pub turned-inside : (l : Lengths) (s : List ℕ) (st : State) (n : ℕ) (u : OneTurn) → Turned l s st n u → InsideTurn s u
@@ -81,24 +85,24 @@ not-yet : (x : Sofar) → x .blocks .equations < x .sizes .variables → askChai
 not-yet x h = rw (eqb-off (x .blocks .equations) (x .sizes .variables) h) refl
 
 -- In a model with signs, before the last equation, a record that is none leaves no equation read.
-none-read : (l : Lengths) (x y : Sofar) (r : Record) → Kept x → Stepped l x r (next (inside y)) → (numbersOf r .kind ≡ 11 → ⊥) → y .sizes .blocks ≡ 0 → y .blocks .equations < y .sizes .variables
-    → (x .sizes .blocks ≡ 0) × (x .blocks .equations ≡ 0) × (y .blocks .equations ≡ 0) × (0 < x .sizes .variables)
-none-read l x y r k (label s v m) f b h = let q = simp tests at (m .0) in omega arith
-none-read l x y r k (block a n m) f b h = let q = simp tests at (m .0) in absurd (omega arith)
-none-read l x y r k (equation o a c m) f b h = let q = ltb-is 0 (x .blocks .due) .0 (m .0) in absurd (omega arith)
-none-read l x y r k (move v m) f b h = let q = simp tests at (m .0) in absurd (omega arith)
-none-read l x y r k (lives m) f b h = let q = simp tests at (m .0) in omega arith
+none-read : (l : Lengths) (x y : Sofar) (r : Record) → Kept x → Stepped l x r (next (inside y)) → (numbersOf r .kind ≡ 11 → ⊥) → signed (y .sizes) ≡ true → y .blocks .equations < y .sizes .variables
+    → (signed (x .sizes) ≡ true) × (x .blocks .equations ≡ 0) × (y .blocks .equations ≡ 0) × (0 < x .sizes .variables)
+none-read l x y r k (label s v m) f b h = let q = simp tests at (m .0) in (b, omega arith, omega arith, omega arith)
+none-read l x y r k (block a n m) f b h = let none = no-blocks (x .sizes) b in let q = simp tests at (m .0) in absurd (omega arith)
+none-read l x y r k (equation o a c m) f b h = let none = no-blocks (x .sizes) b in let q = ltb-is 0 (x .blocks .due) .0 (m .0) in absurd (omega arith)
+none-read l x y r k (move v m) f b h = let none = no-blocks (x .sizes) b in let q = simp tests at (m .0) in absurd (omega arith)
+none-read l x y r k (lives m) f b h = let q = simp tests at (m .0) in let none = no-blocks (x .sizes) b in (b, omega arith, omega arith, omega arith)
 none-read l x y r k (sign c o a d m) f b h = absurd (f refl)
 
 -- An equation with a sign: where it was due, and what is read with it.
 pub record SignedOn (x y : Sofar) (r : Rec) : Type 0 where
-  pub style : x .sizes .blocks ≡ 0
+  pub style : signed (x .sizes) ≡ true
   pub more : x .blocks .equations < x .sizes .variables
   pub counts : y .blocks .equations ≡ suc (x .blocks .equations)
   pub variables : y .sizes .variables ≡ x .sizes .variables
   pub small : signOf r .kind ≤ 1
 
-signed-on : (l : Lengths) (x y : Sofar) (r : Record) → Stepped l x r (next (inside y)) → numbersOf r .kind ≡ 11 → SignedOn x y (numbersOf r)
+pub signed-on : (l : Lengths) (x y : Sofar) (r : Record) → Stepped l x r (next (inside y)) → numbersOf r .kind ≡ 11 → SignedOn x y (numbersOf r)
 signed-on l x y r (label s v m) e = absurd (omega arith)
 signed-on l x y r (block a n m) e = absurd (omega arith)
 signed-on l x y r (equation o a c m) e = absurd (omega arith)
@@ -108,7 +112,7 @@ signed-on l x y r (sign c o a d m) e =
     let q = simp and-is at (m .0) in
     let k = simp and-is at (m .1 .0) in
     record {
-      style = eqb-is (x .sizes .blocks) 0 .0 (q .0);
+      style = q .0;
       more = ltb-is (x .blocks .equations) (x .sizes .variables) .0 (q .1);
       counts = refl;
       variables = refl;
@@ -132,7 +136,7 @@ module _ (l : Lengths) (s : List ℕ) (x : Progress) (n : ℕ) (q : Record) (y :
       (b .0, b .1, rw (a .counts, b .0) (spelled-more s n (x .blocks .equations) d h), d .room)
 
   -- So do those before any other record.
-  spelled-next : Kept (sofarOf x) → SpelledSofar s x n → SpelledSofar s y k
+  spelled-next : KeptIn x → SpelledSofar s x n → SpelledSofar s y k
   spelled-next kept sp b h =
       elim (tell true (eqb (numbersOf q .kind) 11)) [
         | inl e ↦ signed-next sp (eqb-is (numbersOf q .kind) 11 .0 e) .2

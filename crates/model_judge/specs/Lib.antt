@@ -1,5 +1,6 @@
 pub mod Progress
 pub mod Plain
+pub mod OneRecord
 pub mod Demands
 pub mod Due
 pub mod Turning

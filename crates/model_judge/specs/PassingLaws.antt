@@ -1,14 +1,14 @@
 -- Labels, equations and moves that stand one after another are passed, each by a turn of its own. Assumes nothing.
 use mathlib.Core.Path.{_≡_, refl, sym, ap, _∙_}
-use mathlib.Core.Bool.{true, not}
+use mathlib.Core.Bool.{not}
 use mathlib.Core.List.{List}
 use Prim.Native.Nat.{ℕ, suc, _+_, _-_, _≤_, _<_, min}
 use native.Mathlib.Omega.{arith}
 use lib.ListN.{length, getD}
 use Rattle.lists.specs.Tests.{and-in, leb-is, ltb-is}
 use Rattle.rules.specs.Limits.{most-moves}
-use Rattle.rules.specs.Load.{Sofar, State, inside, movesDue, labelDemands, equationDemands, moveDemands, movingWith, afterLabel, afterEquation, afterMove}
-use Rattle.rules.specs.Moves.{pack, source}
+use Rattle.rules.specs.Load.{State, inside, labelDemands, equationDemands, moveDemands, movingWith, afterLabel, afterEquation, afterMove}
+use Rattle.rules.specs.Moves.{source}
 use Rattle.rules.specs.Records.{Turn, next, numbersOf, widths}
 use Rattle.rules.specs.Rooms.{Lengths}
 use Rattle.rules.specs.declared.Record.{Record}
@@ -16,7 +16,8 @@ use Rattle.rules.specs.declared.Record.the-variants as R
 use Rattle.bytes_read.specs.PartsAt.{stands-at}
 use Rattle.bytes_read.specs.Places.{le16, le32, moveAt, bodyLen, recordOf, recordAt}
 use Rattle.bytes_read.specs.declared.Read.the-variants.{Got}
-use Rattle.model_runs.specs.Runs.{packed, GoodLabel, withLabel, Labelled, GoodEquation, withEquation, Equated, GoodMove, withMove, Moved}
+use Rattle.model_runs.specs.Runs.{GoodLabel, withLabel, Labelled, GoodEquation, withEquation, Equated, GoodMove, withMove, Moved}
+use Rattle.words.specs.Words.{packOf}
 use Rattle.model_runs.specs.Runs as Run
 use Rattle.model_runs.specs.declared.LabelRun.{LabelRun}
 use Rattle.model_runs.specs.declared.EquationRun.{EquationRun}
@@ -26,7 +27,7 @@ use Rattle.model_judge.specs.Due.{label-due, equation-due}
 use Rattle.model_judge.specs.Going.{Inside}
 use Rattle.model_judge.specs.Passing.{Passed, here, on, Forwarded, labelRun, withLabels, blockEnd, equationAt, equationRun, withEquations, moveRun, withMoves}
 use Rattle.model_judge.specs.Plain.{plain}
-use Rattle.model_judge.specs.Progress.{sofarOf, Kept}
+use Rattle.model_judge.specs.Progress.{sofarOf, KeptIn, LabelsDue, MovesDue}
 use Rattle.model_judge.specs.TurnLaws.{step-kept, turned-next}
 use Rattle.model_judge.specs.Turning.{Goes}
 use Rattle.model_judge.specs.declared.Progress.{Progress}
@@ -56,7 +57,7 @@ move-stands s n h e =
     stands-at s n 5 5 e refl (omega arith) (omega arith) ∙ rw a refl
 
 -- One good label goes on, where labels are due.
-pub label-goes : (l : Lengths) (s : List ℕ) (x : Progress) (n : ℕ) → Kept (sofarOf x) → (x .blocks .count ≡ 0) × (x .blocks .equations ≡ 0) → GoodLabel s (x .sizes) (labelRun x n)
+pub label-goes : (l : Lengths) (s : List ℕ) (x : Progress) (n : ℕ) → KeptIn x → LabelsDue x → GoodLabel s (x .sizes) (labelRun x n)
     → Goes l s (inside (sofarOf x)) n (R.Label (record { 0 = le16 s (n + 1) }) (le32 s (n + 3))) (withLabels x (withLabel s (labelRun x n))) (n + 7)
 unfolding plain
 label-goes l s x n k due g =
@@ -69,7 +70,7 @@ label-goes l s x n k due g =
     (step-kept l (sofarOf x) (afterLabel (sofarOf x) p) (R.Label (record { 0 = p }) v) k st)
 
 -- With fewer equations due, all that is kept is kept.
-equations-kept : (x : Progress) (y : EquationRun) → Kept (sofarOf x) → y .due ≤ x .blocks .due → Kept (sofarOf (withEquations x y))
+equations-kept : (x : Progress) (y : EquationRun) → KeptIn x → y .due ≤ x .blocks .due → KeptIn (withEquations x y)
 equations-kept x y k h =
     record {
       states = k .states;
@@ -77,7 +78,7 @@ equations-kept x y k h =
       actions = k .actions;
       variables = k .variables;
       some = k .some;
-      most-blocks = k .most-blocks;
+      few-blocks = k .few-blocks;
       labels = k .labels;
       passed = omega arith;
       count = k .count;
@@ -102,7 +103,7 @@ equations-inside s x n y i p =
     (a .0, a .1, record { kept = equations-kept x y (i .kept) (a .0); begun = omega arith; inside-bytes = a .2 })
 
 -- One good equation, where it is due.
-pub equation-goes : (l : Lengths) (s : List ℕ) (x : Progress) (y : EquationRun) → Kept (sofarOf x) → y .due ≤ x .blocks .due → GoodEquation s (x .sizes) (blockEnd x) y
+pub equation-goes : (l : Lengths) (s : List ℕ) (x : Progress) (y : EquationRun) → KeptIn x → y .due ≤ x .blocks .due → GoodEquation s (x .sizes) (blockEnd x) y
     → Goes l s (inside (sofarOf (withEquations x y))) (y .at) (equationAt s (y .at)) (withEquations x (withEquation y)) (y .at + 4)
 unfolding plain
 equation-goes l s x y k less g =
@@ -118,12 +119,12 @@ equation-goes l s x y k less g =
     turned-next l s (inside (sofarOf w)) n (n + 4) (equationAt s n) (equation-stands s n (g .inside-bytes) (g .kind)) v st (equations-kept x (withEquation y) k (omega arith))
 
 -- One good move, where moves are due and there is room.
-pub move-goes : (l : Lengths) (s : List ℕ) (x : Progress) (n : ℕ) → Kept (sofarOf x) → movesDue (sofarOf x) ≡ true → x .moves .count < min most-moves (l .moves) → GoodMove s (x .sizes) (moveRun x n)
+pub move-goes : (l : Lengths) (s : List ℕ) (x : Progress) (n : ℕ) → KeptIn x → MovesDue x → x .moves .count < min most-moves (l .moves) → GoodMove s (x .sizes) (moveRun x n)
     → Goes l s (inside (sofarOf x)) n (R.Move (moveAt s (n + 1))) (withMoves x (withMove s (moveRun x n))) (n + 6)
 unfolding plain
 move-goes l s x n k due room g =
     let m = moveAt s (n + 1) in
-    let q = packed m in
+    let q = packOf m in
     let y = withMoves x (withMove s (moveRun x n)) in
     let says : ℕ → Turn State = λ j. next (inside (record {
       sizes = x .sizes;
@@ -140,8 +141,8 @@ move-goes l s x n k due room g =
     turned-next l s (inside (sofarOf x)) n (n + 6) (R.Move m) (move-stands s n (g .inside-bytes) (g .kind)) y st (step-kept l (sofarOf x) (sofarOf y) (R.Move m) k st)
 
 -- All of them.
-pub labels-passed : (l : Lengths) (s : List ℕ) (x : Progress) (n : ℕ) (y : LabelRun) → Kept (sofarOf x) → (x .blocks .count ≡ 0) × (x .blocks .equations ≡ 0) → Labelled s (x .sizes) (labelRun x n) y
-    → Kept (sofarOf (withLabels x y)) × Passed l s x n (withLabels x y) (y .at)
+pub labels-passed : (l : Lengths) (s : List ℕ) (x : Progress) (n : ℕ) (y : LabelRun) → KeptIn x → LabelsDue x → Labelled s (x .sizes) (labelRun x n) y
+    → KeptIn (withLabels x y) × Passed l s x n (withLabels x y) (y .at)
 labels-passed l s x n y k due Run.none = (k, here)
 labels-passed l s x n y k due (Run.more z h g) =
     let p = labels-passed l s x n z k due h in
@@ -154,12 +155,12 @@ equations-passed l s x n y i (Run.more z h g) =
     let a = equations-inside s x n z i h in
     on (withEquations x z) (withEquations x (withEquation z)) (z .at) (z .at + 4) (equationAt s (z .at)) (equations-passed l s x n z i h) (λ e. omega arith) (equation-goes l s x z (i .kept) (a .0) g)
 
-pub moves-passed : (l : Lengths) (s : List ℕ) (x : Progress) (n : ℕ) (y : MoveRun) → Kept (sofarOf x) → movesDue (sofarOf x) ≡ true → Moved s (x .sizes) (min most-moves (l .moves)) (moveRun x n) y
-    → Kept (sofarOf (withMoves x y)) × Passed l s x n (withMoves x y) (y .at)
+pub moves-passed : (l : Lengths) (s : List ℕ) (x : Progress) (n : ℕ) (y : MoveRun) → KeptIn x → MovesDue x → Moved s (x .sizes) (min most-moves (l .moves)) (moveRun x n) y
+    → KeptIn (withMoves x y) × Passed l s x n (withMoves x y) (y .at)
 moves-passed l s x n y k due Run.none = (k, here)
-moves-passed l s x n y k due (Run.more z h room g) =
+moves-passed l s x n y k due (Run.more z h g) =
     let p = moves-passed l s x n z k due h in
-    let w = move-goes l s (withMoves x z) (z .at) (p .0) due room g in
+    let w = move-goes l s (withMoves x z) (z .at) (p .0) due (g .0) (g .1) in
     (w .kept, on (withMoves x z) (withMoves x (withMove s z)) (z .at) (z .at + 6) (R.Move (moveAt s (z .at + 1))) (p .1) (λ e. omega arith) w)
 
 -- Records passed after others are passed with them.

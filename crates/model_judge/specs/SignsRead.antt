@@ -10,6 +10,7 @@ use native.Mathlib.Omega.{arith}
 use lib.ListN.{length, getD, set, replicate, length-set}
 use lib.Seq.{getD-set-same, getD-set-other}
 use Rattle.lists.specs.Tests.{eqb-is}
+use Rattle.rules.specs.Limits.{most-variables}
 use Rattle.rules.specs.Load.{signOf}
 use Rattle.rules.specs.declared.Equation.{Equation}
 use Rattle.rules.specs.Records.{numbersOf, widths}
@@ -74,13 +75,13 @@ sign-word s p w h k e = ap unword e ∙ unword-word (signAt s p) (h (p + 2)) (h 
 
 -- Words that hold the first i of the k equations that end at a place.
 pub record Words (s : List ℕ) (n k i : ℕ) (ws : List ℕ) : Type 0 where
-  pub size : length ws ≡ 32
+  pub size : length ws ≡ most-variables
   pub holds : (x : ℕ) → x < i → unword (getD ws x 0) ≡ signAt s (n - 5 * k + 5 * x)
 
-pub words-none : (s : List ℕ) (n k : ℕ) → Words s n k 0 (replicate 32 0)
+pub words-none : (s : List ℕ) (n k : ℕ) → Words s n k 0 (replicate most-variables 0)
 words-none s n k = record { size = refl; holds = λ x h. absurd (omega arith) }
 
-pub words-next : (s : List ℕ) (n k i w : ℕ) (ws vs : List ℕ) → Words s n k i ws → i < 32 → unword w ≡ signAt s (n - 5 * k + 5 * i) → vs ≡ set ws i w → Words s n k (i + 1) vs
+pub words-next : (s : List ℕ) (n k i w : ℕ) (ws vs : List ℕ) → Words s n k i ws → i < most-variables → unword w ≡ signAt s (n - 5 * k + 5 * i) → vs ≡ set ws i w → Words s n k (i + 1) vs
 words-next s n k i w ws vs d h e f =
     let z = d .size in
     record {
@@ -103,5 +104,5 @@ held-from s p (suc k) (w ∷ ws) h f =
     ap₂ (λ (x : Equation) (t : List Equation). x ∷ t) (f 0 (omega arith) ∙ ap (signAt s) e)
     (held-from s (p + 5) k ws (le-of-suc-le-suc h) (λ x l. f (suc x) (omega arith) ∙ ap (signAt s) (omega arith)))
 
-pub words-held : (s : List ℕ) (n k : ℕ) (ws : List ℕ) → k ≤ 32 → Words s n k k ws → held k ws ≡ signsTo s n k
+pub words-held : (s : List ℕ) (n k : ℕ) (ws : List ℕ) → k ≤ most-variables → Words s n k k ws → held k ws ≡ signsTo s n k
 words-held s n k ws h d = let z = d .size in held-from s (n - 5 * k) k ws (omega arith) (d .holds)

@@ -13,7 +13,6 @@ use Rattle.lists.specs.Tests.{tests, tell, and-is, or-out, eqb-is, ltb-is, leb-
 use Rattle.rules.specs.Answers.{numberOf}
 use Rattle.rules.specs.Limits.{most-moves, sizesOk}
 use Rattle.rules.specs.Load.{Sofar, State, before, inside, started, put, last, labelDemands, blockDemands, equationDemands, signedDemands, moveDemands, endDemands, liveDemands, afterLive, sizesDemands, sizesOf, signedOf, afterLabel, afterBlock, afterEquation, afterSigned, afterMove, blockFits}
-use Rattle.rules.specs.Moves.{pack}
 use Rattle.rules.specs.Model.{Model}
 use Rattle.rules.specs.Records.{Rec, Parts, ends, broken, part, Turn, no, next, over, demand, Outcome, refused, accepted, onto, atEnd, run, numbersOf}
 use Rattle.rules.specs.Rooms.{Lengths}
@@ -23,6 +22,7 @@ use Rattle.rules.specs.declared.Record.{Record}
 use Rattle.rules.specs.declared.Record.the-variants as R
 use Rattle.rules.specs.declared.Refusal.{Refusal}
 use Rattle.rules.specs.declared.Refusal.the-variants as Why
+use Rattle.words.specs.Words.{packOf}
 use Rattle.laws.specs.bytes.Kinds.{Other, other-kind}
 use Rattle.laws.specs.bytes.RecordLaws.{Met, judged}
 use Rattle.laws.specs.bytes.Walks.{small}
@@ -32,8 +32,8 @@ use Rattle.bytes_read.specs.declared.Read.{Read}
 use Rattle.bytes_read.specs.declared.Read.the-variants.{Got, Broken}
 use Rattle.model_judge.specs.Demands.{Fails, Meets, raised, fails, meets}
 use Rattle.model_judge.specs.Plain.{plain, unasked, without}
-use Rattle.model_judge.specs.Progress.{sofarOf, Kept}
-use Rattle.model_judge.specs.Turning.{summaryAfter, readOn, from, endTurn, Goes, Stops, Turned}
+use Rattle.model_judge.specs.Progress.{sofarOf, Kept, KeptIn}
+use Rattle.model_judge.specs.Turning.{summaryAfter, readOn, endTurn, Goes, Stops, Turned}
 use Rattle.model_judge.specs.declared.Progress.{Progress}
 use Rattle.model_judge.specs.declared.ReadModel.the-variants as M
 use Rattle.model_judge.specs.declared.OneTurn.the-variants as T
@@ -44,7 +44,7 @@ pub data Stepped (l : Lengths) (x : Sofar) : Record → Turn State → Type 0 wh
   block : (k n : ℕ) → Met (blockDemands x k n) → Stepped l x (R.Block k n) (next (inside (afterBlock x k n)))
   equation : (o a b : ℕ) → Met (equationDemands x o a b) → Stepped l x (R.Equation o a b) (next (inside (afterEquation x)))
   move : (m : Move) → Met (moveDemands l x (m .source .0) (m .action .0) (m .target .0))
-      → Stepped l x (R.Move m) (next (inside (afterMove x (pack (m .source .0) (m .action .0) (m .target .0)))))
+      → Stepped l x (R.Move m) (next (inside (afterMove x (packOf m))))
   end : Met (endDemands x) → Stepped l x R.End over
   lives : Met (liveDemands x) → Stepped l x R.Live (next (inside (afterLive x)))
   sign : (k o a b : ℕ) → Met (signedDemands x (signedOf k o a b)) → Stepped l x (R.Signed k o a b) (next (inside (without (afterSigned x (signedOf k o a b)))))
@@ -64,7 +64,7 @@ stepped l x (R.Label s v) = by l x (R.Label s v) (labelDemands x (s .0) v) (next
 stepped l x (R.Block k n) = by l x (R.Block k n) (blockDemands x k n) (next (inside (afterBlock x k n))) (block k n)
 stepped l x (R.Equation o a b) = by l x (R.Equation o a b) (equationDemands x o a b) (next (inside (afterEquation x))) (equation o a b)
 stepped l x (R.Move m) =
-    by l x (R.Move m) (moveDemands l x (m .source .0) (m .action .0) (m .target .0)) (next (inside (afterMove x (pack (m .source .0) (m .action .0) (m .target .0))))) (move m)
+    by l x (R.Move m) (moveDemands l x (m .source .0) (m .action .0) (m .target .0)) (next (inside (afterMove x (packOf m)))) (move m)
 stepped l x R.End = by l x R.End (endDemands x) over end
 stepped l x (R.Stamp n) = refusal
 stepped l x (R.Insert m) = refusal
@@ -134,7 +134,7 @@ module _ (l : Lengths) (s : List ℕ) (st : State) (at n : ℕ) (r : Record) (go
   )
 
   -- A record that goes on.
-  pub turned-next : (y : Progress) → plain l st (numbersOf r) ≡ next (inside (sofarOf y)) → Kept (sofarOf y) → Goes l s st at r y n
+  pub turned-next : (y : Progress) → plain l st (numbersOf r) ≡ next (inside (sofarOf y)) → KeptIn y → Goes l s st at r y n
   turned-next y h k = record { on = there .0; inside-bytes = there .1; stands = there .2; got = got; steps = h; kept = k }
 
 -- What stands after the end record.

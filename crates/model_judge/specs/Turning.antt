@@ -17,7 +17,7 @@ use Rattle.bytes_read.specs.PartsAt.{partsAt}
 use Rattle.bytes_read.specs.Places.{recordAt}
 use Rattle.bytes_read.specs.declared.Read.the-variants.{Got}
 use Rattle.model_judge.specs.Plain.{plain}
-use Rattle.model_judge.specs.Progress.{sofarOf, Kept}
+use Rattle.model_judge.specs.Progress.{sofarOf, KeptIn}
 use Rattle.model_judge.specs.declared.Progress.{Progress}
 use Rattle.model_judge.specs.declared.ReadModel.{ReadModel}
 use Rattle.model_judge.specs.declared.ReadModel.the-variants as M
@@ -67,7 +67,7 @@ pub record Goes (l : Lengths) (s : List ℕ) (st : State) (at : ℕ) (r : Record
   pub stands : partsAt s at ≡ part at (numbersOf r) (partsAt s n)
   pub got : recordAt s at ≡ Got r n
   pub steps : plain l st (numbersOf r) ≡ next (inside (sofarOf y))
-  pub kept : Kept (sofarOf y)
+  pub kept : KeptIn y
 
 -- No record that goes on stands at the place.
 abbrev pub Stops : Lengths → State → Parts → Type 0

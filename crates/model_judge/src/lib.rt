@@ -1,19 +1,16 @@
 // A model on the wire, judged record by record.
 ghost use mathlib.Core.Path.{_≡_};
-ghost use mathlib.Core.Bool.{true};
+ghost use mathlib.Core.Bool.{true, false};
 ghost use Prim.Native.Nat.{_+_, _≤_, _<_, min};
 ghost use lib.ListN.{length, getD};
-ghost use Rattle.rules.specs.Load.{inside, started, readModel, go, movesDue, allMoving, liveDemands, labelDemands, blockDemands, equationDemands, signedDemands, moveDemands, endDemands, signedOf, afterLive, afterLabel, afterBlock, afterEquation, afterSigned, afterMove, blockFits};
-ghost use Rattle.rules.specs.Limits.{most-moves};
-ghost use Rattle.rules.specs.Moves.{pack};
-ghost use Rattle.rules.specs.Records.{numbersOf, over, demand};
-ghost use Rattle.rules.specs.Rooms.{Lengths};
-ghost use Rattle.rules.specs.Session.{word, unword};
-ghost use Rattle.limits.specs.Lent.{lengthsBy};
+ghost use Rattle.rules.specs.Load.{started, readModel, signedOf};
+ghost use Rattle.rules.specs.Limits.{most-variables, most-moves};
 ghost use Rattle.rules.specs.Model.{signed};
-ghost use Rattle.rules.specs.declared.Equation.{Equation};
-ghost use Rattle.model_judge.specs.Progress.{sofarOf, judgedSays, Kept};
-ghost use Rattle.model_judge.specs.Plain.{plain, without};
+ghost use Rattle.rules.specs.Rooms.{Lengths};
+ghost use Rattle.rules.specs.Session.{unword};
+ghost use Rattle.limits.specs.Lent.{lengthsBy};
+ghost use Rattle.model_judge.specs.Progress.{sofarOf, judgedSays, KeptIn, LabelsDue, BlockDue, SignDue, MovesDue, movesDueIn, blockFitsIn, allMovingIn};
+ghost use Rattle.model_judge.specs.OneRecord.{labelStep, blockStep, equationStep, signedStep, moveStep, liveStep, endStep, recordStep};
 ghost use Rattle.model_judge.specs.Turning.{readSays, summary, endTurn};
 ghost use Rattle.model_judge.specs.Asking.{signAt, Spelled, answeredTurn, askedTurn, Askable, Ready, Asked};
 ghost use Rattle.model_judge.specs.SignsRead.{Words};
@@ -25,6 +22,7 @@ use limits::Lent;
 use model_runs::EquationRun;
 use model_runs::LabelRun;
 use model_runs::MoveRun;
+use rules::Equation;
 use rules::Move;
 use rules::Record;
 use rules::Refusal;
@@ -66,8 +64,8 @@ pub enum Judged {
 
 // A label, where labels are due: a state, a set that is not empty and not too high; in order.
 fn on_label(x: Progress, s: State, v: u32) -> Judged
-    requires { ⌜ (x .blocks .count ≡ 0) × (x .blocks .equations ≡ 0) ⌝ }
-    ensures { λ r. ⌜ judgedSays r ≡ go (labelDemands (sofarOf x) (s .0) v) (afterLabel (sofarOf x) (s .0)) ⌝ }
+    requires { ⌜ LabelsDue x ⌝ }
+    ensures { λ r. ⌜ judgedSays r ≡ labelStep x s v ⌝ }
 {
     let z = x.sizes;
     let blocks = x.blocks;
@@ -89,8 +87,8 @@ fn on_label(x: Progress, s: State, v: u32) -> Judged
 
 // Whether a block takes 1 to all of the variables that remain, and the last block all.
 fn block_fits(x: Progress, n: u8) -> bool
-    requires { ⌜ Kept (sofarOf x) ⌝ }
-    ensures { λ r. ⌜ r ≡ blockFits (sofarOf x) n ⌝ }
+    requires { ⌜ KeptIn x ⌝ }
+    ensures { λ r. ⌜ r ≡ blockFitsIn x n ⌝ }
 {
     let all = x.blocks.equations + n as u32;
     let variables = x.sizes.variables as u32;
@@ -100,9 +98,9 @@ fn block_fits(x: Progress, n: u8) -> bool
 
 // A block, where one is due: its variables fit; its kind is 0 or 1.
 fn on_block(x: Progress, k: u8, n: u8) -> Judged
-    requires { ⌜ Kept (sofarOf x) ⌝ }
-    requires { ⌜ (x .blocks .due ≡ 0) × (x .blocks .count < x .sizes .blocks) ⌝ }
-    ensures { λ r. ⌜ judgedSays r ≡ go (blockDemands (sofarOf x) k n) (afterBlock (sofarOf x) k n) ⌝ }
+    requires { ⌜ KeptIn x ⌝ }
+    requires { ⌜ BlockDue x ⌝ }
+    ensures { λ r. ⌜ judgedSays r ≡ blockStep x k n ⌝ }
 {
     let z = x.sizes;
     let blocks = x.blocks;
@@ -129,9 +127,9 @@ fn on_block(x: Progress, k: u8, n: u8) -> Judged
 
 // An equation, where one is due: its numbers in range; it names no variable of a later block.
 fn on_equation(x: Progress, o: u8, a: u8, b: u8) -> Judged
-    requires { ⌜ Kept (sofarOf x) ⌝ }
+    requires { ⌜ KeptIn x ⌝ }
     requires { ⌜ 0 < x .blocks .due ⌝ }
-    ensures { λ r. ⌜ judgedSays r ≡ go (equationDemands (sofarOf x) o a b) (afterEquation (sofarOf x)) ⌝ }
+    ensures { λ r. ⌜ judgedSays r ≡ equationStep x o a b ⌝ }
 {
     let z = x.sizes;
     let blocks = x.blocks;
@@ -161,9 +159,9 @@ fn on_equation(x: Progress, o: u8, a: u8, b: u8) -> Judged
 
 // An equation with a sign, where one is due: its sign is 0 or 1, and its numbers are in range.
 fn on_signed(x: Progress, k: u8, o: u8, a: u8, b: u8) -> Judged
-    requires { ⌜ Kept (sofarOf x) ⌝ }
-    requires { ⌜ (x .sizes .blocks ≡ 0) × (x .blocks .equations < x .sizes .variables) ⌝ }
-    ensures { λ r. ⌜ judgedSays r ≡ go (signedDemands (sofarOf x) (signedOf k o a b)) (without (afterSigned (sofarOf x) (signedOf k o a b))) ⌝ }
+    requires { ⌜ KeptIn x ⌝ }
+    requires { ⌜ SignDue x ⌝ }
+    ensures { λ r. ⌜ judgedSays r ≡ signedStep x k o a b ⌝ }
 {
     let z = x.sizes;
     let blocks = x.blocks;
@@ -187,9 +185,9 @@ fn on_signed(x: Progress, k: u8, o: u8, a: u8, b: u8) -> Judged
 
 // A move, where moves are due: in range; in order; and there is room for it.
 fn on_move(l: Lent, x: Progress, m: Move) -> Judged
-    requires { ⌜ Kept (sofarOf x) ⌝ }
-    requires { ⌜ movesDue (sofarOf x) ≡ true ⌝ }
-    ensures { λ r. ⌜ judgedSays r ≡ go (moveDemands (lengthsBy l) (sofarOf x) (m .source .0) (m .action .0) (m .target .0)) (afterMove (sofarOf x) (pack (m .source .0) (m .action .0) (m .target .0))) ⌝ }
+    requires { ⌜ KeptIn x ⌝ }
+    requires { ⌜ MovesDue x ⌝ }
+    ensures { λ r. ⌜ judgedSays r ≡ moveStep (lengthsBy l) x m ⌝ }
 {
     let z = x.sizes;
     let blocks = x.blocks;
@@ -220,7 +218,7 @@ fn on_move(l: Lent, x: Progress, m: Move) -> Judged
 
 // The record of a live model, where a label is due: directly after the sizes, and once.
 fn on_live(x: Progress) -> Judged
-    ensures { λ r. ⌜ judgedSays r ≡ go (liveDemands (sofarOf x)) (afterLive (sofarOf x)) ⌝ }
+    ensures { λ r. ⌜ judgedSays r ≡ liveStep x ⌝ }
 {
     let z = x.sizes;
     let blocks = x.blocks;
@@ -239,7 +237,7 @@ fn on_live(x: Progress) -> Judged
 
 // Whether each state of a live model has a move.
 fn all_moving(x: Progress) -> bool
-    ensures { λ r. ⌜ r ≡ allMoving (sofarOf x) ⌝ }
+    ensures { λ r. ⌜ r ≡ allMovingIn x ⌝ }
 {
     if x.live == 1 {
         return x.moves.moving == x.sizes.states as u32;
@@ -249,8 +247,8 @@ fn all_moving(x: Progress) -> bool
 
 // The end, where it is due: in a live model each state has a move.
 fn on_end(x: Progress) -> Judged
-    requires { ⌜ movesDue (sofarOf x) ≡ true ⌝ }
-    ensures { λ r. ⌜ judgedSays r ≡ demand (endDemands (sofarOf x)) over ⌝ }
+    requires { ⌜ MovesDue x ⌝ }
+    ensures { λ r. ⌜ judgedSays r ≡ endStep x ⌝ }
 {
     if !all_moving(x) {
         return Judged::Refused(Refusal::Hangs);
@@ -260,9 +258,9 @@ fn on_end(x: Progress) -> Judged
 
 // Before the first block a label or a block is due, and first of all the record of a live model.
 fn before_blocks(x: Progress, rec: Record) -> Judged
-    requires { ⌜ Kept (sofarOf x) ⌝ }
-    requires { ⌜ (x .blocks .count ≡ 0) × (0 < x .sizes .blocks) ⌝ }
-    ensures { λ r. ⌜ ((l : Lengths) → judgedSays r ≡ plain l (inside (sofarOf x)) (numbersOf rec)) ⌝ }
+    requires { ⌜ KeptIn x ⌝ }
+    requires { ⌜ (x .blocks .count ≡ 0) × (signed (x .sizes) ≡ false) ⌝ }
+    ensures { λ r. ⌜ ((l : Lengths) → judgedSays r ≡ recordStep l x rec) ⌝ }
 {
     match rec {
         Record::Label(s, v) => on_label(x, s, v),
@@ -274,9 +272,9 @@ fn before_blocks(x: Progress, rec: Record) -> Judged
 
 // After the last equation a move or the end is due.
 fn after_equations(l: Lent, x: Progress, rec: Record) -> Judged
-    requires { ⌜ Kept (sofarOf x) ⌝ }
-    requires { ⌜ movesDue (sofarOf x) ≡ true ⌝ }
-    ensures { λ r. ⌜ judgedSays r ≡ plain (lengthsBy l) (inside (sofarOf x)) (numbersOf rec) ⌝ }
+    requires { ⌜ KeptIn x ⌝ }
+    requires { ⌜ MovesDue x ⌝ }
+    ensures { λ r. ⌜ judgedSays r ≡ recordStep (lengthsBy l) x rec ⌝ }
 {
     match rec {
         Record::Move(m) => on_move(l, x, m),
@@ -287,9 +285,9 @@ fn after_equations(l: Lent, x: Progress, rec: Record) -> Judged
 
 // In a model with blocks, where no equation is due: between two blocks a block and nothing else.
 fn outside_block(l: Lent, x: Progress, rec: Record) -> Judged
-    requires { ⌜ Kept (sofarOf x) ⌝ }
-    requires { ⌜ (x .blocks .due ≡ 0) × (0 < x .sizes .blocks) ⌝ }
-    ensures { λ r. ⌜ judgedSays r ≡ plain (lengthsBy l) (inside (sofarOf x)) (numbersOf rec) ⌝ }
+    requires { ⌜ KeptIn x ⌝ }
+    requires { ⌜ (x .blocks .due ≡ 0) × (signed (x .sizes) ≡ false) ⌝ }
+    ensures { λ r. ⌜ judgedSays r ≡ recordStep (lengthsBy l) x rec ⌝ }
 {
     if x.blocks.count == 0 {
         return before_blocks(x, rec);
@@ -305,9 +303,9 @@ fn outside_block(l: Lent, x: Progress, rec: Record) -> Judged
 
 // Before the first equation with a sign a label or such an equation is due, and first of all the record of a live model.
 fn before_signs(x: Progress, rec: Record) -> Judged
-    requires { ⌜ Kept (sofarOf x) ⌝ }
-    requires { ⌜ (x .sizes .blocks ≡ 0) × (x .blocks .equations ≡ 0) × (0 < x .sizes .variables) ⌝ }
-    ensures { λ r. ⌜ ((l : Lengths) → judgedSays r ≡ plain l (inside (sofarOf x)) (numbersOf rec)) ⌝ }
+    requires { ⌜ KeptIn x ⌝ }
+    requires { ⌜ (signed (x .sizes) ≡ true) × (x .blocks .equations ≡ 0) × (0 < x .sizes .variables) ⌝ }
+    ensures { λ r. ⌜ ((l : Lengths) → judgedSays r ≡ recordStep l x rec) ⌝ }
 {
     match rec {
         Record::Label(s, v) => on_label(x, s, v),
@@ -319,9 +317,9 @@ fn before_signs(x: Progress, rec: Record) -> Judged
 
 // In a model with signs: between two equations an equation with a sign and nothing else.
 fn with_signs(l: Lent, x: Progress, rec: Record) -> Judged
-    requires { ⌜ Kept (sofarOf x) ⌝ }
-    requires { ⌜ x .sizes .blocks ≡ 0 ⌝ }
-    ensures { λ r. ⌜ judgedSays r ≡ plain (lengthsBy l) (inside (sofarOf x)) (numbersOf rec) ⌝ }
+    requires { ⌜ KeptIn x ⌝ }
+    requires { ⌜ signed (x .sizes) ≡ true ⌝ }
+    ensures { λ r. ⌜ judgedSays r ≡ recordStep (lengthsBy l) x rec ⌝ }
 {
     if x.blocks.equations == x.sizes.variables as u32 {
         return after_equations(l, x, rec);
@@ -337,10 +335,10 @@ fn with_signs(l: Lent, x: Progress, rec: Record) -> Judged
 
 // One record after the sizes, and what it does before any chain is asked: inside a block an equation and nothing else.
 pub fn judge_record(l: Lent, x: Progress, rec: Record) -> Judged
-    requires { ⌜ Kept (sofarOf x) ⌝ }
-    ensures { λ r. ⌜ judgedSays r ≡ plain (lengthsBy l) (inside (sofarOf x)) (numbersOf rec) ⌝ }
+    requires { ⌜ KeptIn x ⌝ }
+    ensures { λ r. ⌜ judgedSays r ≡ recordStep (lengthsBy l) x rec ⌝ }
 {
-    if x.sizes.blocks == 0 {
+    if limits::signed(x.sizes) {
         return with_signs(l, x, rec);
     }
     if x.blocks.due == 0 {
@@ -394,11 +392,17 @@ pub fn turn(read: Read, l: Lent, t: OneTurn, len: usize) -> OneTurn
     }
 }
 
-// An equation with a sign as one number. It has no component yet.
-pub fn signed_word(k: u8, o: u8, a: u8, b: u8) -> u32
-    ensures { λ r. ⌜ r ≡ word (signedOf k o a b) ⌝ }
+// An equation with a sign. It has no component yet.
+pub fn signed_of(k: u8, o: u8, a: u8, b: u8) -> Equation
+    ensures { λ r. ⌜ r ≡ signedOf k o a b ⌝ }
 {
-    (o as u32) + 256 * (a as u32) + 65536 * (b as u32) + 16777216 * (k as u32)
+    Equation {
+        operator: o,
+        first: a,
+        second: b,
+        block: 0,
+        kind: k,
+    }
 }
 
 // The equation with a sign whose record stands at a place, as one number.
@@ -406,12 +410,13 @@ fn sign_at(bytes: &[u8], at: usize) -> u32
     requires { ⌜ (at + 5 ≤ length (now bytes)) × (getD (now bytes) (at + 1) 0 ≤ 1) ⌝ }
     ensures { λ r. ⌜ unword r ≡ signAt (now (bytes .entry)) at ⌝ }
 {
-    signed_word(bytes[at + 1], bytes[at + 2], bytes[at + 3], bytes[at + 4])
+    let e = signed_of(bytes[at + 1], bytes[at + 2], bytes[at + 3], bytes[at + 4]);
+    words::word_of(e)
 }
 
 // The equations with signs of n records that end at a place, each as one number.
 fn signs_to(bytes: &[u8], end: usize, n: usize) -> [u32; 32]
-    requires { ⌜ (n ≤ 32) × (end ≤ length (now bytes)) × Spelled (now bytes) end n ⌝ }
+    requires { ⌜ (n ≤ most-variables) × (end ≤ length (now bytes)) × Spelled (now bytes) end n ⌝ }
     ensures { λ r. ⌜ Words (now (bytes .entry)) end n n r ⌝ }
 {
     let from = end - 5 * n;
@@ -428,7 +433,7 @@ fn signs_to(bytes: &[u8], end: usize, n: usize) -> [u32; 32]
 // The question, asked of equations with signs whose records end at a place: the turn as it was, or a refusal at the record of
 // the lowest equation on a closed chain that holds both signs.
 fn answered(bytes: &[u8], rec: Record, y: Progress, end: usize) -> OneTurn
-    requires { ⌜ (y .sizes .variables ≤ 32) × (end ≤ length (now bytes)) × Spelled (now bytes) end (y .sizes .variables) ⌝ }
+    requires { ⌜ (y .sizes .variables ≤ most-variables) × (end ≤ length (now bytes)) × Spelled (now bytes) end (y .sizes .variables) ⌝ }
     ensures { λ r. ⌜ r ≡ answeredTurn (now (bytes .entry)) rec y end (y .sizes .variables) ⌝ }
 {
     let n = y.sizes.variables as usize;
@@ -467,9 +472,9 @@ fn most_lent(l: Lent) -> usize
     limits::MOST_MOVES
 }
 
-// Where labels are due: past all good labels that stand next.
+// Where labels are due: past good labels that stand next.
 fn past_labels(bytes: &[u8], rec: Record, x: Progress, at: usize) -> OneTurn
-    requires { ⌜ Inside (now bytes) x at × ((x .blocks .count ≡ 0) × (x .blocks .equations ≡ 0)) ⌝ }
+    requires { ⌜ Inside (now bytes) x at × LabelsDue x ⌝ }
     ensures { λ r. ⌜ ((l : Lengths) → Forwarded l (now (bytes .entry)) (Go rec x at) r) ⌝ }
 {
     let z = x.sizes;
@@ -490,9 +495,9 @@ fn past_labels(bytes: &[u8], rec: Record, x: Progress, at: usize) -> OneTurn
     OneTurn::Go(rec, y, run.at)
 }
 
-// Where moves are due: past all good moves that stand next and have room.
+// Where moves are due: past good moves that stand next and have room.
 fn past_moves(bytes: &[u8], l: Lent, rec: Record, x: Progress, at: usize) -> OneTurn
-    requires { ⌜ Inside (now bytes) x at × (movesDue (sofarOf x) ≡ true) ⌝ }
+    requires { ⌜ Inside (now bytes) x at × MovesDue x ⌝ }
     ensures { λ r. ⌜ Forwarded (lengthsBy l) (now (bytes .entry)) (Go rec x at) r ⌝ }
 {
     let z = x.sizes;
@@ -521,7 +526,7 @@ fn past_moves(bytes: &[u8], l: Lent, rec: Record, x: Progress, at: usize) -> One
 
 // Whether all equations have been read, so that moves are due.
 pub fn moves_due(x: Progress) -> bool
-    ensures { λ r. ⌜ r ≡ movesDue (sofarOf x) ⌝ }
+    ensures { λ r. ⌜ r ≡ movesDueIn x ⌝ }
 {
     (x.blocks.due == 0)
         & (x.blocks.count == x.sizes.blocks as u32)
@@ -530,7 +535,7 @@ pub fn moves_due(x: Progress) -> bool
 
 // What has been read with a run of equations of the block.
 pub fn with_equations(x: Progress, run: EquationRun) -> Progress
-    requires { ⌜ Kept (sofarOf x) × (run .due ≤ x .blocks .due) ⌝ }
+    requires { ⌜ KeptIn x × (run .due ≤ x .blocks .due) ⌝ }
     ensures { λ r. ⌜ r ≡ withEquations x run ⌝ }
 {
     let z = x.sizes;
@@ -552,7 +557,7 @@ pub fn with_equations(x: Progress, run: EquationRun) -> Progress
     }
 }
 
-// Inside a block: past all good equations of it that stand next, and after the last equation of all past the good moves.
+// Inside a block: past good equations of it that stand next, and after the last equation of all past good moves.
 fn past_equations(bytes: &[u8], l: Lent, rec: Record, x: Progress, at: usize) -> OneTurn
     requires { ⌜ Inside (now bytes) x at ⌝ }
     ensures { λ r. ⌜ Forwarded (lengthsBy l) (now (bytes .entry)) (Go rec x at) r ⌝ }
@@ -572,7 +577,7 @@ fn past_equations(bytes: &[u8], l: Lent, rec: Record, x: Progress, at: usize) ->
     OneTurn::Go(rec, y, run.at)
 }
 
-// A turn, moved on past the good labels, equations of a block or moves that stand next: as many turns at once.
+// A turn, moved on past good labels, equations of a block or moves that stand next: as many turns at once.
 fn forward(bytes: &[u8], l: Lent, t: OneTurn) -> OneTurn
     requires { ⌜ InsideTurn (now bytes) t ⌝ }
     ensures { λ r. ⌜ Forwarded (lengthsBy l) (now (bytes .entry)) t r ⌝ }
@@ -592,7 +597,7 @@ fn forward(bytes: &[u8], l: Lent, t: OneTurn) -> OneTurn
     t
 }
 
-// What was read at the place of the turn before, judged, and its question: the turn after it, moved on past the labels,
+// What was read at the place of the turn before, judged, and its question: the turn after it, moved on past labels,
 // equations or moves that follow and are good.
 fn judge_turn(read: Read, l: Lent, t: OneTurn, bytes: &[u8]) -> OneTurn
     requires { ⌜ Ready (now bytes) read t ⌝ }

@@ -1,9 +1,10 @@
 // Labels, equations of a block and moves that stand one after another in the bytes of a model, each whole, in range and in
-// order: read in one go, as far as they go. What stands after them is nobody's here.
+// order: some of them read in one go. What a run passes is good; that it passes all that are good is not promised.
 ghost use mathlib.Core.Path.{_≡_};
 ghost use mathlib.Core.Bool.{true};
 ghost use Prim.Native.Nat.{ℕ, _+_, _*_, _^_, _≤_, _<_};
 ghost use lib.ListN.{length};
+ghost use Rattle.rules.specs.Limits.{most-moves};
 ghost use Rattle.model_runs.specs.Runs.{GoodLabel, GoodEquation, GoodMove, withLabel, withEquation, withMove, Labelled, Equated, Moved};
 use rules::Sizes;
 use rules::State;
@@ -35,7 +36,7 @@ struct Passed {
     run: MoveRun,
 }
 
-// Whether a good label stands next.
+// Whether a good label stands next: where the answer is yes, it does.
 pub fn good_label(bytes: &[u8], z: Sizes, x: LabelRun) -> bool
     requires { ⌜ x .at ≤ length (now bytes) ⌝ }
     ensures { λ r. ⌜ (r ≡ true → GoodLabel (now (bytes .entry)) z x) ⌝ }
@@ -62,7 +63,7 @@ pub fn with_label(bytes: &[u8], x: LabelRun) -> LabelRun
     }
 }
 
-// Past all good labels that stand next.
+// Past good labels that stand next. It may stop before the last of them; who reads on meets the next as any other record.
 pub fn labels_run(bytes: &[u8], z: Sizes, x: LabelRun) -> LabelRun
     requires { ⌜ x .at ≤ length (now bytes) ⌝ }
     ensures { λ r. ⌜ Labelled (now (bytes .entry)) z x r ⌝ }
@@ -74,7 +75,7 @@ pub fn labels_run(bytes: &[u8], z: Sizes, x: LabelRun) -> LabelRun
     y
 }
 
-// Whether an equation is due and a good one stands next, in a block before the variable `end`.
+// Whether an equation is due and a good one stands next, in a block before the variable `end`: where the answer is yes, it does.
 pub fn good_equation(bytes: &[u8], z: Sizes, end: usize, x: EquationRun) -> bool
     requires { ⌜ x .at ≤ length (now bytes) ⌝ }
     ensures { λ r. ⌜ (r ≡ true → GoodEquation (now (bytes .entry)) z end x) ⌝ }
@@ -101,7 +102,7 @@ pub fn with_equation(x: EquationRun) -> EquationRun
     }
 }
 
-// Past all good equations of the block that stand next.
+// Past good equations of the block that stand next, not always all of them.
 pub fn equations_run(bytes: &[u8], z: Sizes, end: usize, x: EquationRun) -> EquationRun
     requires { ⌜ x .at ≤ length (now bytes) ⌝ }
     ensures { λ r. ⌜ Equated (now (bytes .entry)) z end x r ⌝ }
@@ -115,7 +116,7 @@ pub fn equations_run(bytes: &[u8], z: Sizes, end: usize, x: EquationRun) -> Equa
 
 // Past the whole move that stands next, and whether it is good: without a branch.
 fn pass(bytes: &[u8], z: Sizes, x: MoveRun) -> Passed
-    requires { ⌜ (x .at + 6 ≤ length (now bytes)) × (x .count < 1024) ⌝ }
+    requires { ⌜ (x .at + 6 ≤ length (now bytes)) × (x .count < most-moves) ⌝ }
     ensures { λ r. ⌜ (r .run ≡ withMove (now (bytes .entry)) x) × (r .good ≡ true → GoodMove (now (bytes .entry)) z x) ⌝ }
 {
     let at = x.at;
@@ -139,7 +140,7 @@ fn pass(bytes: &[u8], z: Sizes, x: MoveRun) -> Passed
 
 // Past the next n moves, each of which stands whole, and whether all of them are good.
 fn pass_all(bytes: &[u8], z: Sizes, x: MoveRun, n: usize) -> Passed
-    requires { ⌜ (x .at + 6 * n ≤ length (now bytes)) × (x .count + n ≤ 1024) ⌝ }
+    requires { ⌜ (x .at + 6 * n ≤ length (now bytes)) × (x .count + n ≤ most-moves) ⌝ }
     ensures { λ r. ⌜ ((room : ℕ) → x .count + n ≤ room → r .good ≡ true → Moved (now (bytes .entry)) z room x (r .run)) ⌝ }
 {
     let mut good = true;
@@ -154,9 +155,9 @@ fn pass_all(bytes: &[u8], z: Sizes, x: MoveRun, n: usize) -> Passed
     Passed { good: good, run: y }
 }
 
-// Past all good moves that stand next and have room, one after another.
+// Past good moves that stand next and have room, one after another, not always all of them.
 fn one_by_one(bytes: &[u8], z: Sizes, room: usize, x: MoveRun) -> MoveRun
-    requires { ⌜ (x .at ≤ length (now bytes)) × (room ≤ 1024) ⌝ }
+    requires { ⌜ (x .at ≤ length (now bytes)) × (room ≤ most-moves) ⌝ }
     ensures { λ r. ⌜ Moved (now (bytes .entry)) z room x r ⌝ }
 {
     let mut y = x;
@@ -180,10 +181,10 @@ fn lower(a: usize, b: usize) -> usize
     b
 }
 
-// Past all good moves that stand next and have room: at once where all that stand there are good, one after another where
-// one of them is not.
+// Past good moves that stand next and have room, not always all of them: at once where all that stand there are good, one
+// after another where one of them is not.
 pub fn moves_run(bytes: &[u8], z: Sizes, room: usize, x: MoveRun) -> MoveRun
-    requires { ⌜ (x .at ≤ length (now bytes)) × (room ≤ 1024) ⌝ }
+    requires { ⌜ (x .at ≤ length (now bytes)) × (room ≤ most-moves) ⌝ }
     ensures { λ r. ⌜ Moved (now (bytes .entry)) z room x r ⌝ }
 {
     let at = x.at;

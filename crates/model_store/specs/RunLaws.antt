@@ -7,13 +7,14 @@ use mathlib.Core.List.{List, [], _∷_}
 use Prim.Native.Nat.{ℕ, zero, suc, _+_, _-_, _*_, _/_, _≤_, _<_}
 use native.Mathlib.Omega.{arith}
 use lib.Dec.{ltb}
-use lib.ListN.{length, set}
-use lib.Seq.{sets}
+use lib.ListN.{length, set, length-set}
+use lib.Seq.{sets, length-sets}
 use Rattle.lists.specs.Tests.{tests, tell, ltb-is, ltb-no}
 use Rattle.rules.specs.Load.{Sofar, State, inside, movesDue, put, last, afterMove}
 use Rattle.rules.specs.Model.{Model, moveOk}
-use Rattle.rules.specs.Moves.{pack, wrap}
-use Rattle.rules.specs.Records.{Parts, ends, broken, part, Turn, no, next, over, accepted, onTurn, atEnd, run, numbersOf, widths}
+use Rattle.rules.specs.Moves.{wrap}
+use Rattle.words.specs.Words.{packOf}
+use Rattle.rules.specs.Records.{Turn, next, accepted, onTurn, atEnd, run, numbersOf, widths}
 use Rattle.rules.specs.Rooms.{Lengths}
 use Rattle.rules.specs.declared.Move.{Move}
 use Rattle.rules.specs.declared.Record.{Record}
@@ -24,30 +25,30 @@ use Rattle.bytes_read.specs.PartsAt.{partsAt, PartsBy, parts-at, read-there}
 use Rattle.bytes_read.specs.Places.{le16, le32, moveAt, bodyLen, recordOf, recordAt}
 use Rattle.bytes_read.specs.declared.Read.{Read}
 use Rattle.bytes_read.specs.declared.Read.the-variants.{Got, Broken}
-use Rattle.model_runs.specs.Runs.{packed, GoodLabel, withLabel, withEquation, Equated}
+use Rattle.model_runs.specs.Runs.{GoodLabel, withLabel, GoodEquation, withEquation, Equated}
 use Rattle.model_runs.specs.Runs as Run
 use Rattle.model_runs.specs.declared.LabelRun.{LabelRun}
 use Rattle.model_runs.specs.declared.EquationRun.{EquationRun}
 use Rattle.model_judge.specs.Due.{all-read}
-use Rattle.model_judge.specs.Going.{Inside, placeOf, InsideTurn, Follows, left}
+use Rattle.model_judge.specs.Going.{Inside, InsideTurn, Follows}
 use Rattle.model_judge.specs.GoingLaws.{turned-inside}
 use Rattle.model_judge.specs.Passing.{labelRun, withLabels, blockEnd, equationAt, equationRun, withEquations}
 use Rattle.model_judge.specs.PassingLaws.{label-goes, equations-inside, equation-goes}
-use Rattle.model_judge.specs.Plain.{plain, readPlain}
-use Rattle.model_judge.specs.Progress.{sofarOf, Kept}
+use Rattle.model_judge.specs.Plain.{plain}
+use Rattle.model_judge.specs.Progress.{sofarOf, Kept, KeptIn, LabelsDue, MovesDue}
 use Rattle.model_judge.specs.TurnLaws.{Stepped, label, block, equation, move, end, lives, sign, refusal, stepped, step-kept}
 use Rattle.model_judge.specs.Turning.{readOn}
 use Rattle.model_judge.specs.declared.Progress.{Progress}
 use Rattle.model_judge.specs.declared.OneTurn.{OneTurn}
 use Rattle.model_judge.specs.declared.OneTurn.the-variants as T
 use Rattle.model_judge.specs.declared.ReadModel.{ReadModel}
-use Rattle.model_store.specs.StoreLaws.{here-goes, storing-next}
-use Rattle.model_store.specs.Stored.{Stored, three, putRooms, putTurn, laid, Here, Holds, Storing, StoresAt, Stores, RunStored, labelPut, LabelsPut, EquationsPut, movesFrom}
+use Rattle.model_store.specs.StoreLaws.{here-goes, storing-next, storable-next}
+use Rattle.model_store.specs.Stored.{Stored, three, putRooms, putTurn, laid, Here, StoresAt, Stores, StorableTurn, RunStored, RunOver, labelPut, LabelsPut, EquationsPut, movesFrom, equationPut}
 use Rattle.model_store.specs.Stored as Put
 
 -- One more move of a list of them, and none.
 pub moves-step : (s room : List ℕ) (p from i n : ℕ) → i < n
-    → sets room (from + i) (movesFrom s (p + 6 * i) (n - i)) ≡ sets (set room (from + i) (wrap (packed (moveAt s (p + 6 * i + 1))))) (from + (i + 1)) (movesFrom s (p + 6 * (i + 1)) (n - (i + 1)))
+    → sets room (from + i) (movesFrom s (p + 6 * i) (n - i)) ≡ sets (set room (from + i) (wrap (packOf (moveAt s (p + 6 * i + 1))))) (from + (i + 1)) (movesFrom s (p + 6 * (i + 1)) (n - (i + 1)))
 moves-step s room p from i n h =
     let e : n - i ≡ suc (n - (i + 1)) = omega arith in
     let f : from + (i + 1) ≡ suc (from + i) = omega arith in
@@ -57,17 +58,39 @@ moves-step s room p from i n h =
 pub moves-end : (s room : List ℕ) (p from i n : ℕ) → n ≤ i → sets room (from + i) (movesFrom s (p + 6 * i) (n - i)) ≡ room
 moves-end s room p from i n h = let e : n - i ≡ 0 = omega arith in rw e refl
 
+-- While labels are put: the place lies in the bytes, the room is as long as it was, and good labels lead to here.
+abbrev pub LabelsSofar : List ℕ → Sizes → LabelRun → List ℕ → LabelRun → List ℕ → Type 0
+LabelsSofar s z x ls y ms = (y .at ≤ length s) × (length ms ≡ length ls) × LabelsPut s z x ls y ms
+
+-- One more good label, put.
+pub labels-more : (s : List ℕ) (z : Sizes) (x y w : LabelRun) (ls ms ks : List ℕ) → LabelsSofar s z x ls y ms → GoodLabel s z y → (w ≡ withLabel s y) × (ks ≡ labelPut s y ms)
+    → LabelsSofar s z x ls w ks × (length s - w .at < length s - y .at)
+labels-more s z x y w ls ms ks h g e =
+    let k = g .inside-bytes in
+    rw (e .0, e .1) ((k, simp (length-set, length-sets) (h .1), Put.more y ms (h .2) g), omega arith)
+
+-- The same of the equations of a block.
+abbrev pub EquationsSofar : List ℕ → Progress → ℕ → List ℕ → EquationRun → List ℕ → Type 0
+EquationsSofar s x n es y fs = (y .at ≤ length s) × (y .due ≤ x .blocks .due) × (length fs ≡ length es) × EquationsPut s x n es y fs
+
+pub equations-more : (s : List ℕ) (x : Progress) (n : ℕ) (y w : EquationRun) (es fs ks : List ℕ) → EquationsSofar s x n es y fs → GoodEquation s (x .sizes) (blockEnd x) y → (w ≡ withEquation y) × (ks ≡ equationPut s x y fs)
+    → EquationsSofar s x n es w ks × (length s - w .at < length s - y .at)
+equations-more s x n y w es fs ks h g e =
+    let k = g .inside-bytes in
+    let d = h .1 in
+    rw (e .0, e .1) ((k, omega arith, simp length-set (h .2), Put.more y fs (h .3) g), omega arith)
+
 -- A good label more.
-label-here : (l : Lengths) (s : List ℕ) (t₀ : Stored) (x : Progress) (y : LabelRun) (ls es ms : List ℕ) → Kept (sofarOf (withLabels x y)) → (x .blocks .count ≡ 0) × (x .blocks .equations ≡ 0) → GoodLabel s (x .sizes) y
+label-here : (l : Lengths) (s : List ℕ) (t₀ : Stored) (x : Progress) (y : LabelRun) (ls es ms : List ℕ) → KeptIn (withLabels x y) → LabelsDue x → GoodLabel s (x .sizes) y
     → Here l s t₀ (sofarOf (withLabels x y)) (y .at) (three ls es ms)
-    → Kept (sofarOf (withLabels x (withLabel s y))) × Here l s t₀ (sofarOf (withLabels x (withLabel s y))) (y .at + 7) (three (labelPut s y ls) es ms)
+    → KeptIn (withLabels x (withLabel s y)) × Here l s t₀ (sofarOf (withLabels x (withLabel s y))) (y .at + 7) (three (labelPut s y ls) es ms)
 unfolding putRooms
 label-here l s t₀ x y ls es ms k due g h =
     let w = label-goes l s (withLabels x y) (y .at) k due g in
     (w .kept, here-goes l s t₀ (withLabels x y) (withLabels x (withLabel s y)) (y .at) (y .at + 7) (R.Label (record { 0 = le16 s (y .at + 1) }) (le32 s (y .at + 3))) (three ls es ms) h k w)
 
 -- All good labels.
-labels-here : (l : Lengths) (s : List ℕ) (t₀ : Stored) (x : Progress) (n : ℕ) (ls es ms : List ℕ) (y : LabelRun) (ks : List ℕ) → Inside s x n → (x .blocks .count ≡ 0) × (x .blocks .equations ≡ 0)
+labels-here : (l : Lengths) (s : List ℕ) (t₀ : Stored) (x : Progress) (n : ℕ) (ls es ms : List ℕ) (y : LabelRun) (ks : List ℕ) → Inside s x n → LabelsDue x
     → LabelsPut s (x .sizes) (labelRun x n) ls y ks → Here l s t₀ (sofarOf x) n (three ls es ms)
     → Inside s (withLabels x y) (y .at) × (n ≤ y .at) × Here l s t₀ (sofarOf (withLabels x y)) (y .at) (three ks es ms)
 labels-here l s t₀ x n ls es ms y ks i due Put.none h = (i, omega arith, h)
@@ -77,12 +100,12 @@ labels-here l s t₀ x n ls es ms y ks i due (Put.more z js p g) h =
     let o = a .1 in
     (record { kept = b .0; begun = omega arith; inside-bytes = g .inside-bytes }, omega arith, b .1)
 
-pub labels-stored : (s : List ℕ) (r : Record) (x : Progress) (n : ℕ) (ls es ms : List ℕ) (y : LabelRun) (ks : List ℕ) → Inside s x n → (x .blocks .count ≡ 0) × (x .blocks .equations ≡ 0)
+pub labels-stored : (s : List ℕ) (r : Record) (x : Progress) (n : ℕ) (ls es ms : List ℕ) (y : LabelRun) (ks : List ℕ) → Inside s x n → LabelsDue x
     → LabelsPut s (x .sizes) (labelRun x n) ls y ks → RunStored s (T.Go r x n) (three ls es ms) (T.Go r (withLabels x y) (y .at)) (three ks es ms)
 labels-stored s r x n ls es ms y ks i due p l t₀ g =
     let a = labels-here l s t₀ x n ls es ms y ks i due p (g .holds) in
     let o = a .1 in
-    (record { going = a .0; holds = a .2 }, omega arith)
+    (record { inside = a .0; holds = a .2 }, omega arith)
 
 -- Equations that are put are good.
 put-equated : (s : List ℕ) (x : Progress) (n : ℕ) (es : List ℕ) (y : EquationRun) (fs : List ℕ) → EquationsPut s x n es y fs → Equated s (x .sizes) (blockEnd x) (equationRun x n) y
@@ -109,7 +132,7 @@ pub equations-stored : (s : List ℕ) (r : Record) (x : Progress) (n : ℕ) (ls 
 equations-stored s r x n ls es ms y fs i p l t₀ g =
     let a = put-inside s x n es y fs i p in
     let o = a .1 in
-    (record { going = a .2; holds = equations-here l s t₀ x n ls es ms y fs i p (g .holds) }, omega arith)
+    (record { inside = a .2; holds = equations-here l s t₀ x n ls es ms y fs i p (g .holds) }, omega arith)
 
 -- A model of moves and nothing else.
 abbrev movesOnly : Sofar → List ℕ → Model
@@ -151,12 +174,12 @@ module _ (l : Lengths) (s : List ℕ) where
       let at : k ≡ p + 6 = let y = w .next in omega arith in
       let is : v ≡ moveAt s (p + 1) = let y : R.Move v ≡ R.Move (moveAt s (p + 1)) = w .is in cc in
       let u = un-onto (plain l) put last (put (inside x) (numbersOf (R.Move v))) _ n e in
-      let z = ih (afterMove x (packed v)) k (u .0) (step-kept l x (afterMove x (packed v)) (R.Move v) kept q) due (omega arith) (u .1) in
+      let z = ih (afterMove x (packOf v)) k (u .0) (step-kept l x (afterMove x (packOf v)) (R.Move v) kept q) due (omega arith) (u .1) in
       let fits = simp tests at (m .1 .0) in
-      let small : wrap (packed v) ≡ packed v = omega arith in
+      let small : wrap (packOf v) ≡ packOf v = omega arith in
       let g : (length s - p) / 6 ≡ suc ((length s - (p + 6)) / 6) = omega arith in
-      let c : n ≡ movesOnly x (packed v ∷ movesFrom s k ((length s - k) / 6)) = u .2 ∙ ap (λ (o : Model). put (inside x) (numbersOf (R.Move v)) o) z in
-      let d : n ≡ movesOnly x (wrap (packed v) ∷ movesFrom s (p + 6) ((length s - (p + 6)) / 6)) = c ∙ rw (small, at) refl in
+      let c : n ≡ movesOnly x (packOf v ∷ movesFrom s k ((length s - k) / 6)) = u .2 ∙ ap (λ (o : Model). put (inside x) (numbersOf (R.Move v)) o) z in
+      let d : n ≡ movesOnly x (wrap (packOf v) ∷ movesFrom s (p + 6) ((length s - (p + 6)) / 6)) = c ∙ rw (small, at) refl in
       d ∙ rw (is, g) refl
 
   rest-read : (f : ℕ) → Rest f → (x : Sofar) (p : ℕ) (n : Model) (rd : Read) → Kept x → movesDue x ≡ true → length s < p + suc f → recordAt s p ≡ rd → PartsBy s p rd → readOn l s (inside x) p ≡ accepted n
@@ -184,12 +207,12 @@ module _ (l : Lengths) (s : List ℕ) where
   rest-is (suc f) x p n kept due h e = rest-read f (rest-is f) x p n (recordAt s p) kept due h refl (parts-at s p) e
 
 -- All moves, stored in one go: the reading is over.
-pub moves-stored : (s : List ℕ) (r : Record) (x : Progress) (n : ℕ) (ls es ms : List ℕ) (a : ReadModel) → Inside s x n → movesDue (sofarOf x) ≡ true
+pub moves-stored : (s : List ℕ) (r : Record) (x : Progress) (n : ℕ) (ls es ms : List ℕ) (a : ReadModel) → Inside s x n → MovesDue x
     → RunStored s (T.Go r x n) (three ls es ms) (T.Stop a) (three ls es (sets ms (x .moves .count) (movesFrom s n ((length s - n) / 6))))
 unfolding laid
 moves-stored s r x n ls es ms a i due l t₀ g = (
   record {
-    going = tt;
+    inside = tt;
     holds = λ m w.
         let b = g .holds m w in
         let e = rest-is l s (suc (length s)) (sofarOf x) n (b .0) (i .kept) due (omega arith) (b .1) in
@@ -216,11 +239,15 @@ pub follows-inside : (l : Lengths) (s : List ℕ) (read : Read) (t u : OneTurn) 
 follows-inside l s read (T.Stop a) u d f = rw f tt
 follows-inside l s read (T.Go r x n) u d f = turned-inside l s (inside (sofarOf x)) n u (f s (d .1) refl)
 
+pub follows-storable : (l : Lengths) (s : List ℕ) (read : Read) (t u : OneTurn) → StoresAt s read t → Follows l read t (length s) u → StorableTurn u
+follows-storable l s read (T.Stop a) u d f = rw f tt
+follows-storable l s read (T.Go r x n) u d f = storable-next l s x n u (d .0 .1) (f s (d .1) refl)
+
 pub stores-turn : (l : Lengths) (s : List ℕ) (read : Read) (t u v : OneTurn) (h k m : Stored) → StoresAt s read t → Follows l read t (length s) u → k ≡ putTurn t u h
-    → RunStored s u k v m → Stores l s t h v m
+    → RunOver s u k v m → Stores l s t h v m
 stores-turn l s read t u v h k m d f e r t₀ g nz =
     let a = storing-next l s t₀ t u h read g nz (d .1) f in
-    let b = r l t₀ (rw (← e) at (a .0)) in
+    let b = r .0 l t₀ (rw (← e) at (a .0)) in
     let p = a .1 in
     let q = b .1 in
-    (b .0, omega arith)
+    (record { going = (b .0 .inside, r .1); holds = b .0 .holds }, omega arith)

@@ -1,22 +1,19 @@
 // A model that was judged good, stored into the rooms lent for it.
 ghost use mathlib.Core.Path.{_≡_};
-ghost use mathlib.Core.Bool.{true};
 ghost use mathlib.Core.List.{List};
 ghost use Prim.Native.Nat.{ℕ, _+_, _-_, _/_, _≤_, _<_};
 ghost use lib.ListN.{length, set, replicate};
 ghost use lib.Seq.{sets};
-ghost use Rattle.rules.specs.Load.{started, equationOf, movesDue};
-ghost use Rattle.rules.specs.Model.{Model};
-ghost use Rattle.rules.specs.Moves.{pack, wrap};
-ghost use Rattle.rules.specs.Records.{accepted};
+ghost use Rattle.rules.specs.Limits.{most-variables, most-moves};
+ghost use Rattle.rules.specs.Moves.{wrap};
 ghost use Rattle.rules.specs.Session.{word};
+ghost use Rattle.words.specs.Words.{packOf};
 ghost use Rattle.limits.specs.Lent.{lengthsBy};
-ghost use Rattle.model_judge.specs.Plain.{readPlain};
-ghost use Rattle.model_judge.specs.Progress.{sofarOf, Kept};
+ghost use Rattle.model_judge.specs.Progress.{KeptIn, LabelsDue, MovesDue};
 ghost use Rattle.model_judge.specs.Going.{KeptTurn, Inside, InsideTurn};
 ghost use Rattle.model_judge.specs.declared.OneTurn.the-variants.{Go};
 ghost use Rattle.model_runs.specs.Runs.{withLabel, withEquation};
-ghost use Rattle.model_store.specs.Stored.{Stored, three, putRooms, putTurn, laid, withComponents, ReadInto, StoresAt, Stores, RunStored, labelPut, LabelsPut, equationPut, EquationsPut, movesFrom};
+ghost use Rattle.model_store.specs.Stored.{three, equationBy, putRecord, putTurn, Storable, StorableTurn, StoredWhole, withComponents, Spans, ReadInto, StoresAt, Stores, RunOver, labelPut, LabelsPut, equationPut, EquationsPut, movesFrom};
 use bytes_read::Read;
 use limits::Lent;
 use model_judge::OneTurn;
@@ -24,6 +21,7 @@ use model_judge::Progress;
 use model_judge::ReadModel;
 use model_runs::EquationRun;
 use model_runs::LabelRun;
+use rules::Equation;
 use rules::Move;
 use rules::Record;
 use rules::Sizes;
@@ -57,26 +55,33 @@ fn less_one(n: u32) -> u32
     n - 1
 }
 
-// An equation as one number.
-fn word_of(x: Progress, o: u8, a: u8, b: u8) -> u32
-    requires { ⌜ Kept (sofarOf x) ⌝ }
-    ensures { λ r. ⌜ r ≡ word (equationOf (sofarOf x) o a b) ⌝ }
+// The word of an equation of the block that is read.
+fn equation_word(x: Progress, o: u8, a: u8, b: u8) -> u32
+    requires { ⌜ KeptIn x ⌝ }
+    ensures { λ r. ⌜ r ≡ word (equationBy x o a b) ⌝ }
 {
-    let block = less_one(x.blocks.count);
-    (o as u32) + 256 * (a as u32) + 65536 * (b as u32) + 16777216 * (2 * block + x.blocks.kind)
+    let block = less_one(x.blocks.count) as u8;
+    let kind = x.blocks.kind as u8;
+    words::word_of(Equation {
+        operator: o,
+        first: a,
+        second: b,
+        block: block,
+        kind: kind,
+    })
 }
 
 // A move as one number of four bytes.
 fn packed(m: Move) -> u32
-    ensures { λ r. ⌜ r ≡ wrap (pack (m .source .0) (m .action .0) (m .target .0)) ⌝ }
+    ensures { λ r. ⌜ r ≡ wrap (packOf m) ⌝ }
 {
     (words::packed(m) % 4294967296) as u32
 }
 
-// What one record of a model says, stored.
-fn put_record(labels: &mut [u32], equations: &mut [u32], moves: &mut [u32], x: Progress, r: Record)
-    requires { ⌜ Kept (sofarOf x) ⌝ }
-    ensures { λ _. ⌜ _≡_ {A = Stored} (record { labels = now (labels .exit); equations = now (equations .exit); moves = now (moves .exit) }) (putRooms (sofarOf x) r (record { labels = now (labels .entry); equations = now (equations .entry); moves = now (moves .entry) })) ⌝ }
+// What one record of a model says, stored. It is no move: moves are stored all at once.
+fn put_record(labels: &mut [u32], equations: &mut [u32], x: Progress, r: Record)
+    requires { ⌜ KeptIn x × Storable r ⌝ }
+    ensures { λ _. ⌜ ((ms : List ℕ) → three (now (labels .exit)) (now (equations .exit)) ms ≡ putRecord x r (three (now (labels .entry)) (now (equations .entry)) ms)) ⌝ }
 {
     match r {
         Record::Label(s, v) => {
@@ -86,27 +91,22 @@ fn put_record(labels: &mut [u32], equations: &mut [u32], moves: &mut [u32], x: P
             zeros(labels, x.labels as usize, x.sizes.states as usize);
         }
         Record::Equation(o, a, b) => {
-            rooms::set_word(equations, x.blocks.equations as usize, word_of(x, o, a, b));
+            let w = equation_word(x, o, a, b);
+            rooms::set_word(equations, x.blocks.equations as usize, w);
         }
         Record::Signed(k, o, a, b) => {
             zeros(labels, x.labels as usize, x.sizes.states as usize);
-            rooms::set_word(
-                equations,
-                x.blocks.equations as usize,
-                model_judge::signed_word(k, o, a, b),
-            );
-        }
-        Record::Move(m) => {
-            rooms::set_word(moves, x.moves.count as usize, packed(m));
+            let w = words::word_of(model_judge::signed_of(k, o, a, b));
+            rooms::set_word(equations, x.blocks.equations as usize, w);
         }
         _ => {}
     }
 }
 
 // What a turn's record says, stored after what the turn before it had read.
-fn put_turn(labels: &mut [u32], equations: &mut [u32], moves: &mut [u32], t: OneTurn, u: OneTurn)
-    requires { ⌜ KeptTurn t ⌝ }
-    ensures { λ _. ⌜ _≡_ {A = Stored} (record { labels = now (labels .exit); equations = now (equations .exit); moves = now (moves .exit) }) (putTurn t u (record { labels = now (labels .entry); equations = now (equations .entry); moves = now (moves .entry) })) ⌝ }
+fn put_turn(labels: &mut [u32], equations: &mut [u32], t: OneTurn, u: OneTurn)
+    requires { ⌜ KeptTurn t × StorableTurn u ⌝ }
+    ensures { λ _. ⌜ ((ms : List ℕ) → three (now (labels .exit)) (now (equations .exit)) ms ≡ putTurn t u (three (now (labels .entry)) (now (equations .entry)) ms)) ⌝ }
 {
     let OneTurn::Go(_, x, _) = t else {
         return;
@@ -114,7 +114,7 @@ fn put_turn(labels: &mut [u32], equations: &mut [u32], moves: &mut [u32], t: One
     let OneTurn::Go(rec, _, _) = u else {
         return;
     };
-    put_record(labels, equations, moves, x, rec);
+    put_record(labels, equations, x, rec);
 }
 
 // The label that stands next, stored: past it.
@@ -129,7 +129,7 @@ fn put_label_at(bytes: &[u8], labels: &mut [u32], x: LabelRun) -> LabelRun
     model_runs::with_label(bytes, x)
 }
 
-// All good labels that stand next, stored: past them.
+// Good labels that stand next, stored: past them.
 fn put_labels(bytes: &[u8], labels: &mut [u32], z: Sizes, x: LabelRun) -> LabelRun
     requires { ⌜ x .at ≤ length (now bytes) ⌝ }
     ensures { λ r. ⌜ LabelsPut (now (bytes .entry)) z x (now (labels .entry)) r (now (labels .exit)) ⌝ }
@@ -143,17 +143,17 @@ fn put_labels(bytes: &[u8], labels: &mut [u32], z: Sizes, x: LabelRun) -> LabelR
 
 // The equation of the block that stands next, stored: past it.
 fn put_equation_at(bytes: &[u8], equations: &mut [u32], x: Progress, y: EquationRun) -> EquationRun
-    requires { ⌜ Kept (sofarOf x) × (0 < y .due) × (y .due ≤ x .blocks .due) × (y .at + 4 ≤ length (now bytes)) ⌝ }
+    requires { ⌜ KeptIn x × (0 < y .due) × (y .due ≤ x .blocks .due) × (y .at + 4 ≤ length (now bytes)) ⌝ }
     ensures { λ r. ⌜ (r ≡ withEquation y) × (now (equations .exit) ≡ equationPut (now (bytes .entry)) x y (now (equations .entry))) ⌝ }
 {
     let at = y.at;
     let place = x.blocks.equations + x.blocks.due - y.due;
-    let w = word_of(x, bytes[at + 1], bytes[at + 2], bytes[at + 3]);
+    let w = equation_word(x, bytes[at + 1], bytes[at + 2], bytes[at + 3]);
     rooms::set_word(equations, place as usize, w);
     model_runs::with_equation(y)
 }
 
-// All good equations of the block that stand next, stored: past them.
+// Good equations of the block that stand next, stored: past them.
 fn put_equations(bytes: &[u8], equations: &mut [u32], x: Progress, at: usize) -> EquationRun
     requires { ⌜ Inside (now bytes) x at ⌝ }
     ensures { λ r. ⌜ EquationsPut (now (bytes .entry)) x at (now (equations .entry)) r (now (equations .exit)) ⌝ }
@@ -172,7 +172,7 @@ fn put_equations(bytes: &[u8], equations: &mut [u32], x: Progress, at: usize) ->
 
 // So many moves as stand whole from a place on, stored.
 fn put_moves(bytes: &[u8], moves: &mut [u32], at: usize, from: usize)
-    requires { ⌜ (at ≤ length (now bytes)) × (from ≤ 1024) ⌝ }
+    requires { ⌜ (at ≤ length (now bytes)) × (from ≤ most-moves) ⌝ }
     ensures { λ _. ⌜ now (moves .exit) ≡ sets (now (moves .entry)) from (movesFrom (now (bytes .entry)) at ((length (now (bytes .entry)) - at) / 6)) ⌝ }
 {
     let n = (bytes.len() - at) / 6;
@@ -184,10 +184,10 @@ fn put_moves(bytes: &[u8], moves: &mut [u32], at: usize, from: usize)
     }
 }
 
-// Where labels are due: those that stand next, stored, and the turn moved on past them.
+// Where labels are due: good ones that stand next, stored, and the turn moved on past them.
 fn store_labels(bytes: &[u8], labels: &mut [u32], rec: Record, x: Progress, at: usize) -> OneTurn
-    requires { ⌜ Inside (now bytes) x at × ((x .blocks .count ≡ 0) × (x .blocks .equations ≡ 0)) ⌝ }
-    ensures { λ r. ⌜ ((es ms : List ℕ) → RunStored (now (bytes .entry)) (Go rec x at) (three (now (labels .entry)) es ms) r (three (now (labels .exit)) es ms)) ⌝ }
+    requires { ⌜ Inside (now bytes) x at × LabelsDue x ⌝ }
+    ensures { λ r. ⌜ ((es ms : List ℕ) → RunOver (now (bytes .entry)) (Go rec x at) (three (now (labels .entry)) es ms) r (three (now (labels .exit)) es ms)) ⌝ }
 {
     let z = x.sizes;
     let blocks = x.blocks;
@@ -209,8 +209,8 @@ fn store_labels(bytes: &[u8], labels: &mut [u32], rec: Record, x: Progress, at: 
 
 // Where moves are due: all of them, stored. That is the rest of a good model, so the reading is over.
 fn store_moves(bytes: &[u8], moves: &mut [u32], x: Progress, at: usize) -> OneTurn
-    requires { ⌜ Inside (now bytes) x at × (movesDue (sofarOf x) ≡ true) ⌝ }
-    ensures { λ r. ⌜ ((rec : Record) (ls es : List ℕ) → RunStored (now (bytes .entry)) (Go rec x at) (three ls es (now (moves .entry))) r (three ls es (now (moves .exit)))) ⌝ }
+    requires { ⌜ Inside (now bytes) x at × MovesDue x ⌝ }
+    ensures { λ r. ⌜ ((rec : Record) (ls es : List ℕ) → RunOver (now (bytes .entry)) (Go rec x at) (three ls es (now (moves .entry))) r (three ls es (now (moves .exit)))) ⌝ }
 {
     let z = x.sizes;
     put_moves(bytes, moves, at, x.moves.count as usize);
@@ -228,7 +228,7 @@ fn store_equations(
     at: usize,
 ) -> OneTurn
     requires { ⌜ Inside (now bytes) x at ⌝ }
-    ensures { λ r. ⌜ ((ls : List ℕ) → RunStored (now (bytes .entry)) (Go rec x at) (three ls (now (equations .entry)) (now (moves .entry))) r (three ls (now (equations .exit)) (now (moves .exit)))) ⌝ }
+    ensures { λ r. ⌜ ((ls : List ℕ) → RunOver (now (bytes .entry)) (Go rec x at) (three ls (now (equations .entry)) (now (moves .entry))) r (three ls (now (equations .exit)) (now (moves .exit)))) ⌝ }
 {
     let run = put_equations(bytes, equations, x, at);
     let y = model_judge::with_equations(x, run);
@@ -247,7 +247,7 @@ fn store_run(
     u: OneTurn,
 ) -> OneTurn
     requires { ⌜ InsideTurn (now bytes) u ⌝ }
-    ensures { λ r. ⌜ RunStored (now (bytes .entry)) u (three (now (labels .entry)) (now (equations .entry)) (now (moves .entry))) r (three (now (labels .exit)) (now (equations .exit)) (now (moves .exit))) ⌝ }
+    ensures { λ r. ⌜ RunOver (now (bytes .entry)) u (three (now (labels .entry)) (now (equations .entry)) (now (moves .entry))) r (three (now (labels .exit)) (now (equations .exit)) (now (moves .exit))) ⌝ }
 {
     let OneTurn::Go(rec, x, at) = u else {
         return u;
@@ -276,17 +276,17 @@ fn store_turn(
     t: OneTurn,
 ) -> OneTurn
     requires { ⌜ StoresAt (now bytes) read t ⌝ }
-    ensures { λ r. ⌜ Stores (lengthsBy l) (now (bytes .entry)) t (record { labels = now (labels .entry); equations = now (equations .entry); moves = now (moves .entry) }) r (record { labels = now (labels .exit); equations = now (equations .exit); moves = now (moves .exit) }) ⌝ }
+    ensures { λ r. ⌜ Stores (lengthsBy l) (now (bytes .entry)) t (three (now (labels .entry)) (now (equations .entry)) (now (moves .entry))) r (three (now (labels .exit)) (now (equations .exit)) (now (moves .exit))) ⌝ }
 {
     let u = model_judge::turn(read, l, t, bytes.len());
-    put_turn(labels, equations, moves, t, u);
+    put_turn(labels, equations, t, u);
     store_run(bytes, labels, equations, moves, u)
 }
 
 // The whole model, read through one reader from record to record, and stored. Chains are not asked again, and components are
 // not put in.
 fn store_model(bytes: &[u8], l: Lent, labels: &mut [u32], equations: &mut [u32], moves: &mut [u32])
-    ensures { λ _. ⌜ ((m : Model) → readPlain (lengthsBy l) (now (bytes .entry)) ≡ accepted m → _≡_ {A = Stored} (record { labels = now (labels .exit); equations = now (equations .exit); moves = now (moves .exit) }) (laid (started (m .sizes)) m (record { labels = now (labels .entry); equations = now (equations .entry); moves = now (moves .entry) }))) ⌝ }
+    ensures { λ _. ⌜ StoredWhole (lengthsBy l) (now (bytes .entry)) (three (now (labels .entry)) (now (equations .entry)) (now (moves .entry))) (three (now (labels .exit)) (now (equations .exit)) (now (moves .exit))) ⌝ }
 {
     let mut r = bytes_read::reader_at(bytes, 0);
     let mut t = model_judge::first_turn(bytes_read::next(r), l);
@@ -302,41 +302,30 @@ fn store_model(bytes: &[u8], l: Lent, labels: &mut [u32], equations: &mut [u32],
 
 // In a model with signs each equation gets the number of its component; in one with blocks nothing changes.
 fn put_components(equations: &mut [u32], z: Sizes)
-    requires { ⌜ (z .variables ≤ 32) × (z .variables ≤ length (now equations)) ⌝ }
+    requires { ⌜ (z .variables ≤ most-variables) × (z .variables ≤ length (now equations)) ⌝ }
     ensures { λ _. ⌜ now (equations .exit) ≡ withComponents z (now (equations .entry)) ⌝ }
 {
-    if z.blocks == 0 {
+    if limits::signed(z) {
         model_chains::number_all(equations, z.variables as usize);
     }
 }
 
-// A model read: judged first, and stored only where it is good.
+// A model read: judged first, and stored only where it is good. `lent` has the lengths of all rooms.
 pub fn read_model(
     bytes: &[u8],
-    values: usize,
-    marks: usize,
-    index: usize,
-    queue: usize,
+    lent: Lent,
     labels: &mut [u32],
     equations: &mut [u32],
     moves: &mut [u32],
 ) -> ReadModel
-    ensures { λ r. ⌜ ReadInto (now (bytes .entry)) values marks index queue (record { labels = now (labels .entry); equations = now (equations .entry); moves = now (moves .entry) }) r (record { labels = now (labels .exit); equations = now (equations .exit); moves = now (moves .exit) }) ⌝ }
+    requires { ⌜ Spans (lengthsBy lent) (three (now labels) (now equations) (now moves)) ⌝ }
+    ensures { λ r. ⌜ ReadInto (now (bytes .entry)) (lengthsBy lent) (three (now (labels .entry)) (now (equations .entry)) (now (moves .entry))) r (three (now (labels .exit)) (now (equations .exit)) (now (moves .exit))) ⌝ }
 {
-    let l = Lent {
-        labels: labels.len(),
-        equations: equations.len(),
-        values: values,
-        marks: marks,
-        moves: moves.len(),
-        index: index,
-        queue: queue,
-    };
-    let answer = model_judge::judge_model(bytes, l);
+    let answer = model_judge::judge_model(bytes, lent);
     let ReadModel::Good(z, _, _) = answer else {
         return answer;
     };
-    store_model(bytes, l, labels, equations, moves);
+    store_model(bytes, lent, labels, equations, moves);
     put_components(equations, z);
     answer
 }

@@ -4,9 +4,13 @@ use borrow.Author.Needs.{needs}
 use Rattle.boundary.proofs.huepaxochi_ask.Statement.{statement}
 use Rattle.boundary.proofs.huepaxochi_ask.Tie as tie
 
+-- The points of the program: from what is known at a later one to what was known at an earlier one.
+abbrev start-before-shared-slice-known2 : tie.After-shared-slice-known2 → tie.Start
+start-before-shared-slice-known2 c = c .before .before
+
 returns : tie.Need-returns
 returns c =
-    let a = c .before .before .before .args in
+    let a = start-before-shared-slice-known2 (c .before) .args in
     ask-short (a .session .now) (a .values .now) (a .state) (a .variable) (c .if1 .taken)
 
 session-of-requires : tie.Need-session-of-requires
@@ -20,8 +24,10 @@ tell-asked-requires c κs = search needs
 
 returns-2 : tie.Need-returns-2
 returns-2 c =
-    let a = c .before .before .before .before .before .before .args in
-    ask-comes (a .session .now) (a .values .now) (a .state) (a .variable) _ (c .before .ask .result) _ (c .before .before .before .if1 .left) (c .before .before .session-of .ensures) (c .before .ask .ensures) (c .tell-asked .ensures)
+    let after-ask = c .before in
+    let in-else1 = after-ask .before .before in
+    let a = start-before-shared-slice-known2 (in-else1 .before) .args in
+    ask-comes (a .session .now) (a .values .now) (a .state) (a .variable) _ (after-ask .ask .result) _ (in-else1 .if1 .left) (after-ask .before .session-of .ensures) (after-ask .ask .ensures) (c .tell-asked .ensures)
 
 pub huepaxochi-ask-spec : {M : Type 1} → statement M
 huepaxochi-ask-spec =

@@ -5,9 +5,13 @@ use borrow.Author.Needs.{needs}
 use Rattle.boundary.proofs.huepaxochi_load.Statement.{statement}
 use Rattle.boundary.proofs.huepaxochi_load.Tie as tie
 
+-- The points of the program: from what is known at a later one to what was known at an earlier one.
+abbrev start-before-slice-known8 : tie.After-slice-known8 → tie.Start
+start-before-slice-known8 c = c .before .before .before .before .before .before .before .before .before
+
 returns : tie.Need-returns
 returns c =
-    let a = c .before .before .before .before .before .before .before .before .before .before .args in
+    let a = start-before-slice-known8 (c .before) .args in
     let l = roomsWith (a .labels .now) (a .equations .now) (a .values .now) (a .marks .now) (a .moves .now) (a .index .now) (a .queue .now) in
     load-short (a .session .now) l (a .bytes .now) (c .if1 .taken)
 
@@ -43,9 +47,12 @@ same-length-8 c = search needs
 
 returns-2 : tie.Need-returns-2
 returns-2 c =
-    let a = c .before .before .before .before .before .before .before .before .before .before .before .before .before .before .before .before .before .before .before .before .before .before .before .before .before .before .before .before .before .before .before .before .before .before .before .before .args in
+    let after-keep-loaded = c .before .before in
+    let after-load = after-keep-loaded .before .before .before .before .before .before .before .before .before .before .before .before .before .before .before .before in
+    let in-else1 = after-load .before .before .before .before .before .before .before .before in
+    let a = start-before-slice-known8 (in-else1 .before) .args in
     let l = roomsWith (a .labels .now) (a .equations .now) (a .values .now) (a .marks .now) (a .moves .now) (a .index .now) (a .queue .now) in
-    load-comes (a .session .now) l (a .bytes .now) (c .before .before .before .before .before .before .before .before .before .before .before .before .before .before .before .before .before .before .load .result) _ _ _ (c .before .before .before .before .before .before .before .before .before .before .before .before .before .before .before .before .before .before .before .before .before .before .before .before .before .before .if1 .left) (c .before .before .before .before .before .before .before .before .before .before .before .before .before .before .before .before .before .before .load .ensures) (c .before .before .keep-loaded .ensures .0) (c .before .before .keep-loaded .ensures .1)
+    load-comes (a .session .now) l (a .bytes .now) (after-load .load .result) _ _ _ (in-else1 .if1 .left) (after-load .load .ensures) (after-keep-loaded .keep-loaded .ensures .0) (after-keep-loaded .keep-loaded .ensures .1)
 
 pub huepaxochi-load-spec : {M : Type 1} → statement M
 huepaxochi-load-spec =

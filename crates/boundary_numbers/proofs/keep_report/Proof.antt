@@ -20,9 +20,12 @@ same-length c = search needs
 
 returns : tie.Need-returns
 returns c =
-    let s = c .before .before .before .before .before .before .before .before .before .before .before in
-    let a = s .args in
-    report-kept (a .room .now) _ _ _ _ (a .report) (s .pre) (c .before .before .before .before .before .before .before .before .set-count .ensures) (c .before .before .before .before .before .set-count2 .ensures) (toZ-ofZ w32 (a .report .net) (record { sfits = c .before .before .struct-told .given .1 .1 .0 .1 })) (c .before .set-net .ensures)
+    let after-struct-told = c .before .before in
+    let after-set-count2 = after-struct-told .before .before .before in
+    let after-set-count = after-set-count2 .before .before .before in
+    let at-start = after-set-count .before .before .before in
+    let a = at-start .args in
+    report-kept (a .room .now) _ _ _ _ (a .report) (at-start .pre) (after-set-count .set-count .ensures) (after-set-count2 .set-count2 .ensures) (toZ-ofZ w32 (a .report .net) (record { sfits = after-struct-told .struct-told .given .1 .1 .0 .1 })) (c .before .set-net .ensures)
 
 pub keep-report-spec : {M : Type 1} → statement M
 keep-report-spec =

@@ -28,9 +28,9 @@ returns c =
     let at-stamp = at-live .before .before .before .before .before in
     let at-moves = at-stamp .before .before .before .before in
     let at-sizes = at-moves .before .before .before .before in
-    let s = at-sizes .before .before .before in
-    let a = s .args in
-    session-kept (a .room .now) _ _ _ _ (a .session) (s .pre) (at-sizes .keep-sizes .ensures) (at-moves .set-word .ensures) (at-stamp .set-word2 .ensures) (at-live .set-word3 .ensures)
+    let at-start = at-sizes .before .before .before in
+    let a = at-start .args in
+    session-kept (a .room .now) _ _ _ _ (a .session) (at-start .pre) (at-sizes .keep-sizes .ensures) (at-moves .set-word .ensures) (at-stamp .set-word2 .ensures) (at-live .set-word3 .ensures)
 
 pub keep-session-spec : {M : Type 1} → statement M
 keep-session-spec =

@@ -25,7 +25,9 @@ returns : tie.Need-returns
 returns c = rw (toZ-pos w64 (c .before .args .n) (omega arith))
 
 returns-2 : tie.Need-returns-2
-returns-2 c = sym (set-out (c .before .args .room .now) (c .before .args .at) (pos (c .before .args .n)) (omega arith))
+returns-2 c =
+    let at-start = c .before in
+    sym (set-out (at-start .args .room .now) (at-start .args .at) (pos (at-start .args .n)) (omega arith))
 
 pub set-count-spec : {M : Type 1} → statement M
 set-count-spec =

@@ -9,7 +9,9 @@ use Rattle.boundary_numbers.proofs.set_net.Statement.{statement}
 use Rattle.boundary_numbers.proofs.set_net.Tie as tie
 
 cast-room : tie.Need-cast-room
-cast-room c = widens {w = w32} {z = c .before .args .net} tt (c .before .fits .net)
+cast-room c =
+    let at-start = c .before in
+    widens {w = w32} {z = at-start .args .net} tt (at-start .fits .net)
 
 mul-t7 : tie.Need-mul-t7
 mul-t7 c = search needs
@@ -21,10 +23,14 @@ same-length : tie.Need-same-length
 same-length c = search needs
 
 returns : tie.Need-returns
-returns c = rw (widened {w = w32} {z = c .before .args .net} tt (c .before .fits .net))
+returns c =
+    let at-start = c .before in
+    rw (widened {w = w32} {z = at-start .args .net} tt (at-start .fits .net))
 
 returns-2 : tie.Need-returns-2
-returns-2 c = sym (set-out (c .before .args .room .now) (c .before .args .at) (c .before .args .net) (omega arith))
+returns-2 c =
+    let at-start = c .before in
+    sym (set-out (at-start .args .room .now) (at-start .args .at) (at-start .args .net) (omega arith))
 
 pub set-net-spec : {M : Type 1} → statement M
 set-net-spec =

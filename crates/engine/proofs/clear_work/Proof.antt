@@ -27,9 +27,12 @@ same-length-2 c = search needs
 
 returns : tie.Need-returns
 returns c =
-    let a = c .before .before .before .before .before .before .before .before .before .before .before .before .args in (
-      c .before .before .before .before .before .before .clear-halves .ensures ∙ ap (λ (n : ℕ). fill (replicate n 0) (a .index .now)) (c .before .before .before .before .before .before .before .before .before .index-needs .ensures .0),
-      c .before .before .clear-halves2 .ensures ∙ ap (λ (n : ℕ). fill (replicate n 0) (a .queue .now)) (c .before .before .before .before .before .before .before .before .queue-needs .ensures .0),
+    let after-clear-halves2 = c .before .before in
+    let after-clear-halves = after-clear-halves2 .before .before .before .before in
+    let after-queue-needs = after-clear-halves .before .before in
+    let a = after-queue-needs .before .before .before .before .args in (
+      after-clear-halves .clear-halves .ensures ∙ ap (λ (n : ℕ). fill (replicate n 0) (a .index .now)) (after-queue-needs .before .index-needs .ensures .0),
+      after-clear-halves2 .clear-halves2 .ensures ∙ ap (λ (n : ℕ). fill (replicate n 0) (a .queue .now)) (after-queue-needs .queue-needs .ensures .0),
     )
 
 pub clear-work-spec : {M : Type 1} → statement M

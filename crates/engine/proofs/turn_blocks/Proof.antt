@@ -32,18 +32,33 @@ abbrev μ-loop : tie.MeasureT-loop
     blocksOf (modelOf (tableIn sizes labels equations moves)) - i
 
 -- The points of the program: from what is known at a later one to what was known at an earlier one.
-abbrev start-before-blocks : tie.After-count-blocks Inv-loop μ-loop → tie.Start Inv-loop μ-loop
-start-before-blocks c = c .before .before .before .before .before .before .before .before .before .before .before
+abbrev start-before-count-blocks : tie.After-count-blocks Inv-loop μ-loop → tie.Start Inv-loop μ-loop
+start-before-count-blocks c = c .before .before .before .before .before .before .before .before .before .before .before
 
-abbrev phase-before-second : tie.After-phase2 Inv-loop μ-loop → tie.After-phase Inv-loop μ-loop
-phase-before-second c = c .before .before .before .before .before .before .before .before .before .before .before .before .before
+abbrev count-blocks-before-after-loop : tie.After-loop Inv-loop μ-loop → tie.After-count-blocks Inv-loop μ-loop
+count-blocks-before-after-loop c = c .before .before
+
+abbrev count-blocks-before-in-loop : tie.In-loop Inv-loop μ-loop → tie.After-count-blocks Inv-loop μ-loop
+count-blocks-before-in-loop c = c .before .before
+
+abbrev start-before-after-loop : tie.After-loop Inv-loop μ-loop → tie.Start Inv-loop μ-loop
+start-before-after-loop c = start-before-count-blocks (count-blocks-before-after-loop c)
+
+abbrev in-loop-before-phase-arg4 : tie.After-phase-arg4 Inv-loop μ-loop → tie.In-loop Inv-loop μ-loop
+in-loop-before-phase-arg4 c = c .before .before .before .before
+
+abbrev phase-before-phase-arg8 : tie.After-phase-arg8 Inv-loop μ-loop → tie.After-phase Inv-loop μ-loop
+phase-before-phase-arg8 c = c .before .before .before .before .before .before .before .before .before .before .before .before
+
+abbrev phase2-before-slice-known12 : tie.After-slice-known12 Inv-loop μ-loop → tie.After-phase2 Inv-loop μ-loop
+phase2-before-slice-known12 c = c .before .before .before .before .before .before .before .before
 
 count-blocks-requires : tie.Need-count-blocks-requires Inv-loop μ-loop
 count-blocks-requires c κs = search needs
 
 loop-holds : tie.Need-loop-holds Inv-loop μ-loop
 loop-holds c =
-    let at-start = start-before-blocks c in
+    let at-start = start-before-count-blocks c in
     let a = at-start .args in
     let t = tableIn (a .sizes) (a .labels .now) (a .equations .now) (a .moves .now) in
     let pre = at-start .pre in
@@ -58,28 +73,28 @@ loop-holds c =
 
 phase-requires : tie.Need-phase-requires Inv-loop μ-loop
 phase-requires c κs =
-    let at-loop = c .before .before .before .before .before in
-    let at-blocks = at-loop .before in
-    let at-start = start-before-blocks at-blocks in
+    let in-loop = in-loop-before-phase-arg4 c in
+    let after-count-blocks = count-blocks-before-in-loop in-loop in
+    let at-start = start-before-count-blocks after-count-blocks in
     let pre = at-start .pre in
-    let l = at-loop .loop in
+    let l = in-loop .before .loop in
     let inv = l .inv in
-    let taken = c .before .before .before .before .loop-test .taken in
-    let count = at-blocks .count-blocks .ensures in
+    let taken = in-loop .loop-test .taken in
+    let count = after-count-blocks .count-blocks .ensures in
     (pre .0, (pre .1 .0, ((omega arith, (inv .0 .1 .1 .1 .1 ∙ pre .1 .1 .0 .0, omega (arith, inv .0 .1 .1 .1 .0, pre .1 .1 .0 .1))), (record { start = at-start .args .values .now; index = l .settles; on = inv .1 .0 }, level-of (at-start .args .sizes) (l .level) (at-start .args .values .now) (l .values) (inv .1 .1)))))
 
 phase-requires-2 : tie.Need-phase-requires-2 Inv-loop μ-loop
 phase-requires-2 c κs =
-    let at-loop = c .before .before .before .before .before .before .before .before .before .before .before .before .before .before .before .before .before .before in
-    let at-blocks = at-loop .before in
-    let at-start = start-before-blocks at-blocks in
+    let after-phase = phase-before-phase-arg8 c in
+    let in-loop = in-loop-before-phase-arg4 (after-phase .before) in
+    let after-count-blocks = count-blocks-before-in-loop in-loop in
+    let at-start = start-before-count-blocks after-count-blocks in
     let pre = at-start .pre in
-    let l = at-loop .loop in
+    let l = in-loop .before .loop in
     let inv = l .inv in
-    let at-phase = c .before .before .before .before .before .before .before .before .before .before .before .before in
-    let first = at-phase .phase in
-    let taken = at-phase .before .before .before .before .before .loop-test .taken in
-    let count = at-blocks .count-blocks .ensures in
+    let first = after-phase .phase in
+    let taken = in-loop .loop-test .taken in
+    let count = after-count-blocks .count-blocks .ensures in
     let kept = first .kept in (
       pre .0,
       (
@@ -97,39 +112,34 @@ phase-requires-2 c κs =
 
 add-i : tie.Need-add-i Inv-loop μ-loop
 add-i c =
-    let at-second = c .before .before .before .before .before .before .before .before in
-    let at-phase = phase-before-second at-second in
-    let at-test = at-phase .before .before .before .before .before in
-    omega (arith, at-test .loop-test .taken)
+    let in-loop = in-loop-before-phase-arg4 (phase-before-phase-arg8 (phase2-before-slice-known12 c .before) .before) in
+    omega (arith, in-loop .loop-test .taken, (count-blocks-before-in-loop in-loop) .count-blocks)
 
 loop-less : tie.Need-loop-less Inv-loop μ-loop
 loop-less c =
-    let at-loop = c .before .before .before .before .before .before .before .before .before .before .before .before .before .before .before .before .before .before .before .before .before .before .before .before .before .before .before in
-    let at-blocks = at-loop .before in
-    let at-start = start-before-blocks at-blocks in
-    let pre = at-start .pre in
-    let l = at-loop .loop in
+    let in-loop = in-loop-before-phase-arg4 (phase-before-phase-arg8 (phase2-before-slice-known12 c .before) .before) in
+    let after-count-blocks = count-blocks-before-in-loop in-loop in
+    let pre = start-before-count-blocks after-count-blocks .pre in
+    let l = in-loop .before .loop in
     let inv = l .inv in
-    let at-second = c .before .before .before .before .before .before .before .before in
-    let at-phase = phase-before-second at-second in
-    let taken = at-phase .before .before .before .before .before .loop-test .taken in
-    let count = at-blocks .count-blocks .ensures in
+    let taken = in-loop .loop-test .taken in
+    let count = after-count-blocks .count-blocks .ensures in
     omega arith
 
 loop-again : tie.Need-loop-again Inv-loop μ-loop
 loop-again c =
-    let at-loop = c .before .before .before .before .before .before .before .before .before .before .before .before .before .before .before .before .before .before .before .before .before .before .before .before .before .before .before in
-    let at-blocks = at-loop .before in
-    let at-start = start-before-blocks at-blocks in
+    let after-phase2 = phase2-before-slice-known12 c in
+    let after-phase = phase-before-phase-arg8 (after-phase2 .before) in
+    let in-loop = in-loop-before-phase-arg4 (after-phase .before) in
+    let after-count-blocks = count-blocks-before-in-loop in-loop in
+    let at-start = start-before-count-blocks after-count-blocks in
     let pre = at-start .pre in
-    let l = at-loop .loop in
+    let l = in-loop .before .loop in
     let inv = l .inv in
-    let at-second = c .before .before .before .before .before .before .before .before in
-    let at-phase = phase-before-second at-second in
-    let taken = at-phase .before .before .before .before .before .loop-test .taken in
-    let count = at-blocks .count-blocks .ensures in
-    let first = at-phase .phase in
-    let second = at-second .phase2 in
+    let taken = in-loop .loop-test .taken in
+    let count = after-count-blocks .count-blocks .ensures in
+    let first = after-phase .phase in
+    let second = after-phase2 .phase2 in
     let a = at-start .args in (
       (omega arith, (second .kept .1 .1 .1 .1 .1 .1 .1 .0 ∙ first .kept .1 .1 .1 .1 .1 .1 .1 .0 ∙ inv .0 .1 .0, (second .kept .1 .1 .1 .1 .1 .1 .1 .1 .0 ∙ first .kept .1 .1 .1 .1 .1 .1 .1 .1 .0 ∙ inv .0 .1 .1 .0, (second .kept .1 .1 .1 .1 .1 .1 .1 .1 .1 .0 ∙ first .kept .1 .1 .1 .1 .1 .1 .1 .1 .1 .0 ∙ inv .0 .1 .1 .1 .0, second .kept .1 .1 .1 .1 .1 .1 .1 .1 .1 .1 .0 ∙ first .kept .1 .1 .1 .1 .1 .1 .1 .1 .1 .1 .0 ∙ inv .0 .1 .1 .1 .1)))),
       (
@@ -141,22 +151,18 @@ loop-again c =
 
 cast-shift : tie.Need-cast-shift Inv-loop μ-loop
 cast-shift c =
-    let at-loop = c .before in
-    let at-blocks = at-loop .before in
-    let at-start = start-before-blocks at-blocks in
+    let at-start = start-before-after-loop c in
     let pre = at-start .pre in
-    let l = at-loop .loop in
+    let l = c .before .loop in
     let inv = l .inv in
     let few = on-few (pre .0) (jobIn (at-start .args .sizes) (l .i) false 0 (l .values) (l .marks) (l .queue) 0 0 (l .shifts) (l .settles)) (inv .1 .0) in
     record { fits = omega (arith, few .0) }
 
 cast-settle : tie.Need-cast-settle Inv-loop μ-loop
 cast-settle c =
-    let at-loop = c .before in
-    let at-blocks = at-loop .before in
-    let at-start = start-before-blocks at-blocks in
+    let at-start = start-before-after-loop c in
     let pre = at-start .pre in
-    let l = at-loop .loop in
+    let l = c .before .loop in
     let inv = l .inv in
     let few = on-few (pre .0) (jobIn (at-start .args .sizes) (l .i) false 0 (l .values) (l .marks) (l .queue) 0 0 (l .shifts) (l .settles)) (inv .1 .0) in
     record { fits = omega (arith, few .1) }
@@ -175,13 +181,12 @@ same-length-4 c = c .before .loop .inv .0 .1 .1 .1 .1
 
 returns : tie.Need-returns Inv-loop μ-loop
 returns c =
-    let at-loop = c .before in
-    let at-blocks = at-loop .before in
-    let at-start = start-before-blocks at-blocks in
+    let after-count-blocks = count-blocks-before-after-loop c in
+    let at-start = start-before-count-blocks after-count-blocks in
     let pre = at-start .pre in
-    let l = at-loop .loop in
+    let l = c .before .loop in
     let inv = l .inv in
-    let count = at-blocks .count-blocks .ensures in
+    let count = after-count-blocks .count-blocks .ensures in
     let over = c .loop-test .left in
     let ended = on-ends (jobIn (at-start .args .sizes) (l .i) false 0 (l .values) (l .marks) (l .queue) 0 0 (l .shifts) (l .settles)) (inv .1 .0) (omega arith) refl refl in
     (record { values-are = ended .values; marks-are = ended .marks; shift-is = ended .shift; settle-is = ended .settle }, inv .1 .1)

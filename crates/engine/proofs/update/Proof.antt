@@ -22,24 +22,37 @@ use Rattle.engine.proofs.move_in_rooms.Reads as move-in-rooms-reads
 use Rattle.engine_values.proofs.net.Reads as net-reads
 use Rattle.limits.proofs.pairs_of.Reads as pairs-of-reads
 
+-- The points of the program: from what is known at a later one to what was known at an earlier one.
+abbrev start-before-pairs-of : tie.After-pairs-of → tie.Start
+start-before-pairs-of c = c .before .before .before .before .before .before .before .before .before
+
+abbrev start-before-move-in-rooms-arg4 : tie.After-move-in-rooms-arg4 → tie.Start
+start-before-move-in-rooms-arg4 c = start-before-pairs-of (c .before .before .before .before)
+
+abbrev pairs-of-before-move-in-rooms : tie.After-move-in-rooms → tie.After-pairs-of
+pairs-of-before-move-in-rooms c = c .before .before .before .before .before
+
+abbrev move-in-rooms-before-visits : tie.After-visits → tie.After-move-in-rooms
+move-in-rooms-before-visits c = c .before .before .before .before .before .before .before .before .before
+
 pairs-of-requires : tie.Need-pairs-of-requires
 pairs-of-requires c κs = search needs
 
 move-in-rooms-requires : tie.Need-move-in-rooms-requires
 move-in-rooms-requires c κs =
-    let pre = c .before .before .before .before .before .before .before .before .before .before .before .before .before .pre in
+    let pre = start-before-move-in-rooms-arg4 c .pre in
     (pre .0, (pre .1 .0, (pre .1 .1 .0, ((pre .1 .1 .1 .0 .0, pre .1 .1 .1 .0 .1 .1), pre .1 .1 .1 .1))))
 
 net-requires : tie.Need-net-requires
 net-requires c κs =
-    let at-move = c .before .before .before .before .before .before .before .before .before in
-    let at-pairs = at-move .before .before .before .before .before in
-    let at-start = at-pairs .before .before .before .before .before .before .before .before .before in
+    let after-move-in-rooms = move-in-rooms-before-visits c in
+    let after-pairs-of = pairs-of-before-move-in-rooms after-move-in-rooms in
+    let at-start = start-before-pairs-of after-pairs-of in
     let a = at-start .args in
     let few = pairs-few (a .sizes) (a .labels .now) (a .equations .now) (a .moves .now) (a .n) (at-start .pre .0) in
-    let is-pairs = at-pairs .pairs-of .ensures .0 in
-    let level = level-of (a .sizes) (at-move .move-in-rooms .result .level) (a .values .now) (at-move .move-in-rooms .last .1 .1 .1 .1 .1 .1 .1 .0) (at-move .move-in-rooms .ensures .0 .levelled) in
-    let most = trues-le (pairsOf (a .sizes)) (at-move .move-in-rooms .last .1 .1 .1 .1 .1 .1 .1 .0) in
+    let is-pairs = after-pairs-of .pairs-of .ensures .0 in
+    let level = level-of (a .sizes) (after-move-in-rooms .move-in-rooms .result .level) (a .values .now) (after-move-in-rooms .move-in-rooms .last .1 .1 .1 .1 .1 .1 .1 .0) (after-move-in-rooms .move-in-rooms .ensures .0 .levelled) in
+    let most = trues-le (pairsOf (a .sizes)) (after-move-in-rooms .move-in-rooms .last .1 .1 .1 .1 .1 .1 .1 .0) in
     (omega arith, omega (arith, level .1))
 
 same-length : tie.Need-same-length
@@ -56,24 +69,24 @@ same-length-4 c = search needs
 
 returns : tie.Need-returns
 returns c =
-    let at-move = c .before .before .before .before .before .before .before .before .before .before in
-    let at-pairs = at-move .before .before .before .before .before in
-    let at-start = at-pairs .before .before .before .before .before .before .before .before .before in
+    let after-move-in-rooms = move-in-rooms-before-visits (c .before) in
+    let after-pairs-of = pairs-of-before-move-in-rooms after-move-in-rooms in
+    let at-start = start-before-pairs-of after-pairs-of in
     let a = at-start .args in
     let few = pairs-few (a .sizes) (a .labels .now) (a .equations .now) (a .moves .now) (a .n) (at-start .pre .0) in
-    let is-pairs = at-pairs .pairs-of .ensures .0 in
+    let is-pairs = after-pairs-of .pairs-of .ensures .0 in
     let m = tableOf (a .sizes) (a .labels .now) (a .equations .now) (a .moves .now) (a .n) in
     let cs = changesOf (take (a .count) (a .changes .now)) in
-    let moved = at-move .move-in-rooms .ensures in
-    let level = level-of (a .sizes) (at-move .move-in-rooms .result .level) (a .values .now) (at-move .move-in-rooms .last .1 .1 .1 .1 .1 .1 .1 .0) (moved .0 .levelled) in
-    let most = trues-le (pairsOf (a .sizes)) (at-move .move-in-rooms .last .1 .1 .1 .1 .1 .1 .1 .0) in
-    let x = update-leaves m cs (a .values .now) (a .marks .now) _ _ _ _ (at-move .move-in-rooms .result .level) (at-pairs .pairs-of .result) _ (at-start .pre .1 .1 .0) (moved .0) is-pairs (c .net .ensures) in (
+    let moved = after-move-in-rooms .move-in-rooms .ensures in
+    let level = level-of (a .sizes) (after-move-in-rooms .move-in-rooms .result .level) (a .values .now) (after-move-in-rooms .move-in-rooms .last .1 .1 .1 .1 .1 .1 .1 .0) (moved .0 .levelled) in
+    let most = trues-le (pairsOf (a .sizes)) (after-move-in-rooms .move-in-rooms .last .1 .1 .1 .1 .1 .1 .1 .0) in
+    let x = update-leaves m cs (a .values .now) (a .marks .now) _ _ _ _ (after-move-in-rooms .move-in-rooms .result .level) (after-pairs-of .pairs-of .result) _ (at-start .pre .1 .1 .0) (moved .0) is-pairs (c .net .ensures) in (
       record {
         values-are = x .values-are;
         marks-are = x .marks-are;
         shift-is = x .shift-is;
         settle-is = x .settle-is;
-        net-is = toZ-ofZ w32 (c .net .result) (record { sfits = subst (λ (z : ℤ). mag z < 2 ^ 31) (sym (c .net .ensures)) (mag-sub (at-move .move-in-rooms .result .level) (at-pairs .pairs-of .result) (omega (arith, level .1)) (omega arith)) }) ∙ x .net-is;
+        net-is = toZ-ofZ w32 (c .net .result) (record { sfits = subst (λ (z : ℤ). mag z < 2 ^ 31) (sym (c .net .ensures)) (mag-sub (after-move-in-rooms .move-in-rooms .result .level) (after-pairs-of .pairs-of .result) (omega (arith, level .1)) (omega arith)) }) ∙ x .net-is;
       },
       moved .1,
     )

@@ -9,6 +9,10 @@ use borrow.Author.Needs.{needs}
 use Rattle.engine_index.proofs.put_link.Statement.{statement}
 use Rattle.engine_index.proofs.put_link.Tie as tie
 
+-- The points of the program: from what is known at a later one to what was known at an earlier one.
+abbrev start-before-key-of : tie.After-key-of → tie.Start
+start-before-key-of c = c .before .before .before .before
+
 mul-key-of : tie.Need-mul-key-of
 mul-key-of c = search needs
 
@@ -26,17 +30,18 @@ add-place c = search needs
 
 mul-last : tie.Need-mul-last
 mul-last c =
-    let s = c .before .before .before .before .before in
+    let at-start = start-before-key-of (c .before) in
     let key = c .before .key-of in
-    let k = s .pre .0 .inside (s .args .j) (s .pre .1 .0) in
+    let k = at-start .pre .0 .inside (at-start .args .j) (at-start .pre .1 .0) in
     let e = key .ensures in
     omega arith
 
 slice-read-last : tie.Need-slice-read-last
 slice-read-last c =
-    let s = c .before .before .before .before .before .before in
-    let key = c .before .before .key-of in
-    let k = s .pre .0 .inside (s .args .j) (s .pre .1 .0) in
+    let after-key-of = c .before .before in
+    let at-start = start-before-key-of after-key-of in
+    let key = after-key-of .key-of in
+    let k = at-start .pre .0 .inside (at-start .args .j) (at-start .pre .1 .0) in
     let e = key .ensures in
     omega arith
 
@@ -54,19 +59,21 @@ cast-index c = search needs
 
 mul-index-2 : tie.Need-mul-index-2
 mul-index-2 c =
-    let s = c .before .before .before .before .before .before in
-    let key = c .before .before .key-of in
-    let k = s .pre .0 .inside (s .args .j) (s .pre .1 .0) in
+    let after-key-of = c .before .before in
+    let at-start = start-before-key-of after-key-of in
+    let key = after-key-of .key-of in
+    let k = at-start .pre .0 .inside (at-start .args .j) (at-start .pre .1 .0) in
     let e = key .ensures in
     omega arith
 
 slice-write-index-2 : tie.Need-slice-write-index-2
 slice-write-index-2 c =
-    let s = c .before .before .before .before .before .before in
-    let key = c .before .before .key-of in
-    let k = s .pre .0 .inside (s .args .j) (s .pre .1 .0) in
+    let after-key-of = c .before .before in
+    let at-start = start-before-key-of after-key-of in
+    let key = after-key-of .key-of in
+    let k = at-start .pre .0 .inside (at-start .args .j) (at-start .pre .1 .0) in
     let e = key .ensures in
-    let l = length-set (s .args .index .now) (c .before .heads-of .result + s .args .j) (getD (s .args .index .now) (key .result) 0) in
+    let l = length-set (at-start .args .index .now) (c .before .heads-of .result + at-start .args .j) (getD (at-start .args .index .now) (key .result) 0) in
     omega arith
 
 same-length : tie.Need-same-length
@@ -74,9 +81,9 @@ same-length c = search needs
 
 returns : tie.Need-returns
 returns c =
-    let s = c .before .before .before .before .before .before in
-    let a = s .args in
-    let key = c .before .before .key-of in
+    let after-key-of = c .before .before in
+    let a = start-before-key-of after-key-of .args in
+    let key = after-key-of .key-of in
     let heads = c .before .heads-of in
     let e : key .result ≡ 0 + key .result = omega arith in
     let h : heads .result + a .j ≡ headsOf (a .sizes) + a .j = ap (λ (x : ℕ). x + a .j) (heads .ensures .0) in

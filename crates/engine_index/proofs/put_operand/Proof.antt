@@ -12,27 +12,21 @@ use Rattle.engine_index.proofs.put_operand.Statement.{statement}
 use Rattle.engine_index.proofs.put_operand.Tie as tie
 
 -- The points of the program: from what is known at a later one to what was known at an earlier one.
-abbrev start-before-slice-known : tie.After-slice-known → tie.Start
-start-before-slice-known c = c .before .before
-
-abbrev then1-before-shared-slice-known3 : tie.After-shared-slice-known3 → tie.Then1
-then1-before-shared-slice-known3 c = c .before .before
+abbrev start-before-then1 : tie.Then1 → tie.Start
+start-before-then1 c = c .before .before .before
 
 abbrev then1-before-equation-in2 : tie.After-equation-in2 → tie.Then1
-then1-before-equation-in2 c = then1-before-shared-slice-known3 (c .before .before)
-
-abbrev equation-in2-before-struct-known2 : tie.After-struct-known2 → tie.After-equation-in2
-equation-in2-before-struct-known2 c = c .before .before
+then1-before-equation-in2 c = c .before .before .before .before
 
 abbrev start-before-then2 : tie.Then2 → tie.Start
-start-before-then2 c = start-before-slice-known (then1-before-equation-in2 (equation-in2-before-struct-known2 (c .before)) .before)
+start-before-then2 c = start-before-then1 (then1-before-equation-in2 (c .before .before .before))
 
 abbrev equation-in2-before-slot-word : tie.After-slot-word → tie.After-equation-in2
-equation-in2-before-slot-word c = equation-in2-before-struct-known2 (c .before .before)
+equation-in2-before-slot-word c = c .before .before .before .before
 
 mul-w : tie.Need-mul-w
 mul-w c =
-    let s = start-before-slice-known (c .before) .pre in
+    let s = start-before-then1 c .pre in
     let i = s .1 .0 .inside in
     let o = s .1 .0 .owner in
     let f = s .0 .few in
@@ -40,14 +34,14 @@ mul-w c =
 
 shared-slice-read-w : tie.Need-shared-slice-read-w
 shared-slice-read-w c =
-    let s = start-before-slice-known (c .before .before) .pre in
+    let s = start-before-then1 (c .before) .pre in
     let i = s .1 .0 .inside in
     let o = s .1 .0 .owner in
     omega arith
 
 mul-equation-in : tie.Need-mul-equation-in
 mul-equation-in c =
-    let at-start = start-before-slice-known (c .before .before) in
+    let at-start = start-before-then1 (c .before) in
     let s = at-start .pre in
     let h = slot-inside (at-start .args .sizes) (at-start .args .equations .now) (s .1 .0) (s .0) (c .before .if1 .taken) in
     let f = s .0 .few in
@@ -55,8 +49,8 @@ mul-equation-in c =
 
 shared-slice-read-equation-in : tie.Need-shared-slice-read-equation-in
 shared-slice-read-equation-in c =
-    let in-then1 = then1-before-shared-slice-known3 c in
-    let at-start = start-before-slice-known (in-then1 .before) in
+    let in-then1 = c .before .before in
+    let at-start = start-before-then1 in-then1 in
     let s = at-start .pre in
     let h = slot-inside (at-start .args .sizes) (at-start .args .equations .now) (s .1 .0) (s .0) (in-then1 .if1 .taken) in
     omega arith
@@ -81,7 +75,7 @@ put-first-requires : tie.Need-put-first-requires
 put-first-requires c κs =
     let after-slot-word = c .before in
     let in-then1 = then1-before-equation-in2 (equation-in2-before-slot-word after-slot-word) in
-    let at-start = start-before-slice-known (in-then1 .before) in
+    let at-start = start-before-then1 in-then1 in
     let s = at-start .pre in
     let i = s .1 .0 .inside in
     let f = s .0 .few in
@@ -99,7 +93,7 @@ returns c =
     let after-slot-word = after-put-first .before .before in
     let after-equation-in2 = equation-in2-before-slot-word after-slot-word in
     let in-then1 = then1-before-equation-in2 after-equation-in2 in
-    let at-start = start-before-slice-known (in-then1 .before) in
+    let at-start = start-before-then1 in-then1 in
     let s = at-start .pre in
     let a = at-start .args in
     let e = sym (ap (λ (e : Equation). e .block) (after-equation-in2 .before .equation-in .ensures)) ∙ after-slot-word .before .if2 .taken ∙ ap (λ (e : Equation). e .block) (after-equation-in2 .equation-in2 .ensures) in
@@ -108,9 +102,9 @@ returns c =
 
 returns-2 : tie.Need-returns-2
 returns-2 c =
-    let after-equation-in2 = equation-in2-before-struct-known2 (c .before) in
+    let after-equation-in2 = c .before .before .before in
     let in-then1 = then1-before-equation-in2 after-equation-in2 in
-    let at-start = start-before-slice-known (in-then1 .before) in
+    let at-start = start-before-then1 in-then1 in
     let s = at-start .pre in
     let a = at-start .args in
     let e = names-other (a .equations .now) (s .1 .0) (in-then1 .if1 .taken) (λ f. c .if2 .left (ap (λ (e : Equation). e .block) (after-equation-in2 .before .equation-in .ensures) ∙ f ∙ sym (ap (λ (e : Equation). e .block) (after-equation-in2 .equation-in2 .ensures)))) in
@@ -118,7 +112,7 @@ returns-2 c =
 
 returns-3 : tie.Need-returns-3
 returns-3 c =
-    let at-start = start-before-slice-known (c .before) in
+    let at-start = c .before .before .before in
     let s = at-start .pre in
     let a = at-start .args in
     slot-left (a .sizes) (a .equations .now) (s .1 .0) (s .0) (a .operand .now) (names-none (a .equations .now) (s .1 .0) (c .if1 .left)) (s .1 .1)

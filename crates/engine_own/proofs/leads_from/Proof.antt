@@ -71,7 +71,7 @@ look-up-requires c κs =
 returns : tie.Need-returns Inv-loop μ-loop
 returns c =
     let at-look-up = c .before in
-    let at-loop = c .before .before in
+    let at-loop = at-look-up .before in
     let at-start = start-before-loop at-loop in
     sym (found-above (at-start .pre .1 .1) (at-loop .loop .inv) (told-up at-look-up) (c .if1 .taken))
 
@@ -86,15 +86,15 @@ look-down-requires c κs =
 returns-2 : tie.Need-returns-2 Inv-loop μ-loop
 returns-2 c =
     let at-look-down = c .before in
-    let at-loop = c .before .before .before .before in
+    let at-loop = at-look-down .before .before .before in
     let at-start = start-before-loop at-loop in
     sym (found-below (at-start .pre .1 .1) (at-loop .loop .inv) (told-down at-look-down) (c .if2 .taken))
 
 add-told : tie.Need-add-told Inv-loop μ-loop
 add-told c =
     let at-look-down = c .before in
-    let at-first = c .before .before in
-    let at-look-up = c .before .before .before in
+    let at-first = at-look-down .before in
+    let at-look-up = at-first .before in
     let at-loop = loop-before-else c in
     let at-start = start-before-loop at-loop in
     let u = told-up at-look-up in
@@ -105,9 +105,9 @@ add-told c =
 returns-3 : tie.Need-returns-3 Inv-loop μ-loop
 returns-3 c =
     let at-second = c .before in
-    let at-look-down = c .before .before in
-    let at-first = c .before .before .before in
-    let at-look-up = c .before .before .before .before in
+    let at-look-down = at-second .before in
+    let at-first = at-look-down .before in
+    let at-look-up = at-first .before in
     let at-loop = loop-before-else at-second in
     let at-start = start-before-loop at-loop in
     sym (none-found (at-start .pre .1 .1) (at-loop .loop .inv) (told-up at-look-up) (told-down at-look-down)
@@ -117,7 +117,7 @@ returns-3 c =
 abbrev Goes : tie.Else3 Inv-loop μ-loop → Type 0
 Goes c =
     let at-look-down = c .before .before in
-    let at-look-up = c .before .before .before .before in
+    let at-look-up = at-look-down .before .before in
     let at-loop = loop-before-else (c .before) in
     let a = start-before-loop at-loop .args in
     Further (reaches (a .sizes) (a .values .now) (a .from) (a .x .0)) (a .moves .now) (a .j) (at-loop .loop .low) (at-loop .loop .high)
@@ -127,9 +127,9 @@ Goes c =
 further : (c : tie.Else3 Inv-loop μ-loop) → Goes c
 further c =
     let at-second = c .before in
-    let at-look-down = c .before .before in
-    let at-first = c .before .before .before in
-    let at-look-up = c .before .before .before .before in
+    let at-look-down = at-second .before in
+    let at-first = at-look-down .before in
+    let at-look-up = at-first .before in
     let at-loop = loop-before-else at-second in
     let at-start = start-before-loop at-loop in
     goes-on (at-start .pre .1 .1) (at-loop .loop .inv) (told-up at-look-up) (told-down at-look-down)

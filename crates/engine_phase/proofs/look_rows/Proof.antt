@@ -29,8 +29,17 @@ abbrev μ-loop : tie.MeasureT-loop
     sizes .variables - y
 
 -- The points of the program: from what is known at a later one to what was known at an earlier one.
-abbrev start-before-loop : tie.At-loop Inv-loop μ-loop → tie.Start Inv-loop μ-loop
-start-before-loop c = c .before .before .before .before .before .before .before .before .before .before .before .before
+abbrev start-before-next-of : tie.After-next-of Inv-loop μ-loop → tie.Start Inv-loop μ-loop
+start-before-next-of c = c .before .before .before .before .before .before .before .before .before .before .before
+
+abbrev in-loop-before-look-row-arg3 : tie.After-look-row-arg3 Inv-loop μ-loop → tie.In-loop Inv-loop μ-loop
+in-loop-before-look-row-arg3 c = c .before .before .before
+
+abbrev in-loop-before-slice-known6 : tie.After-slice-known6 Inv-loop μ-loop → tie.In-loop Inv-loop μ-loop
+in-loop-before-slice-known6 c = in-loop-before-look-row-arg3 (c .before .before .before .before .before .before .before)
+
+abbrev look-row-before-next-of2 : tie.After-next-of2 Inv-loop μ-loop → tie.After-look-row Inv-loop μ-loop
+look-row-before-next-of2 c = c .before .before .before .before .before .before .before
 
 cast-variables : tie.Need-cast-variables Inv-loop μ-loop
 cast-variables c = search needs
@@ -40,7 +49,7 @@ next-of-requires c κs = omega arith
 
 loop-holds : tie.Need-loop-holds Inv-loop μ-loop
 loop-holds c =
-    let at-start = c .before .before .before .before .before .before .before .before .before .before .before in
+    let at-start = start-before-next-of c in
     let a = at-start .args in
     let pre = at-start .pre in
     let next = c .next-of .ensures in (
@@ -57,11 +66,10 @@ cast-x c = search needs
 
 look-row-requires : tie.Need-look-row-requires Inv-loop μ-loop
 look-row-requires c κs =
-    let at-loop = c .before .before .before .before in
-    let at-start = start-before-loop at-loop in
-    let pre = at-start .pre in
-    let inv = at-loop .loop .inv in
-    let lt = c .before .before .before .loop-test .taken in
+    let in-loop = in-loop-before-look-row-arg3 c in
+    let pre = start-before-next-of (in-loop .before .before) .pre in
+    let inv = in-loop .before .loop .inv in
+    let lt = in-loop .loop-test .taken in
     (pre .0, (pre .1 .0, ((lt, (pre .1 .1 .0 .0, (inv .0 .1 .1 .1 ∙ pre .1 .1 .0 .1 .0, omega (arith, inv .0 .1 .1 .0, pre .1 .1 .0 .1 .1)))), ((inv .1 .0 .0, inv .1 .0 .1 (omega (arith, lt, pre .0 .long-equations))), leads-on (inv .1 .1) (pre .1 .1 .1)))))
 
 add-next-of : tie.Need-add-next-of Inv-loop μ-loop
@@ -69,26 +77,23 @@ add-next-of c = search needs
 
 next-of-requires-2 : tie.Need-next-of-requires-2 Inv-loop μ-loop
 next-of-requires-2 c κs =
-    let at-loop = c .before .before .before .before .before .before .before .before .before .before .before in
-    let at-start = start-before-loop at-loop in
-    omega (arith, c .before .before .before .before .before .before .before .before .before .before .loop-test .taken, at-start .pre .0 .long-equations)
+    let in-loop = in-loop-before-slice-known6 c in
+    omega (arith, in-loop .loop-test .taken, start-before-next-of (in-loop .before .before) .pre .0 .long-equations)
 
 loop-less : tie.Need-loop-less Inv-loop μ-loop
 loop-less c =
-    let at-loop = c .before .before .before .before .before .before .before .before .before .before .before .before in
-    let at-start = start-before-loop at-loop in
     let next = c .next-of2 .ensures in
-    omega (arith, next .on, c .before .before .before .before .before .before .before .before .before .before .before .loop-test .taken)
+    omega (arith, next .on, in-loop-before-slice-known6 (c .before) .loop-test .taken)
 
 loop-again : tie.Need-loop-again Inv-loop μ-loop
 loop-again c =
-    let at-row = c .before .before .before .before .before .before .before in
-    let at-loop = at-row .before .before .before .before .before in
-    let at-start = start-before-loop at-loop in
+    let after-look-row = look-row-before-next-of2 c in
+    let at-loop = in-loop-before-look-row-arg3 (after-look-row .before) .before in
+    let at-start = start-before-next-of (at-loop .before) in
     let a = at-start .args in
     let pre = at-start .pre in
     let inv = at-loop .loop .inv in
-    let row = at-row .look-row in
+    let row = after-look-row .look-row in
     let next = c .next-of2 .ensures in (
       (omega (arith, next .below, pre .0 .long-equations), (row .kept .1 .1 .1 .1 .1 .1 .1 .0 ∙ inv .0 .1 .0, (row .kept .1 .1 .1 .1 .1 .1 .1 .1 .0 ∙ inv .0 .1 .1 .0, row .kept .1 .1 .1 .1 .1 .1 .1 .1 .1 .0 ∙ inv .0 .1 .1 .1))),
       (
@@ -110,7 +115,7 @@ same-length-3 c = c .before .loop .inv .0 .1 .1 .1
 returns : tie.Need-returns Inv-loop μ-loop
 returns c =
     let at-loop = c .before in
-    let a = start-before-loop at-loop .args in
+    let a = start-before-next-of (at-loop .before) .args in
     let inv = at-loop .loop .inv in
     let e : at-loop .loop .y ≡ a .sizes .variables = omega (arith, c .loop-test .left, inv .0 .0) in (
       inv .1 .0 .0,

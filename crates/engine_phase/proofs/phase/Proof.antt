@@ -1,5 +1,6 @@
--- The rows are looked at, then the pairs that wait turn round after round: what has turned so far is one round, and no more turn than there
--- are pairs. Assumes nothing.
+-- The rows are looked at, then the pairs that wait turn round after round. The loop keeps that what has turned so far is one
+-- round up to the pair in front; no more turn than there are pairs, and the pairs left, pairs - front, get fewer.
+-- Assumes nothing.
 use mathlib.Core.Path.{_≡_, refl, _∙_}
 use Prim.Native.Nat.{ℕ, _-_}
 use native.Mathlib.Omega.{arith}

@@ -1,4 +1,4 @@
--- Whether a place from `from` up to s is bad. Assumes nothing.
+-- The loop keeps whether a place from `from` up to s is bad; the places left, end - s, get fewer. Assumes nothing.
 use mathlib.Core.Path.{_≡_, ap, _∙_}
 use Prim.Native.Nat.{ℕ, suc, _+_, _-_, _≤_}
 use native.Mathlib.Omega.{arith}

@@ -1,4 +1,5 @@
--- The places before s are x, those from s on are as they were. Assumes nothing.
+-- The loop keeps that the places before s are x and those from s on are as they were; the places left, n - s, get fewer.
+-- Assumes nothing.
 use mathlib.Core.Path.{_≡_, refl, _∙_}
 use Prim.Native.Nat.{_-_, _≤_}
 use native.Mathlib.Omega.{arith}

@@ -1,4 +1,5 @@
--- The queue holds what it held, and then the pairs of the bad places from `from` up to s. Assumes nothing.
+-- The loop keeps that the queue holds what it held, and then the pairs of the bad places from `from` up to s; the places
+-- left, end - s, get fewer. Assumes nothing.
 use mathlib.Core.Path.{_≡_, refl, subst}
 use Prim.Native.Nat.{ℕ, suc, _+_, _-_, _≤_, _<_}
 use native.Mathlib.Omega.{arith}
@@ -16,6 +17,13 @@ Inv-loop bad y from end queue₀ tail top₀ s₀ queue top s = (from ≤ s) × 
 abbrev μ-loop : tie.MeasureT-loop
 μ-loop bad y from end queue₀ tail top₀ s₀ queue top s = end - s
 
+-- The points of the program: from what is known at a later one to what was known at an earlier one.
+abbrev start-before-at-loop : tie.At-loop Inv-loop μ-loop → tie.Start Inv-loop μ-loop
+start-before-at-loop c = c .before .before .before
+
+abbrev at-loop-before-shared-slice-known2 : tie.After-shared-slice-known2 Inv-loop μ-loop → tie.At-loop Inv-loop μ-loop
+at-loop-before-shared-slice-known2 c = c .before .before .before
+
 loop-holds : tie.Need-loop-holds Inv-loop μ-loop
 loop-holds c =
     let at-start = c .before .before in
@@ -29,7 +37,7 @@ cast-t11 c = search needs
 
 waiting-requires : tie.Need-waiting-requires Inv-loop μ-loop
 waiting-requires c κs =
-    let at-start = c .before .before .before .before in
+    let at-start = start-before-at-loop (c .before) in
     let few = at-start .pre .1 .0 in
     let within = at-start .pre .1 .1 .0 in
     let t = c .loop-test .taken in
@@ -46,14 +54,14 @@ shared-slice-read-top c = search needs
 
 cast-top : tie.Need-cast-top Inv-loop μ-loop
 cast-top c =
-    let at-loop = c .before .before .before in
-    let b = at-loop .before .before .before .pre .0 (at-loop .loop .s) in
+    let at-loop = at-loop-before-shared-slice-known2 c in
+    let b = start-before-at-loop at-loop .pre .0 (at-loop .loop .s) in
     record { fits = omega (arith, b) }
 
 add-top : tie.Need-add-top Inv-loop μ-loop
 add-top c =
-    let at-loop = c .before .before .before in
-    let b = at-loop .before .before .before .pre .0 (at-loop .loop .s) in
+    let at-loop = at-loop-before-shared-slice-known2 c in
+    let b = start-before-at-loop at-loop .pre .0 (at-loop .loop .s) in
     record { fits = omega (arith, b) }
 
 add-s : tie.Need-add-s Inv-loop μ-loop
@@ -64,11 +72,11 @@ loop-less c = search needs
 
 loop-again : tie.Need-loop-again Inv-loop μ-loop
 loop-again c =
-    let at-loop = c .before .before .before in
-    let at-start = at-loop .before .before .before in
+    let in-loop = c .before .before in
+    let at-start = start-before-at-loop (in-loop .before) in
     let a = at-start .args in
-    let l = at-loop .loop in
-    let t = c .before .before .loop-test .taken in
+    let l = in-loop .before .loop in
+    let t = in-loop .loop-test .taken in
     let room = at-start .pre .1 .1 .1 in
     let here : l .s ≡ a .from + (l .s - a .from) = omega arith in
     let next : l .s + 1 - a .from ≡ suc (l .s - a .from) = omega arith in
@@ -83,9 +91,8 @@ same-length c = search needs
 
 returns : tie.Need-returns Inv-loop μ-loop
 returns c =
-    let at-loop = c .before in
-    let a = at-loop .before .before .before .args in
-    let l = at-loop .loop in
+    let a = start-before-at-loop (c .before) .args in
+    let l = c .before .loop in
     let t = c .loop-test .left in
     let i = l .inv .1 .0 in
     let all : l .s ≡ a .end = omega arith in

@@ -1,4 +1,5 @@
--- The marks before s are those by which pairs wait, or as they were; those from s on are as they were. Assumes nothing.
+-- The loop keeps that the marks before s are those by which pairs wait, or as they were, and those from s on are as they
+-- were; the marks left, n - s, get fewer. Assumes nothing.
 use mathlib.Core.Path.{_≡_, refl, ap, _∙_}
 use mathlib.Core.Bool.{cond}
 use Prim.Native.Nat.{ℕ, _-_, _≤_}
@@ -18,6 +19,10 @@ Inv-loop bad settling marks₀ n s₀ marks s = (s ≤ length marks₀) × ((len
 
 abbrev μ-loop : tie.MeasureT-loop
 μ-loop bad settling marks₀ n s₀ marks s = length marks₀ - s
+
+-- The points of the program: from what is known at a later one to what was known at an earlier one.
+abbrev start-before-at-loop : tie.At-loop Inv-loop μ-loop → tie.Start Inv-loop μ-loop
+start-before-at-loop c = c .before .before .before
 
 loop-holds : tie.Need-loop-holds Inv-loop μ-loop
 loop-holds c =
@@ -44,10 +49,10 @@ loop-less c = search needs
 
 loop-again : tie.Need-loop-again Inv-loop μ-loop
 loop-again c =
-    let at-loop = c .before .before .before .before in
-    let a = at-loop .before .before .before .args in
-    let l = at-loop .loop in
-    let t = c .before .before .before .loop-test .taken in
+    let in-loop = c .before .before .before in
+    let a = start-before-at-loop (in-loop .before) .args in
+    let l = in-loop .before .loop in
+    let t = in-loop .loop-test .taken in
     let here = l .inv .1 .1 .rest (l .s) (omega arith) in
     let e = c .mark-after .ensures ∙ ap (λ (m : ℕ). cond (eqb (getD (a .bad .now) (l .s) 0) 1) (nextMark (a .settling) m) m) here in
     let w = filled-more (l .s) (markAt (a .bad .now) (a .settling) (a .marks .now)) (a .marks .now) (l .marks) _ _ (omega arith) (l .inv .1 .1) e refl in
@@ -59,7 +64,7 @@ same-length c = search needs
 returns : tie.Need-returns Inv-loop μ-loop
 returns c =
     let l = c .before .loop in
-    let a = c .before .before .before .before .args in
+    let a = start-before-at-loop (c .before) .args in
     let t = c .loop-test .left in
     let i = l .inv .0 in
     filled-all (l .s) (markAt (a .bad .now) (a .settling) (a .marks .now)) (a .marks .now) (l .marks) (omega arith) (l .inv .1 .1)

@@ -1,5 +1,5 @@
--- The queue holds what it held, and then the pairs of the places before s that are bad; these are gone through some at a time.
--- Assumes nothing.
+-- The loop keeps that the queue holds what it held, and then the pairs of the places before s that are bad; these are gone
+-- through some at a time, and the places left, n - s, get fewer. Assumes nothing.
 use mathlib.Core.Path.{_≡_, refl, subst}
 use Prim.Native.Nat.{ℕ, _+_, _-_, _≤_}
 use native.Mathlib.Omega.{arith}
@@ -15,6 +15,10 @@ Inv-loop bad y queue₀ tail n top₀ s₀ queue top s = (s ≤ length bad) × (
 
 abbrev μ-loop : tie.MeasureT-loop
 μ-loop bad y queue₀ tail n top₀ s₀ queue top s = length bad - s
+
+-- The points of the program: from what is known at a later one to what was known at an earlier one.
+abbrev start-before-at-loop : tie.At-loop Inv-loop μ-loop → tie.Start Inv-loop μ-loop
+start-before-at-loop c = c .before .before .before
 
 loop-holds : tie.Need-loop-holds Inv-loop μ-loop
 loop-holds c =
@@ -32,14 +36,14 @@ add-end c = search needs
 
 queue-part-requires : tie.Need-queue-part-requires Inv-loop μ-loop
 queue-part-requires c κs =
-    let at-least = c .before in
-    let at-loop = at-least .before .before in
-    let at-start = at-loop .before .before .before in
+    let after-least = c .before in
+    let at-loop = after-least .before .before in
+    let at-start = start-before-at-loop at-loop in
     let a = at-start .args in
     let l = at-loop .loop in
-    let t = at-least .before .loop-test .taken in
-    let r = at-least .least .result in
-    let m = at-least .least .ensures in (
+    let t = after-least .before .loop-test .taken in
+    let r = after-least .least .result in
+    let m = after-least .least .ensures in (
       at-start .pre .0,
       (
         at-start .pre .1 .0,
@@ -56,16 +60,16 @@ loop-less c = search needs
 
 loop-again : tie.Need-loop-again Inv-loop μ-loop
 loop-again c =
-    let at-call = c .before .before in
-    let at-least = at-call .before .before in
-    let at-loop = at-least .before .before in
-    let a = at-loop .before .before .before .args in
+    let after-queue-part = c .before .before in
+    let after-least = after-queue-part .before .before in
+    let at-loop = after-least .before .before in
+    let a = start-before-at-loop at-loop .args in
     let l = at-loop .loop in
-    let t = at-least .before .loop-test .taken in
-    let r = at-least .least .result in
-    let m = at-least .least .ensures in
+    let t = after-least .before .loop-test .taken in
+    let r = after-least .least .result in
+    let m = after-least .least .ensures in
     let w = queued-on (a .y .0) (badAt (a .bad .now)) (a .queue .now) (a .tail) 0 (l .s) (l .s) (l .s + r - l .s) (l .s + r) (l .top) _ (l .queue) _
-    (omega arith) (omega arith) (l .inv .1 .1) (at-call .queue-part .ensures) in
+    (omega arith) (omega arith) (l .inv .1 .1) (after-queue-part .queue-part .ensures) in
     (omega arith, (w .long, w))
 
 same-length : tie.Need-same-length Inv-loop μ-loop
@@ -73,9 +77,8 @@ same-length c = search needs
 
 returns : tie.Need-returns Inv-loop μ-loop
 returns c =
-    let at-loop = c .before in
-    let a = at-loop .before .before .before .args in
-    let l = at-loop .loop in
+    let a = start-before-at-loop (c .before) .args in
+    let l = c .before .loop in
     let t = c .loop-test .left in
     let i = l .inv .0 in
     let all : l .s ≡ length (a .bad .now) = omega arith in

@@ -1,4 +1,5 @@
--- The places before s say which pairs must turn, those from s on are as they were; and whether there were any. Assumes nothing.
+-- The loop keeps that the places before s say which pairs must turn, those from s on are as they were, and whether there
+-- were any; the places left, n - s, get fewer. Assumes nothing.
 use mathlib.Core.Path.{_≡_, refl, sym, ap, _∙_}
 use mathlib.Core.Bool.{Bool, _&&_, _||_}
 use mathlib.Core.List.{List}
@@ -46,10 +47,10 @@ loop-less c = search needs
 
 loop-again : tie.Need-loop-again Inv-loop μ-loop
 loop-again c =
-    let at-loop = c .before .before .before in
-    let a = at-loop .before .args in
-    let l = at-loop .loop in
-    let t = c .before .before .loop-test .taken in
+    let in-loop = c .before .before in
+    let a = in-loop .before .before .args in
+    let l = in-loop .before .loop in
+    let t = in-loop .loop-test .taken in
     let here = l .inv .1 .1 .0 .rest (l .s) (omega arith) in
     let e = ap (λ (x : ℕ). eqb (getD (a .row .now) (l .s) 0) (a .from) && eqb x 1) here in
     let w = filled-bit (l .s) (turnAt (a .row .now) (a .from) (a .bad .now)) (a .bad .now) (l .bad) _ (turnAt (a .row .now) (a .from) (l .bad) (l .s)) (omega arith) (l .inv .1 .1 .0) e refl in

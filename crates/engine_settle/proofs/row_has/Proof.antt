@@ -1,4 +1,4 @@
--- Whether a pair of the first s states has the value. Assumes nothing.
+-- The loop keeps whether a pair of the first s states has the value; the states left, n - s, get fewer. Assumes nothing.
 use mathlib.Core.Path.{_≡_, refl, ap, _∙_}
 use mathlib.Core.Bool.{Bool, _||_}
 use Prim.Native.Nat.{ℕ, _-_, _≤_}

@@ -1,4 +1,5 @@
--- The places before s say what two rows decide, those from s on are as they were. Assumes nothing.
+-- The loop keeps that the places before s say what two rows decide and those from s on are as they were; the places left,
+-- n - s, get fewer. Assumes nothing.
 use mathlib.Core.Path.{_≡_, refl}
 use Prim.Native.Nat.{_-_, _≤_}
 use native.Mathlib.Omega.{arith}
@@ -15,9 +16,13 @@ Inv-loop f h c v bad₀ n s₀ bad s = (s ≤ length bad₀) × ((length bad ≡
 abbrev μ-loop : tie.MeasureT-loop
 μ-loop f h c v bad₀ n s₀ bad s = length bad₀ - s
 
+-- The points of the program: from what is known at a later one to what was known at an earlier one.
+abbrev start-before-slice-known : tie.After-slice-known Inv-loop μ-loop → tie.Start Inv-loop μ-loop
+start-before-slice-known c = c .before .before .before
+
 loop-holds : tie.Need-loop-holds Inv-loop μ-loop
 loop-holds c =
-    let a = c .before .before .before .args in
+    let a = start-before-slice-known c .args in
     (omega arith, (refl, filled-none (λ p. told (a .v) (oneHas (a .f .now) (a .h .now) (a .c) p)) (a .bad .now)))
 
 shared-slice-read-told-by : tie.Need-shared-slice-read-told-by Inv-loop μ-loop
@@ -40,10 +45,10 @@ loop-less c = search needs
 
 loop-again : tie.Need-loop-again Inv-loop μ-loop
 loop-again c =
-    let at-loop = c .before .before .before .before in
-    let a = at-loop .before .before .before .before .args in
-    let l = at-loop .loop in
-    let t = c .before .before .before .loop-test .taken in
+    let in-loop = c .before .before .before in
+    let a = start-before-slice-known (in-loop .before .before) .args in
+    let l = in-loop .before .loop in
+    let t = in-loop .loop-test .taken in
     let w = filled-more (l .s) (λ p. told (a .v) (oneHas (a .f .now) (a .h .now) (a .c) p)) (a .bad .now) (l .bad) _ _ (omega arith) (l .inv .1 .1) (c .told-by .ensures) refl in
     (omega arith, (w .long, w))
 
@@ -53,7 +58,7 @@ same-length c = search needs
 returns : tie.Need-returns Inv-loop μ-loop
 returns c =
     let l = c .before .loop in
-    let a = c .before .before .before .before .before .args in
+    let a = start-before-slice-known (c .before .before) .args in
     let t = c .loop-test .left in
     let i = l .inv .0 in
     filled-all (l .s) (λ p. told (a .v) (oneHas (a .f .now) (a .h .now) (a .c) p)) (a .bad .now) (l .bad) (omega arith) (l .inv .1 .1)

@@ -12,6 +12,16 @@ use borrow.Author.Needs.{needs}
 use Rattle.engine_settle.proofs.row_step.Statement.{statement}
 use Rattle.engine_settle.proofs.row_step.Tie as tie
 
+-- The points of the program: from what is known at a later one to what was known at an earlier one.
+abbrev start-before-fill-row : tie.After-fill-row → tie.Start
+start-before-fill-row c = c .before .before .before .before .before .before .before
+
+abbrev fill-row-before-row-has : tie.After-row-has → tie.After-fill-row
+fill-row-before-row-has c = c .before .before .before
+
+abbrev fill-row-before-tell-targets-arg : tie.After-tell-targets-arg → tie.After-fill-row
+fill-row-before-tell-targets-arg c = fill-row-before-row-has (c .before .before)
+
 sub-fill-row : tie.Need-sub-fill-row
 sub-fill-row c = search needs
 
@@ -23,10 +33,10 @@ row-has-requires c κs = search needs
 
 tell-targets-requires : tie.Need-tell-targets-requires
 tell-targets-requires c κs =
-    let at-fill = c .before .before .before .before .before in
-    let at-start = at-fill .before .before .before .before .before .before .before in
+    let after-fill-row = fill-row-before-tell-targets-arg c in
+    let at-start = start-before-fill-row after-fill-row in
     let a = at-start .args in
-    let k : length (a .bad .now) ≡ _ = sym (at-fill .fill-row .kept .0) in (
+    let k : length (a .bad .now) ≡ _ = sym (after-fill-row .fill-row .kept .0) in (
       subst (λ (n : ℕ). Linked n (a .moves .now) (a .heads .now) (a .links .now)) k (at-start .pre .0),
       (subst (λ (n : ℕ). a .a * n + n ≤ length (a .heads .now)) k (at-start .pre .1 .0), at-start .pre .1 .1 .0 ∙ k),
     )
@@ -36,25 +46,23 @@ same-length c = search needs
 
 returns : tie.Need-returns
 returns c =
-    let at-tell = c .before .before in
-    let at-fill = at-tell .before .before .before .before .before .before in
-    let at-start = at-fill .before .before .before .before .before .before .before in
-    let a = at-start .args in
+    let after-tell-targets = c .before .before in
+    let after-fill-row = fill-row-before-tell-targets-arg (after-tell-targets .before) in
+    let a = start-before-fill-row after-fill-row .args in
     step-told (leadsOne (a .moves .now) (a .a) (a .row .now) (a .c)) (a .v) (length (a .bad .now)) _ _
-    (at-tell .tell-targets .kept .1 .1 .1 .1 .1 .1 .1 .0 ∙ at-fill .fill-row .kept .0) (at-fill .fill-row .ensures) (at-tell .tell-targets .ensures)
+    (after-tell-targets .tell-targets .kept .1 .1 .1 .1 .1 .1 .1 .0 ∙ after-fill-row .fill-row .kept .0) (after-fill-row .fill-row .ensures) (after-tell-targets .tell-targets .ensures)
 
 same-length-2 : tie.Need-same-length-2
 same-length-2 c = search needs
 
 returns-2 : tie.Need-returns-2
 returns-2 c =
-    let at-ask = c .before in
-    let at-fill = at-ask .before .before .before in
-    let at-start = at-fill .before .before .before .before .before .before .before in
+    let after-fill-row = fill-row-before-row-has (c .before) in
+    let at-start = start-before-fill-row after-fill-row in
     let a = at-start .args in
     let inside = subst (λ (n : ℕ). (j : ℕ) → j < length (a .moves .now) → target (getD (a .moves .now) j 0) < n) (sym (at-start .pre .1 .1 .0)) (at-start .pre .0 .into) in
     step-untold (leadsOne (a .moves .now) (a .a) (a .row .now) (a .c)) (a .v) (length (a .bad .now)) _
-    (none-leads (a .moves .now) (a .a) (a .row .now) (a .c) inside (sym (at-ask .row-has .ensures) ∙ c .if1 .left)) (at-fill .fill-row .ensures)
+    (none-leads (a .moves .now) (a .a) (a .row .now) (a .c) inside (sym (c .before .row-has .ensures) ∙ c .if1 .left)) (after-fill-row .fill-row .ensures)
 
 pub row-step-spec : {M : Type 1} → statement M
 row-step-spec =

@@ -11,6 +11,13 @@ use borrow.Author.Needs.{needs}
 use Rattle.engine_settle.proofs.settle_row.Statement.{statement}
 use Rattle.engine_settle.proofs.settle_row.Tie as tie
 
+-- The points of the program: from what is known at a later one to what was known at an earlier one.
+abbrev equation-in-before-struct-known2 : tie.After-struct-known2 → tie.After-equation-in
+equation-in-before-struct-known2 c = c .before .before .before .before
+
+abbrev equation-in-before-row-told-arg : tie.After-row-told-arg → tie.After-equation-in
+equation-in-before-row-told-arg c = equation-in-before-struct-known2 (c .before .before)
+
 cast-x : tie.Need-cast-x
 cast-x c = search needs
 
@@ -23,12 +30,16 @@ shared-slice-read-equation-in c = search needs
 equation-in-requires : tie.Need-equation-in-requires
 equation-in-requires c κs = search needs
 
+-- The start, from after the equation was read.
+abbrev start-of : tie.After-equation-in → tie.Start
+start-of c = c .before .before .before .before .before .before .before .before .before
+
 -- What the row is told from, once the equation has been read.
-asked : (c : tie.After-equation-in) → let a = c .before .before .before .before .before .before .before .before .before .args in let e = c .equation-in .result in
+asked : (c : tie.After-equation-in) → let a = start-of c .args in let e = c .equation-in .result in
     Asked (tableIn (a .sizes) (a .labels .now) (a .equations .now) (a .moves .now)) (a .index .now) (a .values .now) (a .y .0)
     (e .operator) (e .first) (e .second) (e .block) (e .kind) (length (a .bad .now))
 asked c =
-    let p = c .before .before .before .before .before .before .before .before .before .pre in
+    let p = start-of c .pre in
     record {
       drawn = p .0;
       indexed = p .1 .0;
@@ -40,35 +51,33 @@ asked c =
     }
 
 row-in-requires : tie.Need-row-in-requires
-row-in-requires c κs = row-inside (asked c) _ (asked c .below)
+row-in-requires c κs = row-inside (asked c) _ ((asked c) .below)
 
 row-has-requires : tie.Need-row-has-requires
 row-has-requires c κs = search needs
 
 returns : tie.Need-returns
 returns c =
-    let at-has = c .before in
-    let at-row = at-has .before in
-    tells-nothing (asked (at-row .before)) _ _ refl (at-row .row-in .ensures) (sym (at-has .row-has .ensures) ∙ not-out _ (c .if1 .taken))
+    let after-row-in = c .before .before in
+    tells-nothing (asked (after-row-in .before)) _ _ refl (after-row-in .row-in .ensures) (sym (c .before .row-has .ensures) ∙ not-out _ (c .if1 .taken))
 
 row-told-requires : tie.Need-row-told-requires
 row-told-requires c κs =
-    let at-if = c .before in
-    (asked (at-if .before .before .before .before .before), at-if .if2 .taken)
+    (asked (equation-in-before-row-told-arg c), c .before .if2 .taken)
 
 same-length : tie.Need-same-length
 same-length c = search needs
 
 returns-2 : tie.Need-returns-2
 returns-2 c =
-    let at-call = c .before .before in
-    tells-row (asked (at-call .before .before .before .before .before .before .before)) _ (at-call .row-told .ensures)
+    let after-row-told = c .before .before in
+    tells-row (asked (equation-in-before-row-told-arg (after-row-told .before))) _ (after-row-told .row-told .ensures)
 
 returns-3 : tie.Need-returns-3
 returns-3 c =
-    let at-if = c .before .before in
-    let t = at-if .if2 .left in
-    tells-own (asked (at-if .before .before .before .before .before)) _ refl (omega arith) (c .if3 .taken)
+    let in-else2 = c .before .before in
+    let t = in-else2 .if2 .left in
+    tells-own (asked (equation-in-before-struct-known2 (in-else2 .before))) _ refl (omega arith) (c .if3 .taken)
 
 fill-row-requires : tie.Need-fill-row-requires
 fill-row-requires c κs = search needs
@@ -78,11 +87,11 @@ same-length-2 c = search needs
 
 returns-4 : tie.Need-returns-4
 returns-4 c =
-    let at-call = c .before .before in
-    let at-left = at-call .before .before in
-    let at-if = at-left .before .before in
-    let t = at-if .if2 .left in
-    tells-other (asked (at-if .before .before .before .before .before)) _ (omega arith) (at-left .if3 .left) (at-call .fill-row .ensures)
+    let after-fill-row = c .before .before in
+    let in-else3 = after-fill-row .before .before in
+    let in-else2 = in-else3 .before .before in
+    let t = in-else2 .if2 .left in
+    tells-other (asked (equation-in-before-struct-known2 (in-else2 .before))) _ (omega arith) (in-else3 .if3 .left) (after-fill-row .fill-row .ensures)
 
 pub settle-row-spec : {M : Type 1} → statement M
 settle-row-spec =

@@ -7,23 +7,28 @@ use borrow.Author.Needs.{needs}
 use Rattle.engine_settle.proofs.tell_target.Statement.{statement}
 use Rattle.engine_settle.proofs.tell_target.Tie as tie
 
+-- The points of the program: from what is known at a later one to what was known at an earlier one.
+abbrev start-before-slice-known : tie.After-slice-known → tie.Start
+start-before-slice-known c = c .before .before .before .before
+
 tell-sources-requires : tie.Need-tell-sources-requires
 tell-sources-requires c κs =
-    let at-start = c .before .before .before .before .before .before in
-    at-start .pre
+    start-before-slice-known (c .before .before) .pre
 
 same-length : tie.Need-same-length
 same-length c = search needs
 
 returns : tie.Need-returns
 returns c =
-    let a = c .before .before .before .before .before .before .before .before .before .args in
-    λ s h. c .before .before .tell-sources .ensures s h
-    ∙ ap (λ (b : Bool). cond (b && oneComes (keyBy (length (a .bad .now))) (a .at) (a .moves .now) s) (a .v) (getD (a .bad .now) s 0)) (sym (c .before .before .before .before .if1 .taken))
+    let after-tell-sources = c .before .before in
+    let in-then1 = after-tell-sources .before .before in
+    let a = start-before-slice-known (in-then1 .before) .args in
+    λ s h. after-tell-sources .tell-sources .ensures s h
+    ∙ ap (λ (b : Bool). cond (b && oneComes (keyBy (length (a .bad .now))) (a .at) (a .moves .now) s) (a .v) (getD (a .bad .now) s 0)) (sym (in-then1 .if1 .taken))
 
 returns-2 : tie.Need-returns-2
 returns-2 c =
-    let a = c .before .before .before .before .before .args in
+    let a = start-before-slice-known (c .before) .args in
     λ s h. sym (ap (λ (b : Bool). cond (b && oneComes (keyBy (length (a .bad .now))) (a .at) (a .moves .now) s) (a .v) (getD (a .bad .now) s 0)) (c .if1 .left))
 
 pub tell-target-spec : {M : Type 1} → statement M

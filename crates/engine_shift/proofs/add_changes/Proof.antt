@@ -1,4 +1,5 @@
--- The changes before i have been asked. Assumes nothing.
+-- The loop keeps that the changes before i have been asked and their sources added; those left, n - i, get fewer.
+-- Assumes nothing.
 use mathlib.Core.Path.{_≡_, refl, ap, _∙_}
 use mathlib.Core.Bool.{Bool, false, _&&_, _||_}
 use Prim.Native.Nat.{ℕ, _-_, _/_, _≤_}
@@ -24,8 +25,15 @@ Inv-loop changes values marks earlier gaining b a from bad₀ n i₀ bad i =
 abbrev μ-loop : tie.MeasureT-loop
 μ-loop changes values marks earlier gaining b a from bad₀ n i₀ bad i = length changes - i
 
+-- The points of the program: from what is known at a later one to what was known at an earlier one.
+abbrev start-before-slice-known : tie.After-slice-known Inv-loop μ-loop → tie.Start Inv-loop μ-loop
+start-before-slice-known c = c .before .before .before .before
+
+abbrev in-loop-before-source-of : tie.After-source-of Inv-loop μ-loop → tie.In-loop Inv-loop μ-loop
+in-loop-before-source-of c = c .before .before .before .before
+
 loop-holds : tie.Need-loop-holds Inv-loop μ-loop
-loop-holds c = (omega arith, (refl, adds-none (λ s. false) (c .before .before .before .before .args .bad .now) (λ s h. refl)))
+loop-holds c = (omega arith, (refl, adds-none (λ s. false) (start-before-slice-known c .args .bad .now) (λ s h. refl)))
 
 mul-w : tie.Need-mul-w Inv-loop μ-loop
 mul-w c = search needs
@@ -36,10 +44,10 @@ shared-slice-read-w c = search needs
 touches-row-requires : tie.Need-touches-row-requires Inv-loop μ-loop
 touches-row-requires c κs =
     let at-loop = c .before .before in
-    let s = at-loop .before .before .before .before .before in
-    let a = s .args in
+    let at-start = start-before-slice-known (at-loop .before) in
+    let a = at-start .args in
     let t = c .before .loop-test .taken in
-    let h = change-inside (a .sizes) (a .changes .now) (at-loop .loop .i) (s .pre .0 .0) (omega arith) in
+    let h = change-inside (a .sizes) (a .changes .now) (at-loop .loop .i) (at-start .pre .0 .0) (omega arith) in
     (omega arith, omega arith)
 
 move-of-requires : tie.Need-move-of-requires Inv-loop μ-loop
@@ -53,13 +61,13 @@ wide-requires c κs = search needs
 
 slice-read-bad : tie.Need-slice-read-bad Inv-loop μ-loop
 slice-read-bad c =
-    let at-source = c .before .before in
-    let at-loop = at-source .before .before .before .before .before in
-    let s = at-loop .before .before .before .before .before in
-    let a = s .args in
-    let t = at-source .before .before .before .before .loop-test .taken in
-    let h = change-inside (a .sizes) (a .changes .now) (at-loop .loop .i) (s .pre .0 .0) (omega arith) in
-    let e = c .before .wide .ensures ∙ at-source .source-of .ensures ∙ ap source (at-source .before .move-of .ensures) in
+    let after-source-of = c .before .before in
+    let in-loop = in-loop-before-source-of after-source-of in
+    let at-start = start-before-slice-known (in-loop .before .before) in
+    let a = at-start .args in
+    let t = in-loop .loop-test .taken in
+    let h = change-inside (a .sizes) (a .changes .now) (in-loop .before .loop .i) (at-start .pre .0 .0) (omega arith) in
+    let e = c .before .wide .ensures ∙ after-source-of .source-of .ensures ∙ ap source (after-source-of .before .move-of .ensures) in
     omega arith
 
 cast-bad : tie.Need-cast-bad Inv-loop μ-loop
@@ -67,13 +75,13 @@ cast-bad c = search needs
 
 slice-write-bad : tie.Need-slice-write-bad Inv-loop μ-loop
 slice-write-bad c =
-    let at-source = c .before .before in
-    let at-loop = at-source .before .before .before .before .before in
-    let s = at-loop .before .before .before .before .before in
-    let a = s .args in
-    let t = at-source .before .before .before .before .loop-test .taken in
-    let h = change-inside (a .sizes) (a .changes .now) (at-loop .loop .i) (s .pre .0 .0) (omega arith) in
-    let e = c .before .wide .ensures ∙ at-source .source-of .ensures ∙ ap source (at-source .before .move-of .ensures) in
+    let after-source-of = c .before .before in
+    let in-loop = in-loop-before-source-of after-source-of in
+    let at-start = start-before-slice-known (in-loop .before .before) in
+    let a = at-start .args in
+    let t = in-loop .loop-test .taken in
+    let h = change-inside (a .sizes) (a .changes .now) (in-loop .before .loop .i) (at-start .pre .0 .0) (omega arith) in
+    let e = c .before .wide .ensures ∙ after-source-of .source-of .ensures ∙ ap source (after-source-of .before .move-of .ensures) in
     omega arith
 
 add-i : tie.Need-add-i Inv-loop μ-loop
@@ -84,20 +92,21 @@ loop-less c = search needs
 
 loop-again : tie.Need-loop-again Inv-loop μ-loop
 loop-again c =
-    let at-source = c .before .before in
-    let at-touches = at-source .before .before in
-    let at-loop = at-touches .before .before .before in
-    let s = at-loop .before .before .before .before .before in
-    let a = s .args in
-    let l = at-loop .loop in
-    let t = at-touches .before .before .loop-test .taken in
-    let h = change-inside (a .sizes) (a .changes .now) (l .i) (s .pre .0 .0) (omega arith) in
-    let e = c .before .wide .ensures ∙ at-source .source-of .ensures ∙ ap source (at-source .before .move-of .ensures) in
+    let after-wide = c .before in
+    let after-move-of = after-wide .before .before in
+    let after-touches-row = after-move-of .before in
+    let in-loop = after-touches-row .before .before in
+    let at-start = start-before-slice-known (in-loop .before .before) in
+    let a = at-start .args in
+    let l = in-loop .before .loop in
+    let t = in-loop .loop-test .taken in
+    let h = change-inside (a .sizes) (a .changes .now) (l .i) (at-start .pre .0 .0) (omega arith) in
+    let e = after-wide .wide .ensures ∙ after-wide .before .source-of .ensures ∙ ap source (after-move-of .move-of .ensures) in
     let f : ℕ → Bool = touches (a .values .now) (a .marks .now) (a .earlier) (a .gaining) (a .b) (a .a .0) (a .from) in
-    let x : Bool = at-touches .touches-row .result in
-    let r = c .before .wide .result in
+    let x : Bool = after-touches-row .touches-row .result in
+    let r = after-wide .wide .result in
     let w = adds-word f (λ (w : ℕ). source (w / 2)) (a .changes .now) (a .bad .now) (l .bad) (l .i) _ (boolByte (eqb (getD (l .bad) r 0) 1 || x)) (omega arith) (omega arith) (l .inv .1 .1)
-    (byte-found (l .bad) r (source (getD (a .changes .now) (l .i) 0 / 2)) x (f (getD (a .changes .now) (l .i) 0)) e (at-touches .touches-row .ensures))
+    (byte-found (l .bad) r (source (getD (a .changes .now) (l .i) 0 / 2)) x (f (getD (a .changes .now) (l .i) 0)) e (after-touches-row .touches-row .ensures))
     (ap (λ (n : ℕ). set (l .bad) n (boolByte (eqb (getD (l .bad) r 0) 1 || x))) e) in
     (omega arith, (w .long, w))
 
@@ -107,9 +116,8 @@ same-length c = search needs
 returns : tie.Need-returns Inv-loop μ-loop
 unfolding touchesAt
 returns c =
-    let at-loop = c .before in
-    let a = at-loop .before .before .before .before .before .args in
-    let l = at-loop .loop in
+    let a = start-before-slice-known (c .before .before) .args in
+    let l = c .before .loop in
     let t = c .loop-test .left in
     let f : ℕ → ℕ → Bool = λ s w. touches (a .values .now) (a .marks .now) (a .earlier) (a .gaining) (a .b) (a .a .0) (a .from) w && eqb (source (w / 2)) s in
     adds-same (λ s. any (f s) (take (l .i) (a .changes .now))) (touchesAt (a .changes .now) (a .values .now) (a .marks .now) (a .earlier) (a .gaining) (a .b) (a .a .0) (a .from)) (a .bad .now) (l .bad)

@@ -12,6 +12,13 @@ use borrow.Author.Needs.{needs}
 use Rattle.engine_shift.proofs.add_gone.Statement.{statement}
 use Rattle.engine_shift.proofs.add_gone.Tie as tie
 
+-- The points of the program: from what is known at a later one to what was known at an earlier one.
+abbrev start-before-shared-slice-known6 : tie.After-shared-slice-known6 → tie.Start
+start-before-shared-slice-known6 c = c .before .before .before .before .before .before .before
+
+abbrev start-before-struct-known2 : tie.After-struct-known2 → tie.Start
+start-before-struct-known2 c = start-before-shared-slice-known6 (c .before .before .before)
+
 add-q : tie.Need-add-q
 add-q c = search needs
 
@@ -29,38 +36,38 @@ cast-key-2 c = search needs
 
 mul-key : tie.Need-mul-key
 mul-key c =
-    let a = c .before .before .before .before .before .before .before .before .before .before .args in
+    let a = start-before-struct-known2 c .args in
     let h : a .a .0 * a .sizes .states ≤ 256 * 65536 = mul-le-mul {n₂ = 256} {m₂ = 65536} (omega arith) (omega arith) in
     omega arith
 
 add-key : tie.Need-add-key
 add-key c =
-    let s = c .before .before .before .before .before .before .before .before .before .before in
-    let a = s .args in
+    let at-start = start-before-struct-known2 c in
+    let a = at-start .args in
     let h : a .a .0 * a .sizes .states ≤ 256 * 65536 = mul-le-mul {n₂ = 256} {m₂ = 65536} (omega arith) (omega arith) in
-    let p = s .pre .1 .0 .0 .1 in
+    let p = at-start .pre .1 .0 .0 .1 in
     omega arith
 
 add-sources-requires : tie.Need-add-sources-requires
 add-sources-requires c κs =
-    let s = c .before .before .before .before .before .before .before .before .before .before .before in
-    let a = s .args in
-    (s .pre .0, (key-inside (a .sizes) (a .a .0) (a .t) (s .pre .1 .0 .0 .0) (s .pre .1 .0 .0 .1), s .pre .1 .1))
+    let at-start = start-before-struct-known2 (c .before) in
+    let a = at-start .args in
+    (at-start .pre .0, (key-inside (a .sizes) (a .a .0) (a .t) (at-start .pre .1 .0 .0 .0) (at-start .pre .1 .0 .0 .1), at-start .pre .1 .1))
 
 same-length : tie.Need-same-length
 same-length c = search needs
 
 returns : tie.Need-returns
 returns c =
-    let at-sources = c .before .before in
-    let at-if = at-sources .before .before .before .before in
-    let a = at-if .before .before .before .before .before .before .before .before .args in
+    let after-add-sources = c .before .before in
+    let in-then1 = after-add-sources .before .before .before .before in
+    let a = start-before-shared-slice-known6 (in-then1 .before) .args in
     adds-if (λ s. any (comesFrom (keyOf (a .sizes)) (a .a .0 * a .sizes .states + a .t) s) (a .moves .now)) (goneTo (a .values .now) (a .marks .now) (a .b) (a .from + a .t)) (a .bad .now) _
-    (at-if .if1 .taken) (at-sources .add-sources .ensures)
+    (in-then1 .if1 .taken) (after-add-sources .add-sources .ensures)
 
 returns-2 : tie.Need-returns-2
 returns-2 c =
-    let a = c .before .before .before .before .before .before .before .before .args in
+    let a = start-before-shared-slice-known6 (c .before) .args in
     adds-not (λ s. any (comesFrom (keyOf (a .sizes)) (a .a .0 * a .sizes .states + a .t) s) (a .moves .now)) (goneTo (a .values .now) (a .marks .now) (a .b) (a .from + a .t)) (a .bad .now) (c .if1 .left)
 
 pub add-gone-spec : {M : Type 1} → statement M

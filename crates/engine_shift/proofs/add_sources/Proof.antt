@@ -1,4 +1,5 @@
--- The walk along the chain stands at k. Assumes nothing.
+-- The loop keeps that the walk along the chain stands at k, with the sources passed added; the place k falls.
+-- Assumes nothing.
 use mathlib.Core.Path.{ap, _∙_}
 use Prim.Native.Nat.{ℕ, _-_}
 use native.Mathlib.Omega.{arith}
@@ -16,6 +17,13 @@ Inv-loop sizes moves index key bad₀ k₀ bad k = Walking (keyOf sizes) moves k
 abbrev μ-loop : tie.MeasureT-loop
 μ-loop sizes moves index key bad₀ k₀ bad k = k
 
+-- The points of the program: from what is known at a later one to what was known at an earlier one.
+abbrev start-before-wide : tie.After-wide Inv-loop μ-loop → tie.Start Inv-loop μ-loop
+start-before-wide c = c .before .before .before .before .before
+
+abbrev in-loop-before-wide2 : tie.After-wide2 Inv-loop μ-loop → tie.In-loop Inv-loop μ-loop
+in-loop-before-wide2 c = c .before .before .before
+
 mul-wide : tie.Need-mul-wide Inv-loop μ-loop
 mul-wide c = search needs
 
@@ -27,10 +35,10 @@ wide-requires c κs = search needs
 
 loop-holds : tie.Need-loop-holds Inv-loop μ-loop
 loop-holds c =
-    let s = c .before .before .before .before .before in
-    let a = s .args in
-    let m = s .pre .0 in
-    walk-begins (keyOf (a .sizes)) (a .moves .now) (a .key) (a .bad .now) _ (c .wide .ensures ∙ head-at m (a .key) (s .pre .1 .0))
+    let at-start = start-before-wide c in
+    let a = at-start .args in
+    let m = at-start .pre .0 in
+    walk-begins (keyOf (a .sizes)) (a .moves .now) (a .key) (a .bad .now) _ (c .wide .ensures ∙ head-at m (a .key) (at-start .pre .1 .0))
 
 sub-j : tie.Need-sub-j Inv-loop μ-loop
 sub-j c = search needs
@@ -49,17 +57,16 @@ wide-requires-2 c κs = search needs
 
 slice-write-bad : tie.Need-slice-write-bad Inv-loop μ-loop
 slice-write-bad c =
-    let at-source = c .before in
-    let at-loop = at-source .before .before .before in
-    let s = at-loop .before .before .before .before .before .before in
-    let a = s .args in
-    let l = at-loop .loop in
-    let t = at-source .before .before .loop-test .taken in
+    let in-loop = in-loop-before-wide2 c in
+    let at-start = start-before-wide (in-loop .before .before) in
+    let a = at-start .args in
+    let l = in-loop .before .loop in
+    let t = in-loop .loop-test .taken in
     let b = l .inv .below in
-    let h = source-in (s .pre .0) (l .k - 1) (omega arith) in
+    let h = source-in (at-start .pre .0) (l .k - 1) (omega arith) in
     let n = l .inv .long in
-    let p = s .pre .1 .1 in
-    let e = c .wide2 .ensures ∙ at-source .source-of .ensures in
+    let p = at-start .pre .1 .1 in
+    let e = c .wide2 .ensures ∙ c .before .source-of .ensures in
     omega arith
 
 link-of-requires : tie.Need-link-of-requires Inv-loop μ-loop
@@ -67,39 +74,38 @@ link-of-requires c κs = search needs
 
 loop-less : tie.Need-loop-less Inv-loop μ-loop
 loop-less c =
-    let at-loop = c .before .before .before .before .before in
-    let s = at-loop .before .before .before .before .before .before in
-    let a = s .args in
-    let l = at-loop .loop in
-    let t = c .before .before .before .before .loop-test .taken in
+    let in-loop = in-loop-before-wide2 (c .before) in
+    let at-start = start-before-wide (in-loop .before .before) in
+    let a = at-start .args in
+    let l = in-loop .before .loop in
+    let t = in-loop .loop-test .taken in
     let b = l .inv .below in
-    step-falls (keyOf (a .sizes)) 0 (headsOf (a .sizes)) (a .moves .now) (length (a .moves .now)) (a .index .now) (s .pre .0 .chained) (l .k) (c .link-of .result) (omega arith) b (c .link-of .ensures)
+    step-falls (keyOf (a .sizes)) 0 (headsOf (a .sizes)) (a .moves .now) (length (a .moves .now)) (a .index .now) (at-start .pre .0 .chained) (l .k) (c .link-of .result) (omega arith) b (c .link-of .ensures)
 
 loop-again : tie.Need-loop-again Inv-loop μ-loop
 loop-again c =
-    let at-source = c .before .before in
-    let at-loop = at-source .before .before .before in
-    let s = at-loop .before .before .before .before .before .before in
-    let a = s .args in
-    let l = at-loop .loop in
-    let m = s .pre .0 in
-    let t = at-source .before .before .loop-test .taken in
+    let after-source-of = c .before .before in
+    let in-loop = after-source-of .before .before in
+    let at-start = start-before-wide (in-loop .before .before) in
+    let a = at-start .args in
+    let l = in-loop .before .loop in
+    let m = at-start .pre .0 in
+    let t = in-loop .loop-test .taken in
     let b = l .inv .below in
     let n = l .inv .long in
-    let p = s .pre .1 .1 in
+    let p = at-start .pre .1 .1 in
     let j : ℕ = l .k - 1 in
     let h = source-in m j (omega arith) in
     walk-goes (keyOf (a .sizes)) (a .moves .now) (a .key) (a .bad .now) (l .bad) (l .k) j _ _ (l .inv) (omega arith) (omega arith)
-    (ap (λ (x : ℕ). set (l .bad) x 1) (c .before .wide2 .ensures ∙ at-source .source-of .ensures)) (c .link-of .ensures ∙ link-at m j (omega arith))
+    (ap (λ (x : ℕ). set (l .bad) x 1) (c .before .wide2 .ensures ∙ after-source-of .source-of .ensures)) (c .link-of .ensures ∙ link-at m j (omega arith))
 
 same-length : tie.Need-same-length Inv-loop μ-loop
 same-length c = search needs
 
 returns : tie.Need-returns Inv-loop μ-loop
 returns c =
-    let at-loop = c .before in
-    let a = at-loop .before .before .before .before .before .before .args in
-    let l = at-loop .loop in
+    let a = start-before-wide (c .before .before) .args in
+    let l = c .before .loop in
     let t = c .loop-test .left in
     walk-ends (keyOf (a .sizes)) (a .moves .now) (a .key) (a .bad .now) (l .bad) (l .k) (l .inv) (omega arith)
 

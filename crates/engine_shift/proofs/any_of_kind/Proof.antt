@@ -1,4 +1,4 @@
--- Some change before i is of the kind. Assumes nothing.
+-- The loop keeps whether some change before i is of the kind; those left, n - i, get fewer. Assumes nothing.
 use mathlib.Core.Path.{_≡_, refl, sym, ap, _∙_}
 use mathlib.Core.Bool.{Bool, _||_}
 use Prim.Native.Nat.{ℕ, _-_, _≤_}
@@ -38,10 +38,10 @@ loop-less c = search needs
 
 loop-again : tie.Need-loop-again Inv-loop μ-loop
 loop-again c =
-    let at-loop = c .before .before .before in
-    let a = at-loop .before .before .args in
-    let l = at-loop .loop in
-    let t = c .before .before .loop-test .taken in
+    let in-loop = c .before .before in
+    let a = in-loop .before .before .before .args in
+    let l = in-loop .before .loop in
+    let t = in-loop .loop-test .taken in
     let f : ℕ → Bool = ofKind (a .gaining) (a .a .0) in (
       omega arith,
       ap (λ (x : Bool). x || c .of-kind .result) (l .inv .1) ∙ ap (λ (x : Bool). any f (take (l .i) (a .changes .now)) || x) (c .of-kind .ensures)
@@ -50,9 +50,8 @@ loop-again c =
 
 returns : tie.Need-returns Inv-loop μ-loop
 returns c =
-    let at-loop = c .before in
-    let a = at-loop .before .before .args in
-    let l = at-loop .loop in
+    let a = c .before .before .before .args in
+    let l = c .before .loop in
     let t = c .loop-test .left in
     l .inv .1 ∙ ap (any (ofKind (a .gaining) (a .a .0))) (take-all (l .i) (a .changes .now) (omega arith))
 

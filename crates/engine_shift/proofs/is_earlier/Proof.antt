@@ -19,9 +19,9 @@ equation-in-requires c κs = search needs
 
 returns : tie.Need-returns
 returns c =
-    let at-word = c .before .before in
-    let a = at-word .before .before .before .args in
-    ap (λ (n : ℕ). ltb n (a .block)) (ap (λ (e : Equation). e .block) (c .before .equation-in .ensures) ∙ ap (λ (w : ℕ). unword w .block) (at-word .word-at .ensures))
+    let after-word-at = c .before .before in
+    let a = after-word-at .before .before .before .args in
+    ap (λ (n : ℕ). ltb n (a .block)) (ap (λ (e : Equation). e .block) (c .before .equation-in .ensures) ∙ ap (λ (w : ℕ). unword w .block) (after-word-at .word-at .ensures))
 
 pub is-earlier-spec : {M : Type 1} → statement M
 is-earlier-spec = tie.close (tie.spec cast-word-at word-at-requires equation-in-requires returns)

@@ -15,18 +15,18 @@ inserts-requires c κs = search needs
 
 returns : tie.Need-returns
 returns c =
-    let at-action = c .before .before .before .before in
-    let a = at-action .before .before .args in
-    kind-gains (a .gaining) (a .a .0) (a .w) _ _ _ (at-action .before .move-of .ensures) (at-action .action-of .ensures) (c .inserts .ensures) (c .before .if1 .taken)
+    let after-action-of = c .before .before .before .before in
+    let a = after-action-of .before .before .args in
+    kind-gains (a .gaining) (a .a .0) (a .w) _ _ _ (after-action-of .before .move-of .ensures) (after-action-of .action-of .ensures) (c .inserts .ensures) (c .before .if1 .taken)
 
 inserts-requires-2 : tie.Need-inserts-requires-2
 inserts-requires-2 c κs = search needs
 
 returns-2 : tie.Need-returns-2
 returns-2 c =
-    let at-action = c .before .before .before .before in
-    let a = at-action .before .before .args in
-    kind-loses (a .gaining) (a .a .0) (a .w) _ _ _ (at-action .before .move-of .ensures) (at-action .action-of .ensures) (c .inserts2 .ensures) (c .before .if1 .left)
+    let after-action-of = c .before .before .before .before in
+    let a = after-action-of .before .before .args in
+    kind-loses (a .gaining) (a .a .0) (a .w) _ _ _ (after-action-of .before .move-of .ensures) (after-action-of .action-of .ensures) (c .inserts2 .ensures) (c .before .if1 .left)
 
 pub of-kind-spec : {M : Type 1} → statement M
 of-kind-spec =

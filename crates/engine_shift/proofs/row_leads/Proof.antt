@@ -1,4 +1,5 @@
--- The targets below t have been asked. Assumes nothing.
+-- The loop keeps that the targets below t have been asked and the sources that lead to them added; those left, n - t, get
+-- fewer. Assumes nothing.
 use mathlib.Core.Path.{_≡_, refl, _∙_}
 use Prim.Native.Nat.{_-_}
 use native.Mathlib.Omega.{arith}
@@ -17,20 +18,24 @@ Inv-loop sizes moves index values marks a from b bad₀ n t₀ bad t =
 abbrev μ-loop : tie.MeasureT-loop
 μ-loop sizes moves index values marks a from b bad₀ n t₀ bad t = length bad₀ - t
 
+-- The points of the program: from what is known at a later one to what was known at an earlier one.
+abbrev start-before-slice-known : tie.After-slice-known Inv-loop μ-loop → tie.Start Inv-loop μ-loop
+start-before-slice-known c = c .before .before .before .before .before
+
 loop-holds : tie.Need-loop-holds Inv-loop μ-loop
 loop-holds c =
-    let s = c .before .before .before .before .before in
-    let a = s .args in
-    (refl, leads-first (a .sizes) (a .moves .now) (a .values .now) (a .marks .now) (a .b) (a .a .0) (a .from) (s .pre .0 .ok) (a .bad .now))
+    let at-start = start-before-slice-known c in
+    let a = at-start .args in
+    (refl, leads-first (a .sizes) (a .moves .now) (a .values .now) (a .marks .now) (a .b) (a .a .0) (a .from) (at-start .pre .0 .ok) (a .bad .now))
 
 add-gone-requires : tie.Need-add-gone-requires Inv-loop μ-loop
 add-gone-requires c κs =
     let at-loop = c .before .before in
-    let s = at-loop .before .before .before .before .before .before in
+    let at-start = start-before-slice-known (at-loop .before) in
     let t = c .before .loop-test .taken in
-    let p = s .pre .1 .0 in
-    let n = s .pre .1 .1 in
-    (s .pre .0, (((p .0, omega arith), (omega arith, omega arith)), at-loop .loop .inv .0 ∙ n))
+    let p = at-start .pre .1 .0 in
+    let n = at-start .pre .1 .1 in
+    (at-start .pre .0, (((p .0, omega arith), (omega arith, omega arith)), at-loop .loop .inv .0 ∙ n))
 
 add-t : tie.Need-add-t Inv-loop μ-loop
 add-t c = search needs
@@ -40,14 +45,14 @@ loop-less c = search needs
 
 loop-again : tie.Need-loop-again Inv-loop μ-loop
 loop-again c =
-    let at-gone = c .before .before in
-    let at-loop = at-gone .before .before .before in
-    let s = at-loop .before .before .before .before .before .before in
-    let a = s .args in
-    let l = at-loop .loop in
-    let t = at-gone .before .before .loop-test .taken in
-    let n = s .pre .1 .1 in
-    let w = leads-more (a .sizes) (a .moves .now) (a .values .now) (a .marks .now) (a .b) (a .a .0) (a .from) (s .pre .0 .ok) (a .bad .now) (l .bad) _ (l .t) (omega arith) (l .inv .1) (at-gone .add-gone .ensures) in
+    let after-add-gone = c .before .before in
+    let in-loop = after-add-gone .before .before in
+    let at-start = start-before-slice-known (in-loop .before .before) in
+    let a = at-start .args in
+    let l = in-loop .before .loop in
+    let t = in-loop .loop-test .taken in
+    let n = at-start .pre .1 .1 in
+    let w = leads-more (a .sizes) (a .moves .now) (a .values .now) (a .marks .now) (a .b) (a .a .0) (a .from) (at-start .pre .0 .ok) (a .bad .now) (l .bad) _ (l .t) (omega arith) (l .inv .1) (after-add-gone .add-gone .ensures) in
     (w .long, w)
 
 same-length : tie.Need-same-length Inv-loop μ-loop
@@ -55,13 +60,12 @@ same-length c = search needs
 
 returns : tie.Need-returns Inv-loop μ-loop
 returns c =
-    let at-loop = c .before in
-    let s = at-loop .before .before .before .before .before .before in
-    let a = s .args in
-    let l = at-loop .loop in
+    let at-start = start-before-slice-known (c .before .before) in
+    let a = at-start .args in
+    let l = c .before .loop in
     let t = c .loop-test .left in
-    let n = s .pre .1 .1 in
-    leads-all (a .sizes) (a .moves .now) (a .values .now) (a .marks .now) (a .b) (a .a .0) (a .from) (s .pre .0 .ok) (a .bad .now) (l .bad) (l .t) (omega arith) (l .inv .1)
+    let n = at-start .pre .1 .1 in
+    leads-all (a .sizes) (a .moves .now) (a .values .now) (a .marks .now) (a .b) (a .a .0) (a .from) (at-start .pre .0 .ok) (a .bad .now) (l .bad) (l .t) (omega arith) (l .inv .1)
 
 pub row-leads-spec : {M : Type 1} → statement M
 row-leads-spec =

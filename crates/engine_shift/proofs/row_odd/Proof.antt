@@ -1,4 +1,4 @@
--- Some mark before the place s is odd. Assumes nothing.
+-- The loop keeps whether some mark before the place s is odd; the places left, n - s, get fewer. Assumes nothing.
 use mathlib.Core.Path.{_≡_, refl, sym, ap, _∙_}
 use mathlib.Core.Bool.{Bool, _||_}
 use Prim.Native.Nat.{ℕ, _+_, _-_, _≤_}

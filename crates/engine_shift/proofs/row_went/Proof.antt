@@ -1,4 +1,5 @@
--- The places before s have been asked. Assumes nothing.
+-- The loop keeps that the places before s have been asked and those gone added; the places left, n - s, get fewer.
+-- Assumes nothing.
 use mathlib.Core.Path.{_≡_, refl}
 use mathlib.Core.Bool.{Bool, _&&_, _||_}
 use Prim.Native.Nat.{ℕ, _+_, _-_, _≤_}
@@ -47,10 +48,10 @@ loop-less c = search needs
 
 loop-again : tie.Need-loop-again Inv-loop μ-loop
 loop-again c =
-    let at-loop = c .before .before .before .before in
-    let a = at-loop .before .args in
-    let l = at-loop .loop in
-    let t = c .before .before .before .loop-test .taken in
+    let in-loop = c .before .before .before in
+    let a = in-loop .before .before .args in
+    let l = in-loop .before .loop in
+    let t = in-loop .loop-test .taken in
     let gone : ℕ → Bool = λ q. goneTo (a .values .now) (a .marks .now) (a .b) (a .from + q) in
     let w = adds-next gone (a .bad .now) (l .bad) (l .s) _ _ (omega arith) (l .inv .1 .1) (byte-bit (eqb (getD (l .bad) (l .s) 0) 1 || gone (l .s))) refl in
     (omega arith, (w .long, w))

@@ -26,10 +26,11 @@ was-not-requires c κs = search needs
 
 returns : tie.Need-returns
 returns c =
-    let a = c .before .before .before .before .before .before .before .args in
-    let at-target = c .before .before .before in
+    let after-wide = c .before .before in
+    let after-move-of = after-wide .before .before in
+    let a = after-move-of .before .before .before .args in
     touches-read (a .values .now) (a .marks .now) (a .earlier) (a .gaining) (a .b) (a .a .0) (a .from) (a .w) _ _ _ _
-    (c .before .before .wide .ensures ∙ at-target .target-of .ensures ∙ ap target (at-target .before .move-of .ensures)) refl (c .before .of-kind .ensures) (c .was-not .ensures)
+    (after-wide .wide .ensures ∙ after-wide .before .target-of .ensures ∙ ap target (after-move-of .move-of .ensures)) refl (c .before .of-kind .ensures) (c .was-not .ensures)
 
 pub touches-row-spec : {M : Type 1} → statement M
 touches-row-spec =

@@ -17,19 +17,23 @@ use borrow.Author.Needs.{needs}
 use Rattle.engine_turn.proofs.easy_fails.Statement.{statement}
 use Rattle.engine_turn.proofs.easy_fails.Tie as tie
 
+-- The points of the program: from what is known at a later one to what was known at an earlier one.
+abbrev start-before-struct-known : tie.After-struct-known → tie.Start
+start-before-struct-known c = c .before .before .before .before
+
 cast-at : tie.Need-cast-at
 cast-at c = search needs
 
 mul-equation-in : tie.Need-mul-equation-in
 mul-equation-in c =
-    let at-start = c .before .before .before .before in
+    let at-start = start-before-struct-known c in
     let d = at-start .pre .0 .drawn .long-equations in
     let l = at-start .pre .1 .0 .variable in
     omega arith
 
 shared-slice-read-equation-in : tie.Need-shared-slice-read-equation-in
 shared-slice-read-equation-in c =
-    let at-start = c .before .before .before .before .before in
+    let at-start = start-before-struct-known (c .before) in
     let d = at-start .pre .0 .drawn .long-equations in
     let l = at-start .pre .1 .0 .variable in
     omega arith
@@ -39,60 +43,57 @@ equation-in-requires c κs = search needs
 
 has-requires : tie.Need-has-requires
 has-requires c κs =
-    let at-equation-in = c .before in
-    let at-if1 = c in
-    let at-start = at-equation-in .before .before .before .before .before .before in
+    let after-equation-in = c .before in
+    let at-start = start-before-struct-known (after-equation-in .before .before) in
     let a = at-start .args in
     let g = at-start .pre .0 in
     let l = at-start .pre .1 .0 in
-    let e = at-equation-in .equation-in .result in
-    let r = reads-as (at-equation-in .equation-in .ensures) in
-    let six = along-join g (at-start .pre .1 .1) (not-out (a .step) (at-if1 .if1 .taken)) in
+    let e = after-equation-in .equation-in .result in
+    let r = reads-as (after-equation-in .equation-in .ensures) in
+    let six = along-join g (at-start .pre .1 .1) (not-out (a .step) (c .if1 .taken)) in
     let o : e .operator < 6 = let k = r .is-operator in omega arith in
     let i = join-inside g l (e .operator) (e .first) (e .second) (e .block) (e .kind) r o in
     (i .0, (l .state, g .long))
 
 has-requires-2 : tie.Need-has-requires-2
 has-requires-2 c κs =
-    let at-equation-in = c .before .before in
-    let at-if1 = c .before in
-    let at-start = at-equation-in .before .before .before .before .before .before in
+    let after-equation-in = c .before .before in
+    let at-start = start-before-struct-known (after-equation-in .before .before) in
     let a = at-start .args in
     let g = at-start .pre .0 in
     let l = at-start .pre .1 .0 in
-    let e = at-equation-in .equation-in .result in
-    let r = reads-as (at-equation-in .equation-in .ensures) in
-    let six = along-join g (at-start .pre .1 .1) (not-out (a .step) (at-if1 .if1 .taken)) in
+    let e = after-equation-in .equation-in .result in
+    let r = reads-as (after-equation-in .equation-in .ensures) in
+    let six = along-join g (at-start .pre .1 .1) (not-out (a .step) (c .before .if1 .taken)) in
     let o : e .operator < 6 = let k = r .is-operator in omega arith in
     let i = join-inside g l (e .operator) (e .first) (e .second) (e .block) (e .kind) r o in
     (i .1, (l .state, g .long))
 
 returns : tie.Need-returns
 returns c =
-    let at-equation-in = c .before .before .before in
-    let at-if1 = c .before .before in
-    let at-start = at-equation-in .before .before .before .before .before .before in
+    let in-then1 = c .before .before in
+    let after-equation-in = in-then1 .before in
+    let at-start = start-before-struct-known (after-equation-in .before .before) in
     let a = at-start .args in
     let g = at-start .pre .0 in
     let l = at-start .pre .1 .0 in
-    let e = at-equation-in .equation-in .result in
-    let r = reads-as (at-equation-in .equation-in .ensures) in
-    let six = along-join g (at-start .pre .1 .1) (not-out (a .step) (at-if1 .if1 .taken)) in
+    let e = after-equation-in .equation-in .result in
+    let r = reads-as (after-equation-in .equation-in .ensures) in
+    let six = along-join g (at-start .pre .1 .1) (not-out (a .step) (in-then1 .if1 .taken)) in
     let o : e .operator < 6 = let k = r .is-operator in omega arith in
     let scene = sceneOf (a .sizes) (a .equations .now) (a .moves .now) (a .values .now) (a .from) in
     rw (c .before .has .ensures, c .has2 .ensures) (fails-join scene (a .y .0) (a .s .0) (e .operator) (e .first) (e .second) (e .block) (e .kind) r o)
 
 leads-from-requires : tie.Need-leads-from-requires
 leads-from-requires c κs =
-    let at-equation-in = c .before in
-    let at-if1 = c in
-    let at-start = at-equation-in .before .before .before .before .before .before in
+    let after-equation-in = c .before in
+    let at-start = start-before-struct-known (after-equation-in .before .before) in
     let a = at-start .args in
     let g = at-start .pre .0 in
     let l = at-start .pre .1 .0 in
-    let e = at-equation-in .equation-in .result in
-    let r = reads-as (at-equation-in .equation-in .ensures) in
-    let yes = sym (not-not (a .step)) ∙ ap not (at-if1 .if1 .left) in
+    let e = after-equation-in .equation-in .result in
+    let r = reads-as (after-equation-in .equation-in .ensures) in
+    let yes = sym (not-not (a .step)) ∙ ap not (c .if1 .left) in
     let six = along-step g (at-start .pre .1 .1) yes in
     let o : 6 ≤ e .operator = let k = r .is-operator in omega arith in
     let own = at-start .pre .1 .1 .own yes in
@@ -101,15 +102,14 @@ leads-from-requires c κs =
 
 returns-2 : tie.Need-returns-2
 returns-2 c =
-    let at-equation-in = c .before .before in
-    let at-if1 = c .before in
-    let at-start = at-equation-in .before .before .before .before .before .before in
+    let after-equation-in = c .before .before in
+    let at-start = start-before-struct-known (after-equation-in .before .before) in
     let a = at-start .args in
     let g = at-start .pre .0 in
     let l = at-start .pre .1 .0 in
-    let e = at-equation-in .equation-in .result in
-    let r = reads-as (at-equation-in .equation-in .ensures) in
-    let yes = sym (not-not (a .step)) ∙ ap not (at-if1 .if1 .left) in
+    let e = after-equation-in .equation-in .result in
+    let r = reads-as (after-equation-in .equation-in .ensures) in
+    let yes = sym (not-not (a .step)) ∙ ap not (c .before .if1 .left) in
     let six = along-step g (at-start .pre .1 .1) yes in
     let o : 6 ≤ e .operator = let k = r .is-operator in omega arith in
     let own = at-start .pre .1 .1 .own yes in

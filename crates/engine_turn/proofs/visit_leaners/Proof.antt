@@ -1,4 +1,5 @@
--- The chain of a variable, walked to its end. Assumes nothing.
+-- The chain of a variable, walked to its end. The loop keeps that the visits made and those of the operands from the word in
+-- hand on are the visits of the whole chain; the link in the word falls. Assumes nothing.
 use mathlib.Core.Path.{_∙_}
 use Prim.Native.Nat.{_<_}
 use native.Mathlib.Omega.{arith}
@@ -26,53 +27,50 @@ abbrev line-at : tie.Start Inv-loop μ-loop → Line
 line-at c = lineOf (c .args .marks .now) (c .args .queue .now) (c .args .at .tail) (c .args .at .visits)
 
 -- The points of the program: from what is known at a later one to what was known at an earlier one.
-abbrev start-before-loop : tie.At-loop Inv-loop μ-loop → tie.Start Inv-loop μ-loop
-start-before-loop c = c .before .before .before .before .before .before .before .before .before .before .before
+abbrev start-before-struct-known : tie.After-struct-known Inv-loop μ-loop → tie.Start Inv-loop μ-loop
+start-before-struct-known c = c .before .before .before .before .before .before .before .before
 
-abbrev at-loop-before-visit-operand-arg2 : tie.After-visit-operand-arg2 Inv-loop μ-loop → tie.At-loop Inv-loop μ-loop
-at-loop-before-visit-operand-arg2 c = c .before .before
+abbrev at-loop-before-visit-operand : tie.After-visit-operand Inv-loop μ-loop → tie.At-loop Inv-loop μ-loop
+at-loop-before-visit-operand c = c .before .before .before
 
 abbrev visit-operand-before-link-in : tie.After-link-in Inv-loop μ-loop → tie.After-visit-operand Inv-loop μ-loop
 visit-operand-before-link-in c = c .before .before .before .before .before
 
 abbrev at-loop-before-link-in : tie.After-link-in Inv-loop μ-loop → tie.At-loop Inv-loop μ-loop
-at-loop-before-link-in c = at-loop-before-visit-operand-arg2 (visit-operand-before-link-in c .before)
-
-abbrev link-in-before-shared-slice-known7 : tie.After-shared-slice-known7 Inv-loop μ-loop → tie.After-link-in Inv-loop μ-loop
-link-in-before-shared-slice-known7 c = c .before .before
+at-loop-before-link-in c = at-loop-before-visit-operand (visit-operand-before-link-in c)
 
 cast-to : tie.Need-cast-to Inv-loop μ-loop
 cast-to c = search needs
 
 mul-o : tie.Need-mul-o Inv-loop μ-loop
 mul-o c =
-    let at-start = c .before .before .before .before .before .before .before .before in
+    let at-start = start-before-struct-known c in
     let z = limits (at-start .pre .0 .drawn) in
     omega (arith, at-start .pre .1 .1 .1 .0 .0)
 
 shared-slice-read-o : tie.Need-shared-slice-read-o Inv-loop μ-loop
 shared-slice-read-o c =
-    let at-start = c .before .before .before .before .before .before .before .before .before in
+    let at-start = start-before-struct-known (c .before) in
     omega (arith, x-low at-start, at-start .pre .1 .1 .0 .long)
 
 returns : tie.Need-returns Inv-loop μ-loop
 returns c =
-    let at-start = c .before .before .before .before .before .before .before .before .before .before in
+    let at-start = start-before-struct-known (c .before .before) in
     let a = at-start .args in
     let pre = at-start .pre in
     walk-none (pre .0) (pre .1 .1 .0) (a .settling) (a .x .0) (a .s .0) (x-low at-start) (line-at at-start) (c .if1 .taken)
 
 loop-holds : tie.Need-loop-holds Inv-loop μ-loop
 loop-holds c =
-    let at-start = c .before .before .before .before .before .before .before .before .before .before in
+    let at-start = start-before-struct-known (c .before .before) in
     let a = at-start .args in
     let pre = at-start .pre in
     walk-begins (pre .0) (pre .1 .1 .0) (a .settling) (a .x .0) (a .s .0) (x-low at-start) (line-at at-start) (c .if1 .left)
 
 visit-operand-requires : tie.Need-visit-operand-requires Inv-loop μ-loop
 visit-operand-requires c κs =
-    let at-loop = at-loop-before-visit-operand-arg2 c in
-    let at-start = start-before-loop at-loop in
+    let at-loop = c .before .before in
+    let at-start = start-before-struct-known (at-loop .before .before .before) in
     let a = at-start .args in
     let pre = at-start .pre in
     let w = at-loop .loop .inv in
@@ -84,8 +82,8 @@ link-in-requires c κs = search needs
 same-length : tie.Need-same-length Inv-loop μ-loop
 same-length c =
     let after-visit-operand = visit-operand-before-link-in (c .before) in
-    let at-loop = at-loop-before-visit-operand-arg2 (after-visit-operand .before) in
-    let at-start = start-before-loop at-loop in
+    let at-loop = at-loop-before-visit-operand after-visit-operand in
+    let at-start = start-before-struct-known (at-loop .before .before .before) in
     let a = at-start .args in
     let pre = at-start .pre in
     walk-marks (pre .0) (pre .1 .1 .0) (a .settling) (a .x .0) (a .s .0) (x-low at-start) (line-at at-start) (at-loop .loop .inv) (after-visit-operand .visit-operand .ensures)
@@ -93,8 +91,8 @@ same-length c =
 same-length-2 : tie.Need-same-length-2 Inv-loop μ-loop
 same-length-2 c =
     let after-visit-operand = visit-operand-before-link-in (c .before) in
-    let at-loop = at-loop-before-visit-operand-arg2 (after-visit-operand .before) in
-    let at-start = start-before-loop at-loop in
+    let at-loop = at-loop-before-visit-operand after-visit-operand in
+    let at-start = start-before-struct-known (at-loop .before .before .before) in
     let a = at-start .args in
     let pre = at-start .pre in
     walk-queue (pre .0) (pre .1 .1 .0) (a .settling) (a .x .0) (a .s .0) (x-low at-start) (line-at at-start) (at-loop .loop .inv) (after-visit-operand .visit-operand .ensures)
@@ -103,8 +101,8 @@ returns-2 : tie.Need-returns-2 Inv-loop μ-loop
 returns-2 c =
     let after-link-in = c .before in
     let after-visit-operand = visit-operand-before-link-in after-link-in in
-    let at-loop = at-loop-before-visit-operand-arg2 (after-visit-operand .before) in
-    let at-start = start-before-loop at-loop in
+    let at-loop = at-loop-before-visit-operand after-visit-operand in
+    let at-start = start-before-struct-known (at-loop .before .before .before) in
     let a = at-start .args in
     let pre = at-start .pre in
     walk-ends (pre .0) (pre .1 .1 .0) (a .settling) (a .x .0) (a .s .0) (x-low at-start) (line-at at-start) (at-loop .loop .inv) (after-visit-operand .visit-operand .ensures) (after-link-in .link-in .result) (after-link-in .link-in .ensures .0) (c .if2 .taken)
@@ -114,28 +112,28 @@ mul-o-2 c = omega (arith, c .before .link-in .ensures .1)
 
 shared-slice-read-o-2 : tie.Need-shared-slice-read-o-2 Inv-loop μ-loop
 shared-slice-read-o-2 c =
-    let after-link-in = link-in-before-shared-slice-known7 c in
+    let after-link-in = c .before .before in
     let at-loop = at-loop-before-link-in after-link-in in
-    let at-start = start-before-loop at-loop in
+    let at-start = start-before-struct-known (at-loop .before .before .before) in
     let a = at-start .args in
     let pre = at-start .pre in
     walk-inside (pre .0) (pre .1 .1 .0) (a .settling) (a .x .0) (a .s .0) (x-low at-start) (line-at at-start) (at-loop .loop .inv) (after-link-in .link-in .result) (after-link-in .link-in .ensures .0) (c .before .if2 .left)
 
 loop-less : tie.Need-loop-less Inv-loop μ-loop
 loop-less c =
-    let after-link-in = link-in-before-shared-slice-known7 c in
+    let after-link-in = c .before .before in
     let at-loop = at-loop-before-link-in after-link-in in
-    let at-start = start-before-loop at-loop in
+    let at-start = start-before-struct-known (at-loop .before .before .before) in
     let a = at-start .args in
     let pre = at-start .pre in
     walk-falls (pre .0) (pre .1 .1 .0) (a .settling) (a .x .0) (a .s .0) (x-low at-start) (line-at at-start) (at-loop .loop .inv) (after-link-in .link-in .result) (after-link-in .link-in .ensures .0) (c .before .if2 .left)
 
 loop-again : tie.Need-loop-again Inv-loop μ-loop
 loop-again c =
-    let after-link-in = link-in-before-shared-slice-known7 c in
+    let after-link-in = c .before .before in
     let after-visit-operand = visit-operand-before-link-in after-link-in in
-    let at-loop = at-loop-before-visit-operand-arg2 (after-visit-operand .before) in
-    let at-start = start-before-loop at-loop in
+    let at-loop = at-loop-before-visit-operand after-visit-operand in
+    let at-start = start-before-struct-known (at-loop .before .before .before) in
     let a = at-start .args in
     let pre = at-start .pre in
     walk-goes (pre .0) (pre .1 .1 .0) (a .settling) (a .x .0) (a .s .0) (x-low at-start) (line-at at-start) (at-loop .loop .inv) (after-visit-operand .visit-operand .ensures) (after-link-in .link-in .result) (after-link-in .link-in .ensures .0) (c .before .if2 .left)

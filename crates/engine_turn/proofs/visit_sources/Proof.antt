@@ -1,4 +1,5 @@
--- The chain of a head, walked to its end. Assumes nothing.
+-- The chain of a head, walked to its end. The loop keeps that the visits made and those of the sources from the place k on
+-- are the visits of the whole chain; the place k falls. Assumes nothing.
 use mathlib.Core.Path.{_≡_, sym, ap, _∙_, subst}
 use mathlib.Core.Bool.{true}
 use mathlib.Core.List.{[], _∷_}
@@ -25,17 +26,17 @@ abbrev μ-loop : tie.MeasureT-loop
 μ-loop sizes equations moves index values marks₀ queue₀ settling from asks o head links s₀ k₀ marks queue s k = k
 
 -- The points of the program: from what is known at a later one to what was known at an earlier one.
+abbrev start-before-heads-of : tie.After-heads-of Inv-loop μ-loop → tie.Start Inv-loop μ-loop
+start-before-heads-of c = c .before .before .before .before .before .before .before
+
 abbrev heads-of-before-in-loop : tie.In-loop Inv-loop μ-loop → tie.After-heads-of Inv-loop μ-loop
 heads-of-before-in-loop c = c .before .before .before .before
 
-abbrev in-loop-before-source-of : tie.After-source-of Inv-loop μ-loop → tie.In-loop Inv-loop μ-loop
-in-loop-before-source-of c = c .before .before
+abbrev source-of-before-visit : tie.After-visit Inv-loop μ-loop → tie.After-source-of Inv-loop μ-loop
+source-of-before-visit c = c .before .before .before
 
-abbrev source-of-before-visit-arg2 : tie.After-visit-arg2 Inv-loop μ-loop → tie.After-source-of Inv-loop μ-loop
-source-of-before-visit-arg2 c = c .before .before
-
-abbrev in-loop-before-slice-known4 : tie.After-slice-known4 Inv-loop μ-loop → tie.In-loop Inv-loop μ-loop
-in-loop-before-slice-known4 c = in-loop-before-source-of (source-of-before-visit-arg2 (c .before .before .before .before .before))
+abbrev in-loop-before-shared-slice-known7 : tie.After-shared-slice-known7 Inv-loop μ-loop → tie.In-loop Inv-loop μ-loop
+in-loop-before-shared-slice-known7 c = source-of-before-visit (c .before .before .before .before .before) .before .before
 
 abbrev visit-before-place-in-half2 : tie.After-place-in-half2 Inv-loop μ-loop → tie.After-visit Inv-loop μ-loop
 visit-before-place-in-half2 c = c .before .before .before .before .before .before
@@ -45,14 +46,14 @@ heads-of-requires c κs = search needs
 
 mul-place-in-half : tie.Need-mul-place-in-half Inv-loop μ-loop
 mul-place-in-half c =
-    let at-start = c .before .before .before .before .before .before .before in
+    let at-start = start-before-heads-of c in
     let i = at-start .pre .1 .0 .long in
     let h = at-start .pre .1 .1 .1 .0 .0 in
     omega arith
 
 shared-slice-read-place-in-half : tie.Need-shared-slice-read-place-in-half Inv-loop μ-loop
 shared-slice-read-place-in-half c =
-    let at-start = c .before .before .before .before .before .before .before .before in
+    let at-start = start-before-heads-of (c .before) in
     let i = at-start .pre .1 .0 .long in
     let h = at-start .pre .1 .1 .1 .0 .0 in
     omega arith
@@ -62,7 +63,7 @@ place-in-half-requires c κs = search needs
 
 loop-holds : tie.Need-loop-holds Inv-loop μ-loop
 loop-holds c =
-    let at-start = c .before .before .before .before .before .before .before .before .before in
+    let at-start = start-before-heads-of (c .before .before) in
     let a = at-start .args in
     let scene = sceneOf (a .sizes) (a .equations .now) (a .moves .now) (a .values .now) (a .from) in
     let v = lineOf (a .marks .now) (a .queue .now) (a .at .tail) (a .at .visits) in
@@ -73,17 +74,15 @@ sub-j c = search needs
 
 mul-source-of : tie.Need-mul-source-of Inv-loop μ-loop
 mul-source-of c =
-    let at-start = c .before .before .before .before .before .before .before .before .before .before .before in
     let b = c .before .loop .inv .below in
-    let z = limits (at-start .pre .0 .drawn) in
+    let z = limits (start-before-heads-of (heads-of-before-in-loop c) .pre .0 .drawn) in
     omega (arith, c .loop-test .taken)
 
 shared-slice-read-source-of : tie.Need-shared-slice-read-source-of Inv-loop μ-loop
 shared-slice-read-source-of c =
     let at-loop = c .before .before in
-    let at-start = at-loop .before .before .before .before .before .before .before .before .before .before in
     let b = at-loop .loop .inv .below in
-    let z = limits (at-start .pre .0 .drawn) in
+    let z = limits (start-before-heads-of (at-loop .before .before .before) .pre .0 .drawn) in
     omega (arith, c .before .loop-test .taken)
 
 source-of-requires : tie.Need-source-of-requires Inv-loop μ-loop
@@ -91,9 +90,9 @@ source-of-requires c κs = search needs
 
 visit-requires : tie.Need-visit-requires Inv-loop μ-loop
 visit-requires c κs =
-    let after-source-of = source-of-before-visit-arg2 c in
-    let in-loop = in-loop-before-source-of after-source-of in
-    let at-start = in-loop .before .before .before .before .before .before .before .before .before .before .before in
+    let after-source-of = c .before .before in
+    let in-loop = after-source-of .before .before in
+    let at-start = start-before-heads-of (heads-of-before-in-loop in-loop) in
     let a = at-start .args in
     let scene = sceneOf (a .sizes) (a .equations .now) (a .moves .now) (a .values .now) (a .from) in
     let v = lineOf (a .marks .now) (a .queue .now) (a .at .tail) (a .at .visits) in
@@ -112,31 +111,28 @@ visit-requires c κs =
 
 add-place-in-half : tie.Need-add-place-in-half Inv-loop μ-loop
 add-place-in-half c =
-    let in-loop = in-loop-before-slice-known4 c in
+    let in-loop = source-of-before-visit (c .before .before .before .before) .before .before in
     let after-heads-of = heads-of-before-in-loop in-loop in
-    let at-start = after-heads-of .before .before .before .before .before .before .before in
     let b = in-loop .before .loop .inv .below in
-    let i = at-start .pre .1 .0 .long in
+    let z = limits (start-before-heads-of after-heads-of .pre .0 .drawn) in
     let e = after-heads-of .heads-of .ensures in
     omega (arith, in-loop .loop-test .taken)
 
 mul-place-in-half-2 : tie.Need-mul-place-in-half-2 Inv-loop μ-loop
 mul-place-in-half-2 c =
-    let in-loop = in-loop-before-slice-known4 c in
+    let in-loop = source-of-before-visit (c .before .before .before .before) .before .before in
     let after-heads-of = heads-of-before-in-loop in-loop in
-    let at-start = after-heads-of .before .before .before .before .before .before .before in
     let b = in-loop .before .loop .inv .below in
-    let i = at-start .pre .1 .0 .long in
+    let z = limits (start-before-heads-of after-heads-of .pre .0 .drawn) in
     let e = after-heads-of .heads-of .ensures in
     omega (arith, in-loop .loop-test .taken)
 
 shared-slice-read-place-in-half-2 : tie.Need-shared-slice-read-place-in-half-2 Inv-loop μ-loop
 shared-slice-read-place-in-half-2 c =
-    let in-loop = in-loop-before-slice-known4 (c .before) in
+    let in-loop = in-loop-before-shared-slice-known7 c in
     let after-heads-of = heads-of-before-in-loop in-loop in
-    let at-start = after-heads-of .before .before .before .before .before .before .before in
     let b = in-loop .before .loop .inv .below in
-    let i = at-start .pre .1 .0 .long in
+    let i = start-before-heads-of after-heads-of .pre .1 .0 .long in
     let e = after-heads-of .heads-of .ensures in
     omega (arith, in-loop .loop-test .taken)
 
@@ -145,9 +141,9 @@ place-in-half-requires-2 c κs = search needs
 
 loop-less : tie.Need-loop-less Inv-loop μ-loop
 loop-less c =
-    let in-loop = in-loop-before-slice-known4 (c .before .before) in
+    let in-loop = in-loop-before-shared-slice-known7 (c .before) in
     let after-heads-of = heads-of-before-in-loop in-loop in
-    let at-start = after-heads-of .before .before .before .before .before .before .before in
+    let at-start = start-before-heads-of after-heads-of in
     let a = at-start .args in
     let l = in-loop .before .loop in
     let up : l .k ≡ suc (l .k - 1) = omega (arith, in-loop .loop-test .taken) in
@@ -157,10 +153,10 @@ loop-less c =
 loop-again : tie.Need-loop-again Inv-loop μ-loop
 loop-again c =
     let after-visit = visit-before-place-in-half2 c in
-    let after-source-of = source-of-before-visit-arg2 (after-visit .before) in
-    let in-loop = in-loop-before-source-of after-source-of in
+    let after-source-of = source-of-before-visit after-visit in
+    let in-loop = after-source-of .before .before in
     let after-heads-of = heads-of-before-in-loop in-loop in
-    let at-start = after-heads-of .before .before .before .before .before .before .before in
+    let at-start = start-before-heads-of after-heads-of in
     let a = at-start .args in
     let scene = sceneOf (a .sizes) (a .equations .now) (a .moves .now) (a .values .now) (a .from) in
     let v = lineOf (a .marks .now) (a .queue .now) (a .at .tail) (a .at .visits) in
@@ -180,8 +176,7 @@ same-length-2 c =
 
 returns : tie.Need-returns Inv-loop μ-loop
 returns c =
-    let at-start = c .before .before .before .before .before .before .before .before .before .before .before in
-    let a = at-start .args in
+    let a = start-before-heads-of (c .before .before .before .before) .args in
     let scene = sceneOf (a .sizes) (a .equations .now) (a .moves .now) (a .values .now) (a .from) in
     let v = lineOf (a .marks .now) (a .queue .now) (a .at .tail) (a .at .visits) in
     let l = c .before .loop in

@@ -25,9 +25,10 @@ same-length c = search needs
 
 returns : tie.Need-returns
 returns c =
-    let a = c .before .before .before .before .before .args in
+    let after-set-all = c .before .before in
+    let a = after-set-all .before .before .before .args in
     let long = length-take-le (a .n) (a .room .now) (omega arith) in
-    part-one (a .n) 0 _ (a .room .now) (c .before .before .set-all .ensures ∙ ap (λ (n : ℕ). replicate n 0) long)
+    part-one (a .n) 0 _ (a .room .now) (after-set-all .set-all .ensures ∙ ap (λ (n : ℕ). replicate n 0) long)
 
 pub clear-spec : {M : Type 1} → statement M
 clear-spec =

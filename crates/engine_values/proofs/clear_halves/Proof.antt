@@ -1,4 +1,5 @@
--- The places before j are 0, those from j on are as they were. Assumes nothing.
+-- The loop keeps that the places before j are 0 and those from j on are as they were; the places left, n - j, get fewer.
+-- Assumes nothing.
 use mathlib.Core.Path.{_≡_, refl, ap, _∙_}
 use Prim.Native.Nat.{ℕ, _-_, _≤_}
 use native.Mathlib.Omega.{arith}
@@ -22,11 +23,11 @@ mul-room c = search needs
 
 slice-write-room : tie.Need-slice-write-room Inv-loop μ-loop
 slice-write-room c =
-    let s = c .before .before in
+    let at-start = c .before .before in
     let l = c .before .loop in
-    let h = s .pre in
+    let h = at-start .pre in
     let t = c .loop-test .taken in
-    let e : length (l .room) ≡ length (s .args .room .now) = ap length (l .inv .1) ∙ filled-long (l .j) (λ p. 0) (s .args .room .now) (omega arith) in
+    let e : length (l .room) ≡ length (at-start .args .room .now) = ap length (l .inv .1) ∙ filled-long (l .j) (λ p. 0) (at-start .args .room .now) (omega arith) in
     omega arith
 
 add-j : tie.Need-add-j Inv-loop μ-loop
@@ -37,28 +38,28 @@ loop-less c = omega arith
 
 loop-again : tie.Need-loop-again Inv-loop μ-loop
 loop-again c =
-    let s = c .before .before in
+    let at-start = c .before .before in
     let l = c .before .loop in
-    let h = s .pre in
+    let h = at-start .pre in
     let t = c .loop-test .taken in
-    (omega arith, filled-more (l .j) (λ p. 0) (s .args .room .now) (l .room) _ 0 (omega arith) (l .inv .1) refl refl)
+    (omega arith, filled-more (l .j) (λ p. 0) (at-start .args .room .now) (l .room) _ 0 (omega arith) (l .inv .1) refl refl)
 
 same-length : tie.Need-same-length Inv-loop μ-loop
 same-length c =
-    let s = c .before .before in
+    let at-start = c .before .before in
     let l = c .before .loop in
-    let h = s .pre in
+    let h = at-start .pre in
     let i = l .inv .0 in
-    ap length (l .inv .1) ∙ filled-long (l .j) (λ p. 0) (s .args .room .now) (omega arith)
+    ap length (l .inv .1) ∙ filled-long (l .j) (λ p. 0) (at-start .args .room .now) (omega arith)
 
 returns : tie.Need-returns Inv-loop μ-loop
 returns c =
-    let s = c .before .before in
+    let at-start = c .before .before in
     let l = c .before .loop in
     let t = c .loop-test .left in
     let i = l .inv .0 in
-    let e : l .j ≡ s .args .n = omega arith in
-    l .inv .1 ∙ ap (λ (j : ℕ). filled j (λ p. 0) (s .args .room .now)) e ∙ filled-zeros (s .args .n) (s .args .room .now)
+    let e : l .j ≡ at-start .args .n = omega arith in
+    l .inv .1 ∙ ap (λ (j : ℕ). filled j (λ p. 0) (at-start .args .room .now)) e ∙ filled-zeros (at-start .args .n) (at-start .args .room .now)
 
 pub clear-halves-spec : {M : Type 1} → statement M
 clear-halves-spec =

@@ -1,4 +1,5 @@
--- The count so far is that of the equations before x. Assumes nothing.
+-- The loop keeps that the count so far is that of the equations before x; the equations left, n - x, get fewer.
+-- Assumes nothing.
 use mathlib.Core.Path.{_≡_, refl, ap, _∙_}
 use Prim.Native.Nat.{_-_, _≤_}
 use native.Mathlib.Omega.{arith}

@@ -1,4 +1,5 @@
--- The count so far and the pairs before `from` make the count of the pairs before p. Assumes nothing.
+-- The loop keeps that the count so far and the pairs before `from` make the count of the pairs before p; the pairs left,
+-- end - p, get fewer. Assumes nothing.
 use mathlib.Core.Path.{_≡_, refl, ap, _∙_}
 use Prim.Native.Nat.{ℕ, _+_, _-_, _≤_}
 use native.Mathlib.Nat.{add-zero}
@@ -30,8 +31,9 @@ cast-r c = tt
 
 add-r : tie.Need-add-r Inv-loop μ-loop
 add-r c =
-    let l = c .before .before .loop in
-    let a = c .before .before .before .args in
+    let at-loop = c .before .before in
+    let l = at-loop .loop in
+    let a = at-loop .before .args in
     let e = byte-small (eqb (getD (a .values .now) (l .p) 0) 1) in
     omega arith
 
@@ -43,8 +45,9 @@ loop-less c = search needs
 
 loop-again : tie.Need-loop-again Inv-loop μ-loop
 loop-again c =
-    let l = c .before .before .loop in
-    let a = c .before .before .before .args in
+    let at-loop = c .before .before in
+    let l = at-loop .loop in
+    let a = at-loop .before .args in
     let v = eqb (getD (a .values .now) (l .p) 0) 1 in
     let e = byte-small v in
     (omega arith, omega arith, trues-more (l .p) (valueAt (a .values .now)) _ (l .r) _ (l .inv .2) (byte-bit v))

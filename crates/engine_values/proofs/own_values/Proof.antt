@@ -1,4 +1,5 @@
--- The pairs before p have their own values, those from p on are as they were; x rows are filled. Assumes nothing.
+-- The loop keeps that the pairs before p have their own values, those from p on are as they were, and x rows are filled; the
+-- pairs left, n - p, get fewer. Assumes nothing.
 use mathlib.Core.Path.{_≡_, refl, sym, ap, _∙_}
 use Prim.Native.Nat.{ℕ, _+_, _-_, _*_, _≤_, _<_, min}
 use native.Mathlib.Nat.{zero-mul, min-zero}
@@ -19,12 +20,16 @@ Inv-loop equations n values₀ states p₀ x₀ values p x = (p ≤ n) × (x ≤
 abbrev μ-loop : tie.MeasureT-loop
 μ-loop equations n values₀ states p₀ x₀ values p x = n - p
 
+-- The points of the program: from what is known at a later one to what was known at an earlier one.
+abbrev start-before-struct-known : tie.After-struct-known Inv-loop μ-loop → tie.Start Inv-loop μ-loop
+start-before-struct-known c = c .before .before .before
+
 cast-states : tie.Need-cast-states Inv-loop μ-loop
 cast-states c = search needs
 
 loop-holds : tie.Need-loop-holds Inv-loop μ-loop
 loop-holds c =
-    let a = c .before .before .before .args in
+    let a = start-before-struct-known c .args in
     (omega arith, omega arith, rw (zero-mul, min-zero), filled-none (ownByte (a .sizes .states) (a .equations .now)) (a .values .now))
 
 sub-least : tie.Need-sub-least Inv-loop μ-loop
@@ -48,7 +53,7 @@ part-set-all-start c = omega arith
 part-set-all-end : tie.Need-part-set-all-end Inv-loop μ-loop
 part-set-all-end c =
     let at-loop = c .before .before .before in
-    let a = at-loop .before .before .before .before .args in
+    let a = start-before-struct-known (at-loop .before) .args in
     let s = at-loop .loop in
     let e = ap length (s .inv .3) ∙ filled-long (s .p) (ownByte (a .sizes .states) (a .equations .now)) (a .values .now) (omega arith) in
     omega arith
@@ -64,34 +69,34 @@ loop-less c = search needs
 
 loop-again : tie.Need-loop-again Inv-loop μ-loop
 loop-again c =
-    let at-loop = c .before .before .before .before .before .before .before in
-    let a = at-loop .before .before .before .before .args in
-    let s = at-loop .loop in
-    let t = c .before .before .before .before .before .before .loop-test .taken in
-    let row = c .before .before .before .before .before .least in
+    let after-set-all = c .before .before in
+    let after-own-byte = after-set-all .before .before in
+    let in-loop = after-own-byte .before .before in
+    let a = start-before-struct-known (in-loop .before .before) .args in
+    let s = in-loop .before .loop in
+    let t = in-loop .loop-test .taken in
+    let row = after-own-byte .before .least in
     let k = row .result in
-    let own = c .before .before .before .before .own-byte in
+    let own = after-own-byte .own-byte in
     let e : k ≡ min (a .n - s .p) (a .sizes .states) = row .ensures in
     let is-own : (q : ℕ) → s .p ≤ q → q < s .p + k → ownByte (a .sizes .states) (a .equations .now) q ≡ own .result = λ q l h.
     ap (λ (y : ℕ). bit (eqb (unword (getD (a .equations .now) y 0) .kind) 1)) (row-of (a .n) (a .sizes .states) (s .x) (s .p) q t (s .inv .2) l (omega arith)) ∙ sym (own .ensures) in (
       omega arith,
       omega arith,
       ap (λ (j : ℕ). s .p + j) e ∙ row-end (a .n) (a .sizes .states) (s .x) (s .p) t (s .inv .2),
-      filled-row (s .p) k (own .result) (ownByte (a .sizes .states) (a .equations .now)) (a .values .now) (s .values) _ (omega arith) (s .inv .3) is-own (c .before .before .set-all .ensures),
+      filled-row (s .p) k (own .result) (ownByte (a .sizes .states) (a .equations .now)) (a .values .now) (s .values) _ (omega arith) (s .inv .3) is-own (after-set-all .set-all .ensures),
     )
 
 same-length : tie.Need-same-length Inv-loop μ-loop
 same-length c =
-    let at-loop = c .before in
-    let a = at-loop .before .before .before .before .args in
-    let s = at-loop .loop in
+    let a = start-before-struct-known (c .before .before) .args in
+    let s = c .before .loop in
     ap length (s .inv .3) ∙ filled-long (s .p) (ownByte (a .sizes .states) (a .equations .now)) (a .values .now) (omega arith)
 
 returns : tie.Need-returns Inv-loop μ-loop
 returns c =
-    let at-loop = c .before in
-    let a = at-loop .before .before .before .before .args in
-    let s = at-loop .loop in
+    let a = start-before-struct-known (c .before .before) .args in
+    let s = c .before .loop in
     let e : s .p ≡ a .n = omega arith in
     s .inv .3 ∙ ap (λ (p : ℕ). filled p (ownByte (a .sizes .states) (a .equations .now)) (a .values .now)) e
     ∙ filled-bits (a .n) (λ p. eqb (kindIn (a .sizes) (a .equations .now) p) 1) (a .values .now)

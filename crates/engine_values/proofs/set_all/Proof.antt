@@ -1,4 +1,5 @@
--- The places before j hold v, those from j on are as they were. Assumes nothing.
+-- The loop keeps that the places before j hold v and those from j on are as they were; the places left, n - j, get fewer.
+-- Assumes nothing.
 use mathlib.Core.Path.{_≡_, refl, ap, _∙_}
 use Prim.Native.Nat.{ℕ, _-_, _≤_}
 use native.Mathlib.Omega.{arith}

@@ -15,7 +15,9 @@ cast-result c = search needs
 
 returns : tie.Need-returns
 unfolding labelOk
-returns c = highest-bit (c .before .args .v) (c .before .args .z .propositions) (omega arith)
+returns c =
+    let at-start = c .before in
+    highest-bit (at-start .args .v) (at-start .args .z .propositions) (omega arith)
 
 pub label-ok-spec : {M : Type 1} → statement M
 label-ok-spec = tie.close (tie.spec sub-result cast-result returns)

@@ -15,11 +15,15 @@ returns-2 c = rw (le-ltb _ _ (c .before .before .if1 .left), lt-ltb _ _ (c .befo
 
 returns-3 : tie.Need-returns-3
 unfolding operandsOk
-returns-3 c = rw (le-ltb _ _ (c .before .before .before .before .if1 .left), le-ltb _ _ (c .before .before .before .if2 .left), lt-ltb _ _ (c .before .before .if3 .taken)) refl
+returns-3 c =
+    let in-then3 = c .before .before in
+    rw (le-ltb _ _ (in-then3 .before .before .if1 .left), le-ltb _ _ (in-then3 .before .if2 .left), lt-ltb _ _ (in-then3 .if3 .taken)) refl
 
 returns-4 : tie.Need-returns-4
 unfolding operandsOk
-returns-4 c = rw (le-ltb _ _ (c .before .before .before .before .if1 .left), le-ltb _ _ (c .before .before .before .if2 .left), le-ltb _ _ (c .before .before .if3 .left)) refl
+returns-4 c =
+    let in-else3 = c .before .before in
+    rw (le-ltb _ _ (in-else3 .before .before .if1 .left), le-ltb _ _ (in-else3 .before .if2 .left), le-ltb _ _ (in-else3 .if3 .left)) refl
 
 pub operands-ok-spec : {M : Type 1} → statement M
 operands-ok-spec = tie.close (tie.spec returns returns-2 returns-3 returns-4)

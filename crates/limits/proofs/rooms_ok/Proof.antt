@@ -16,7 +16,7 @@ cast-result-2 c = search needs
 
 returns : tie.Need-returns
 unfolding roomsOk
-returns c = rw (c .before .before .before .before .before .before .pairs-of .ensures .0) refl
+returns c = let after-pairs-of = c .before .before .before .before .before .before in rw (after-pairs-of .pairs-of .ensures .0) refl
 
 pub rooms-ok-spec : {M : Type 1} → statement M
 rooms-ok-spec = tie.close (tie.spec pairs-of-requires cast-result cast-result-2 returns)

@@ -28,8 +28,9 @@ returns-2 c = rw (c .before .enum-told .given .1) (c .on-end .ensures)
 
 returns-3 : tie.Need-returns-3
 returns-3 c =
-    let p = c .before .pre in
-    move-or-end _ (sofarOf (c .before .args .x)) (c .before .args .rec) (p .0) (p .1) (c .match .keys3)
+    let at-start = c .before in
+    let p = at-start .pre in
+    move-or-end _ (sofarOf (at-start .args .x)) (at-start .args .rec) (p .0) (p .1) (c .match .keys3)
 
 pub after-equations-spec : {M : Type 1} → statement M
 after-equations-spec =

@@ -19,16 +19,14 @@ asked-requires c κs =
 
 forward-requires : tie.Need-forward-requires
 forward-requires c κs =
-    let at-turn = c .before in
-    let at-start = start-before-turn at-turn in
-    ready-inside _ _ _ (at-start .args .t) _ _ (at-start .pre) (at-turn .turn .ensures) (c .asked .ensures)
+    let at-start = start-before-turn (c .before) in
+    ready-inside _ _ _ (at-start .args .t) _ _ (at-start .pre) (c .before .turn .ensures) (c .asked .ensures)
 
 returns : tie.Need-returns
 returns c =
-    let at-asked = c .before in
-    let at-turn = at-asked .before in
-    let at-start = start-before-turn at-turn in
-    ready-asked _ _ _ (at-start .args .t) _ _ _ (at-start .pre) (at-turn .turn .ensures) (at-asked .asked .ensures) (c .forward .ensures)
+    let after-turn = c .before .before in
+    let at-start = start-before-turn after-turn in
+    ready-asked _ _ _ (at-start .args .t) _ _ _ (at-start .pre) (after-turn .turn .ensures) (c .before .asked .ensures) (c .forward .ensures)
 
 pub judge-turn-spec : {M : Type 1} → statement M
 judge-turn-spec = tie.close (tie.spec turn-requires asked-requires forward-requires returns)

@@ -10,21 +10,16 @@ use borrow.Author.Tests.{ltb-true, not-false}
 use borrow.Author.Needs.{needs}
 use Rattle.lists.specs.Tests.{and-is}
 use Rattle.rules.specs.Model.{moveOk}
-use Rattle.rules.specs.Moves.{pack, source}
+use Rattle.rules.specs.Limits.{most-moves}
+use Rattle.rules.specs.Moves.{source}
 use Rattle.rules.specs.Records.{Turn, next}
 use Rattle.rules.specs.Load.{State, inside, moveDemands, movingWith, afterMove}
+use Rattle.words.specs.Words.{packOf}
 use Rattle.limits.specs.Lent.{lengthsBy}
 use Rattle.model_judge.specs.Progress.{sofarOf}
 use Rattle.model_judge.specs.Demands.{fails, meets, below-both, source-back}
 use Rattle.model_judge.proofs.on_move.Statement.{statement}
 use Rattle.model_judge.proofs.on_move.Tie as tie
-
--- The points of the program: from what is known at a later one to what was known at an earlier one.
-abbrev packed-before-move-ok : tie.After-move-ok → tie.After-packed
-packed-before-move-ok c = c .before .before
-
-abbrev start-before-move-ok : tie.After-move-ok → tie.Start
-start-before-move-ok c = c .before .before .before .before .before .before
 
 -- The demands on the move, its number, and what is read with it.
 abbrev demands : tie.Start → List (ℕ × Bool)
@@ -32,10 +27,26 @@ demands s =
     let a = s .args in moveDemands (lengthsBy (a .l)) (sofarOf (a .x)) (a .m .source .0) (a .m .action .0) (a .m .target .0)
 
 abbrev number : tie.Start → ℕ
-number s = let m = s .args .m in pack (m .source .0) (m .action .0) (m .target .0)
+number s = packOf (s .args .m)
 
 abbrev read-with : tie.Start → Turn State
 read-with s = next (inside (afterMove (sofarOf (s .args .x)) (number s)))
+
+-- The points of the program: from what is known at a later one to what was known at an earlier one.
+abbrev start-before-packed : tie.After-packed → tie.Start
+start-before-packed c = c .before .before .before .before
+
+abbrev start-before-move-ok : tie.After-move-ok → tie.Start
+start-before-move-ok c = start-before-packed (c .before .before)
+
+abbrev packed-before-else1 : tie.Else1 → tie.After-packed
+packed-before-else1 c = c .before .before .before
+
+abbrev else1-before-else2 : tie.Else2 → tie.Else1
+else1-before-else2 c = c .before .before
+
+abbrev start-before-struct-known4 : tie.After-struct-known4 → tie.Start
+start-before-struct-known4 c = start-before-move-ok (else1-before-else2 (c .before .before .before) .before)
 
 cast-count : tie.Need-cast-count
 cast-count c = search needs
@@ -56,30 +67,33 @@ returns c =
 
 returns-2 : tie.Need-returns-2
 returns-2 c =
-    let at-ok = c .before .before .before in
-    let at-start = start-before-move-ok at-ok in
+    let in-else1 = c .before .before in
+    let after-packed = packed-before-else1 in-else1 in
+    let at-start = start-before-packed after-packed in
     fails 2 (demands at-start) (read-with at-start)
-    (ap not (at-start .pre .1), (rw (at-ok .move-ok .ensures) at (c .before .before .if1 .left), rw (packed-before-move-ok at-ok .packed .ensures .0) at (c .if2 .taken)))
+    (ap not (at-start .pre .1), (rw (in-else1 .before .move-ok .ensures) at (in-else1 .if1 .left), rw (after-packed .packed .ensures .0) at (c .if2 .taken)))
 
 returns-3 : tie.Need-returns-3
 returns-3 c =
-    let at-ok = c .before .before .before .before .before in
-    let at-start = start-before-move-ok at-ok in
+    let in-else2 = c .before .before in
+    let in-else1 = else1-before-else2 in-else2 in
+    let after-packed = packed-before-else1 in-else1 in
+    let at-start = start-before-packed after-packed in
     let a = at-start .args in
     fails 3 (demands at-start) (read-with at-start) (
       ap not (at-start .pre .1),
       (
-        rw (at-ok .move-ok .ensures) at (c .before .before .before .before .if1 .left),
-        (rw (packed-before-move-ok at-ok .packed .ensures .0) at (c .before .before .if2 .left), rw (below-both (a .x .moves .count) 1024 (a .l .moves)) at (c .if3 .taken)),
+        rw (in-else1 .before .move-ok .ensures) at (in-else1 .if1 .left),
+        (rw (after-packed .packed .ensures .0) at (in-else2 .if2 .left), rw (below-both (a .x .moves .count) most-moves (a .l .moves)) at (c .if3 .taken)),
       ),
     )
 
 add-t16 : tie.Need-add-t16
 add-t16 c =
-    let a = start-before-move-ok (c .before .before .before .before .before .before) .args in
+    let a = start-before-struct-known4 c .args in
     let n = a .x .moves .count in
-    let k = and-is (ltb n 1024) (ltb n (a .l .moves)) .0 (not-false (ltb n 1024 && ltb n (a .l .moves)) (c .before .if3 .left)) in
-    let h = ltb-true n 1024 (k .0) in
+    let k = and-is (ltb n most-moves) (ltb n (a .l .moves)) .0 (not-false (ltb n most-moves && ltb n (a .l .moves)) (c .before .if3 .left)) in
+    let h = ltb-true n most-moves (k .0) in
     omega arith
 
 add-t17 : tie.Need-add-t17
@@ -87,11 +101,14 @@ add-t17 c = search needs
 
 returns-4 : tie.Need-returns-4
 returns-4 c =
-    let at-ok = c .before .before .before .before .before .before in
-    let at-start = start-before-move-ok at-ok in
+    let in-else2 = c .before .before .before in
+    let in-else1 = in-else2 .before .before in
+    let after-moving-with = in-else1 .before .before in
+    let after-packed = after-moving-with .before in
+    let at-start = start-before-packed after-packed in
     let a = at-start .args in
     let fine = moveOk (a .x .sizes) (a .m .source .0) (a .m .action .0) (a .m .target .0) in
-    let ok : not fine ≡ false = rw (at-ok .move-ok .ensures) at (c .before .before .before .before .before .if1 .left) in
+    let ok : not fine ≡ false = rw (in-else1 .before .move-ok .ensures) at (in-else1 .if1 .left) in
     let from : source (number at-start) ≡ a .m .source .0 = source-back (sofarOf (a .x)) _ _ _ (at-start .pre .0) (not-false fine ok) in
     let x = sofarOf (a .x) in
     let says : ℕ → Turn State = λ k. next (inside (record {
@@ -102,10 +119,10 @@ returns-4 c =
       signs = x .signs;
       moves = record { count = suc (x .moves .count); least = suc (number at-start); moving = k };
     })) in
-    rw (packed-before-move-ok at-ok .packed .ensures .0, add-one, add-one)
-    (ap says (at-ok .before .moving-with .ensures ∙ ap (movingWith (x .moves .moving)) (sym from))
+    rw (after-packed .packed .ensures .0, add-one, add-one)
+    (ap says (after-moving-with .moving-with .ensures ∙ ap (movingWith (x .moves .moving)) (sym from))
     ∙ meets (demands at-start) (read-with at-start)
-    (ap not (at-start .pre .1), (ok, (rw (packed-before-move-ok at-ok .packed .ensures .0) at (c .before .before .before .if2 .left), (rw (below-both (a .x .moves .count) 1024 (a .l .moves)) at (c .before .if3 .left), tt)))))
+    (ap not (at-start .pre .1), (ok, (rw (after-packed .packed .ensures .0) at (in-else2 .if2 .left), (rw (below-both (a .x .moves .count) most-moves (a .l .moves)) at (c .before .if3 .left), tt)))))
 
 pub on-move-spec : {M : Type 1} → statement M
 on-move-spec =

@@ -1,7 +1,7 @@
 -- `model_judge::outside_block` meets its contract. Assumes nothing.
 use native.Mathlib.Omega.{arith}
 use Rattle.limits.specs.Lent.{lengthsBy}
-use Rattle.model_judge.specs.Due.{block-only, moves-due}
+use Rattle.model_judge.specs.Due.{block-only, moves-after-blocks}
 use Rattle.model_judge.specs.Plain.{plain}
 use Rattle.model_judge.specs.Progress.{sofarOf}
 use borrow.Author.Needs.{needs}
@@ -25,8 +25,7 @@ after-equations-requires : tie.Need-after-equations-requires
 after-equations-requires c κs =
     let at-start = start-before-struct-known3 (c .before) in
     let k = at-start .pre .0 in
-    let h = c .if2 .taken in
-    (k, moves-due (sofarOf (at-start .args .x)) (at-start .pre .1 .0) (omega arith) (omega arith))
+    (k, moves-after-blocks _ k (at-start .pre .1 .1) (at-start .pre .1 .0) (c .if2 .taken))
 
 returns-2 : tie.Need-returns-2
 returns-2 c = search needs

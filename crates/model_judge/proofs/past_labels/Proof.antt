@@ -1,6 +1,5 @@
 -- `model_judge::past_labels` meets its contract. Assumes nothing.
 use mathlib.Core.Path.{refl}
-use borrow.Author.Needs.{needs}
 use Rattle.model_judge.specs.PassingLaws.{labels-passed}
 use Rattle.model_judge.proofs.past_labels.Statement.{statement}
 use Rattle.model_judge.proofs.past_labels.Tie as tie
@@ -9,7 +8,8 @@ labels-run-requires : tie.Need-labels-run-requires
 labels-run-requires c κs = c .before .before .before .before .pre .0 .inside-bytes
 
 returns : tie.Need-returns
-returns c = let at-start = c .before .before .before .before .before in
+returns c =
+    let at-start = c .before .before .before .before .before in
     let x = at-start .args .x in
     λ l. (_, _, refl, labels-passed l _ x (at-start .args .at) _ (at-start .pre .0 .kept) (at-start .pre .1) (c .labels-run .ensures) .1)
 

@@ -14,9 +14,9 @@ moves-run-requires c κs = let e = c .most-lent .ensures in
     (c .before .before .before .before .pre .0 .inside-bytes, omega arith)
 
 returns : tie.Need-returns
-returns c = let at-lent = c .before in
-    let at-start = at-lent .before .before .before .before in
-    (_, _, refl, moves-passed _ _ (at-start .args .x) (at-start .args .at) _ (at-start .pre .0 .kept) (at-start .pre .1) (rw (at-lent .most-lent .ensures) at (c .moves-run .ensures)) .1)
+returns c =
+    let at-start = c .before .before .before .before .before in
+    (_, _, refl, moves-passed _ _ (at-start .args .x) (at-start .args .at) _ (at-start .pre .0 .kept) (at-start .pre .1) (rw (c .before .most-lent .ensures) at (c .moves-run .ensures)) .1)
 
 pub past-moves-spec : {M : Type 1} → statement M
 past-moves-spec = tie.close (tie.spec most-lent-requires moves-run-requires returns)

@@ -1,4 +1,5 @@
--- `model_judge::signs_to` meets its contract. Assumes nothing.
+-- `model_judge::signs_to` meets its contract. The loop's invariant: the first i words hold the first i equations; the measure: the
+-- equations left. Assumes nothing.
 use mathlib.Core.Path.{sym}
 use Prim.Native.Nat.{_-_, _≤_}
 use native.Mathlib.Omega.{arith}

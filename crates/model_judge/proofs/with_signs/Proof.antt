@@ -1,7 +1,7 @@
 -- `model_judge::with_signs` meets its contract. Assumes nothing.
 use native.Mathlib.Omega.{arith}
 use Rattle.limits.specs.Lent.{lengthsBy}
-use Rattle.model_judge.specs.Due.{signed-only, moves-due}
+use Rattle.model_judge.specs.Due.{signed-only, moves-after-signs}
 use Rattle.model_judge.specs.Plain.{plain}
 use Rattle.model_judge.specs.Progress.{sofarOf}
 use borrow.Author.Needs.{needs}
@@ -15,6 +15,9 @@ start-before-struct-known2 c = c .before .before
 abbrev start-before-struct-known3 : tie.After-struct-known3 → tie.Start
 start-before-struct-known3 c = start-before-struct-known2 (c .before .before)
 
+abbrev start-before-known-told : tie.After-known-told → tie.Start
+start-before-known-told c = start-before-struct-known3 (c .before .before .before .before)
+
 cast-if1 : tie.Need-cast-if1
 cast-if1 c = search needs
 
@@ -22,7 +25,7 @@ after-equations-requires : tie.Need-after-equations-requires
 after-equations-requires c κs =
     let at-start = start-before-struct-known2 (c .before) in
     let k = at-start .pre .0 in
-    (k, moves-due (sofarOf (at-start .args .x)) (omega arith) (omega arith) (omega arith))
+    (k, moves-after-signs _ k (at-start .pre .1) (c .if1 .taken))
 
 returns : tie.Need-returns
 returns c = search needs
@@ -43,7 +46,10 @@ returns-3 c =
     signed-only _ (sofarOf (at-start .args .x)) (at-start .args .rec) (at-start .pre .0) (at-start .pre .1) (omega arith) (omega arith) (c .match .keys2)
 
 on-signed-requires : tie.Need-on-signed-requires
-on-signed-requires c κs = search needs
+on-signed-requires c κs =
+    let at-start = start-before-known-told c in
+    let k = at-start .pre .0 in
+    (k, (at-start .pre .1, omega arith))
 
 returns-4 : tie.Need-returns-4
 unfolding plain

@@ -34,11 +34,10 @@ cast-result : tie.Need-cast-result
 cast-result c = search needs
 
 returns-2 : tie.Need-returns-2
-returns-2 c = λ e.
-    let at-ok = c .before in
-    let at-set = at-ok .before .before .before in
-    let at-state = at-set .before in
-    let k = simp and-is at (rw (at-ok .label-ok .ensures, at-set .u32-at .ensures, at-state .u16-at .ensures) at e) in
+returns-2 c =
+    let after-u32-at = c .before .before .before .before in
+    λ e.
+    let k = simp and-is at (rw (c .before .label-ok .ensures, after-u32-at .u32-at .ensures, after-u32-at .before .u16-at .ensures) at e) in
     record {
       inside-bytes = omega arith;
       kind = eqb-is _ _ .0 (k .0 .0 .0 .0);

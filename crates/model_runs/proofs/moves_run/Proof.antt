@@ -21,8 +21,7 @@ pass-all-requires : tie.Need-pass-all-requires
 pass-all-requires c κs = search needs
 
 returns-2 : tie.Need-returns-2
-returns-2 c = let at-all = c .before .before in
-    at-all .pass-all .ensures _ (omega arith) (c .before .if2 .taken)
+returns-2 c = c .before .before .pass-all .ensures _ (omega arith) (c .before .if2 .taken)
 
 one-by-one-requires : tie.Need-one-by-one-requires
 one-by-one-requires c κs = search needs

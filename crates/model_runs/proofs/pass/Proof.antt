@@ -37,13 +37,12 @@ add-end : tie.Need-add-end
 add-end c = search needs
 
 returns : tie.Need-returns
-returns c = let at-least = c .before in
-    let at-packed = at-least .before .before .before in
-    let at-ok = at-packed .before in
-    let at-move = at-ok .before .before in
-    let at-start = at-move .before .before in (
-      rw (c .moving-with .ensures, at-least .packed2 .ensures .0, at-move .move-at .ensures, add-one, add-one) refl,
-      λ e. let k = simp and-is at (rw (at-packed .packed .ensures .0, at-ok .move-ok .ensures, at-move .move-at .ensures) at e) in
+returns c =
+    let after-packed = c .before .before .before .before in
+    let after-move-at = after-packed .before .before .before in
+    let at-start = after-move-at .before .before in (
+      rw (c .moving-with .ensures, c .before .packed2 .ensures .0, after-move-at .move-at .ensures, add-one, add-one) refl,
+      λ e. let k = simp and-is at (rw (after-packed .packed .ensures .0, after-packed .before .move-ok .ensures, after-move-at .move-at .ensures) at e) in
           record { inside-bytes = at-start .pre .0; kind = eqb-is _ _ .0 (k .0 .0); fits = k .0 .1; order = leb-is _ _ .0 (k .1) },
     )
 

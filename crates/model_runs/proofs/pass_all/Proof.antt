@@ -1,5 +1,5 @@
 -- `model_runs::pass_all` meets its contract. The loop's invariant: k moves lie behind, whatever they are, and where all of them are good,
--- there are good moves from the start to here. Assumes nothing.
+-- good moves lead from the start to here; the measure: the moves left. Assumes nothing.
 use mathlib.Core.Path.{_≡_}
 use mathlib.Core.Bool.{true}
 use Prim.Native.Nat.{ℕ, _+_, _-_, _*_, _≤_}
@@ -31,15 +31,16 @@ loop-less : tie.Need-loop-less Inv-loop μ-loop
 loop-less c = search needs
 
 loop-again : tie.Need-loop-again Inv-loop μ-loop
-loop-again c = let at-pass = c .before .before in
-    let at-loop = at-pass .before .before in
+loop-again c =
+    let after-pass = c .before .before in
+    let at-loop = after-pass .before .before in
     let inv = at-loop .loop .inv in
-    let p = at-pass .pass .ensures in
+    let p = after-pass .pass .ensures in
     rw (p .0) (
       omega arith,
       omega arith,
       omega arith,
-      λ room h e. let both = and-is (at-loop .loop .good) _ .0 e in more _ (inv .3 room h (both .0)) (omega arith) (p .1 (both .1)),
+      λ room h e. let both = and-is (at-loop .loop .good) _ .0 e in more _ (inv .3 room h (both .0)) (omega arith, p .1 (both .1)),
     )
 
 returns : tie.Need-returns Inv-loop μ-loop

@@ -32,9 +32,10 @@ same-length : tie.Need-same-length
 same-length c = search needs
 
 returns : tie.Need-returns
-returns c = let at-label = c .before .before .before in
-    let at-set = at-label .before .before .before in
-    (c .with-label .ensures, at-label .put-label .ensures ∙ rw (at-set .u32-at .ensures, at-set .before .u16-at .ensures) refl)
+returns c =
+    let after-put-label = c .before .before .before in
+    let after-u32-at = after-put-label .before .before .before in
+    (c .with-label .ensures, after-put-label .put-label .ensures ∙ rw (after-u32-at .u32-at .ensures, after-u32-at .before .u16-at .ensures) refl)
 
 pub put-label-at-spec : {M : Type 1} → statement M
 put-label-at-spec =

@@ -1,15 +1,16 @@
-use Rattle.model_runs.specs.Runs.{packed}
-use Rattle.bytes_read.specs.Places.{moveAt}
-use Rattle.rules.specs.declared.Move.{Move}
-use Rattle.rules.specs.Moves.{wrap}
-use borrow.Author.Needs.{needs}
--- `model_store::put_moves` meets its contract. Assumes nothing.
+-- `model_store::put_moves` meets its contract. The loop's invariant: the moves so far, put before those still to come, are all of
+-- them; the measure: the moves left. Assumes nothing.
 use mathlib.Core.List.{List}
 use mathlib.Core.Path.{_≡_, refl, sym, ap, _∙_}
 use Prim.Native.Nat.{ℕ, _+_, _-_, _*_, _/_, _≤_}
 use native.Mathlib.Omega.{arith}
 use lib.ListN.{length, set, length-set}
 use lib.Seq.{sets}
+use borrow.Author.Needs.{needs}
+use Rattle.rules.specs.Moves.{wrap}
+use Rattle.rules.specs.declared.Move.{Move}
+use Rattle.words.specs.Words.{packOf}
+use Rattle.bytes_read.specs.Places.{moveAt}
 use Rattle.model_store.specs.RunLaws.{moves-step, moves-end}
 use Rattle.model_store.specs.Stored.{movesFrom}
 use Rattle.model_store.proofs.put_moves.Statement.{statement}
@@ -23,11 +24,15 @@ Inv-loop bytes moves₀ at from n i₀ moves i =
 abbrev μ-loop : tie.MeasureT-loop
 μ-loop bytes moves₀ at from n i₀ moves i = n - i
 
+-- The points of the program: from what is known at a later one to what was known at an earlier one.
+abbrev start-before-slice-known : tie.After-slice-known Inv-loop μ-loop → tie.Start Inv-loop μ-loop
+start-before-slice-known c = c .before .before
+
 sub-n : tie.Need-sub-n Inv-loop μ-loop
 sub-n c = search needs
 
 loop-holds : tie.Need-loop-holds Inv-loop μ-loop
-loop-holds c = let a = c .before .before .args in
+loop-holds c = let a = start-before-slice-known c .args in
     let f : a .from + 0 ≡ a .from = omega arith in
     let p : a .at + 6 * 0 ≡ a .at = omega arith in
     let n : (length (a .bytes .now) - a .at) / 6 - 0 ≡ (length (a .bytes .now) - a .at) / 6 = omega arith in
@@ -61,16 +66,17 @@ loop-less : tie.Need-loop-less Inv-loop μ-loop
 loop-less c = search needs
 
 loop-again : tie.Need-loop-again Inv-loop μ-loop
-loop-again c = let at-word = c .before .before in
-    let at-packed = at-word .before in
-    let at-move = at-packed .before .before in
-    let at-loop = at-move .before .before in
-    let a = at-loop .before .before .before .args in
+loop-again c =
+    let after-set-word = c .before .before in
+    let after-packed = after-set-word .before in
+    let after-move-at = after-packed .before .before in
+    let at-loop = after-move-at .before .before in
+    let a = start-before-slice-known (at-loop .before) .args in
     let inv = at-loop .loop .inv in
     let i = at-loop .loop .i in
     let n = (length (a .bytes .now) - a .at) / 6 in
-    let e = at-word .set-word .ensures in
-    let w : at-packed .packed .result ≡ wrap (packed (moveAt (a .bytes .now) (a .at + 6 * i + 1))) = at-packed .packed .ensures ∙ ap (λ (m : Move). wrap (packed m)) (at-move .move-at .ensures) in (
+    let e = after-set-word .set-word .ensures in
+    let w : after-packed .packed .result ≡ wrap (packOf (moveAt (a .bytes .now) (a .at + 6 * i + 1))) = after-packed .packed .ensures ∙ ap (λ (m : Move). wrap (packOf m)) (after-move-at .move-at .ensures) in (
       omega arith,
       inv .1,
       ap length e ∙ simp length-set (inv .2),
@@ -82,8 +88,9 @@ same-length : tie.Need-same-length Inv-loop μ-loop
 same-length c = c .before .loop .inv .2
 
 returns : tie.Need-returns Inv-loop μ-loop
-returns c = let at-loop = c .before in
-    let a = at-loop .before .before .before .args in
+returns c =
+    let at-loop = c .before in
+    let a = start-before-slice-known (at-loop .before) .args in
     sym (at-loop .loop .inv .3 ∙ moves-end _ (at-loop .loop .moves) (a .at) (a .from) (at-loop .loop .i) _ (omega arith))
 
 pub put-moves-spec : {M : Type 1} → statement M

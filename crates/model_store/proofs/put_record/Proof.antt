@@ -1,10 +1,18 @@
--- `model_store::put_record` meets its contract. Assumes nothing.
-use mathlib.Core.Path.{refl}
+-- `model_store::put_record` meets its contract: case by case as `putRooms` says. Assumes nothing.
 use borrow.Author.Needs.{needs}
-use Rattle.model_store.specs.StoreLaws.{puts-nothing}
+use mathlib.Core.Path.{refl}
+use Rattle.model_store.specs.StoreLaws.{puts-nothing, sign-fits}
 use Rattle.model_store.specs.Stored.{putRooms}
 use Rattle.model_store.proofs.put_record.Statement.{statement}
 use Rattle.model_store.proofs.put_record.Tie as tie
+use Rattle.model_store.proofs.put_record.Reads as reads
+use Rattle.model_store.proofs.put_record.Lts as lts
+use Rattle.model_judge.proofs.signed_of.Reads as signed-of-reads
+use Rattle.model_store.proofs.equation_word.Reads as equation-word-reads
+use Rattle.model_store.proofs.put_label.Reads as put-label-reads
+use Rattle.model_store.proofs.zeros.Reads as zeros-reads
+use Rattle.rooms.proofs.set_word.Reads as set-word-reads
+use Rattle.words.proofs.word_of.Reads as word-of-reads
 
 enum-known-r : tie.Need-enum-known-r
 enum-known-r c = search needs
@@ -33,11 +41,11 @@ zeros-requires c κs = search needs
 enum-known-r-2 : tie.Need-enum-known-r-2
 enum-known-r-2 c = search needs
 
+equation-word-requires : tie.Need-equation-word-requires
+equation-word-requires c κs = search needs
+
 cast-set-word : tie.Need-cast-set-word
 cast-set-word c = search needs
-
-word-of-requires : tie.Need-word-of-requires
-word-of-requires c κs = search needs
 
 set-word-requires : tie.Need-set-word-requires
 set-word-requires c κs = search needs
@@ -54,26 +62,20 @@ cast-zeros-4 c = search needs
 zeros-requires-2 : tie.Need-zeros-requires-2
 zeros-requires-2 c κs = search needs
 
+signed-of-requires : tie.Need-signed-of-requires
+signed-of-requires c κs = search needs
+
+word-of-requires : tie.Need-word-of-requires
+word-of-requires c κs =
+    let after-r3 = c .before .before .before .before .before .before .before .before in
+    let at-start = after-r3 .before .before .before .before in
+    sign-fits (at-start .args .r) _ _ _ _ _ (after-r3 .r3 .given .1) (at-start .pre .1) (c .signed-of .ensures)
+
 cast-set-word-2 : tie.Need-cast-set-word-2
 cast-set-word-2 c = search needs
 
-signed-word-requires : tie.Need-signed-word-requires
-signed-word-requires c κs = search needs
-
 set-word-requires-2 : tie.Need-set-word-requires-2
 set-word-requires-2 c κs = search needs
-
-enum-known-r-4 : tie.Need-enum-known-r-4
-enum-known-r-4 c = search needs
-
-cast-set-word-3 : tie.Need-cast-set-word-3
-cast-set-word-3 c = search needs
-
-packed-requires : tie.Need-packed-requires
-packed-requires c κs = search needs
-
-set-word-requires-3 : tie.Need-set-word-requires-3
-set-word-requires-3 c κs = search needs
 
 same-length : tie.Need-same-length
 same-length c = search needs
@@ -83,7 +85,7 @@ unfolding putRooms
 returns c =
     let after-put-label = c .before .before in
     let after-r = after-put-label .before .before .before .before .before in
-    rw (after-r .r .given .1, after-put-label .put-label .ensures) refl
+    λ ms. rw (after-r .r .given .1, after-put-label .put-label .ensures) refl
 
 same-length-2 : tie.Need-same-length-2
 same-length-2 c = search needs
@@ -93,7 +95,7 @@ unfolding putRooms
 returns-2 c =
     let after-zeros = c .before .before in
     let after-enum-told = after-zeros .before .before .before .before in
-    rw (after-enum-told .enum-told .given .1, after-zeros .zeros .ensures) refl
+    λ ms. rw (after-enum-told .enum-told .given .1, after-zeros .zeros .ensures) refl
 
 same-length-3 : tie.Need-same-length-3
 same-length-3 c = search needs
@@ -102,8 +104,9 @@ returns-3 : tie.Need-returns-3
 unfolding putRooms
 returns-3 c =
     let after-set-word = c .before .before in
-    let after-r2 = after-set-word .before .before .before .before .before in
-    rw (after-r2 .r2 .given .1, after-set-word .set-word .ensures, after-set-word .before .word-of .ensures) refl
+    let after-equation-word = after-set-word .before .before .before in
+    let after-r2 = after-equation-word .before .before in
+    λ ms. rw (after-r2 .r2 .given .1, after-set-word .set-word .ensures, after-equation-word .equation-word .ensures) refl
 
 same-length-4 : tie.Need-same-length-4
 same-length-4 c = search needs
@@ -115,22 +118,15 @@ returns-4 : tie.Need-returns-4
 unfolding putRooms
 returns-4 c =
     let after-set-word2 = c .before .before in
-    let after-zeros2 = after-set-word2 .before .before .before .before .before .before in
+    let after-word-of = after-set-word2 .before .before .before in
+    let after-zeros2 = after-word-of .before .before .before .before in
     let after-r3 = after-zeros2 .before .before .before .before .before in
-    rw (after-r3 .r3 .given .1, after-set-word2 .set-word2 .ensures, after-set-word2 .before .signed-word .ensures, after-zeros2 .zeros2 .ensures) refl
-
-same-length-6 : tie.Need-same-length-6
-same-length-6 c = search needs
+    λ ms. rw (after-r3 .r3 .given .1, after-set-word2 .set-word2 .ensures, after-word-of .word-of .ensures, after-word-of .before .signed-of .ensures, after-zeros2 .zeros2 .ensures) refl
 
 returns-5 : tie.Need-returns-5
-unfolding putRooms
 returns-5 c =
-    let after-set-word3 = c .before .before in
-    let after-r4 = after-set-word3 .before .before .before .before .before in
-    rw (after-r4 .r4 .given .1, after-set-word3 .set-word3 .ensures, after-set-word3 .before .packed .ensures) refl
-
-returns-6 : tie.Need-returns-6
-returns-6 c = puts-nothing _ (c .before .before .before .before .args .r) _ (c .match .keys6)
+    let at-start = c .before .before .before in
+    λ ms. puts-nothing _ (at-start .args .r) _ (at-start .pre .1) (c .match .keys5)
 
 pub put-record-spec : {M : Type 1} → statement M
 put-record-spec =
@@ -145,20 +141,17 @@ put-record-spec =
     cast-zeros-2
     zeros-requires
     enum-known-r-2
+    equation-word-requires
     cast-set-word
-    word-of-requires
     set-word-requires
     enum-known-r-3
     cast-zeros-3
     cast-zeros-4
     zeros-requires-2
+    signed-of-requires
+    word-of-requires
     cast-set-word-2
-    signed-word-requires
     set-word-requires-2
-    enum-known-r-4
-    cast-set-word-3
-    packed-requires
-    set-word-requires-3
     same-length
     returns
     same-length-2
@@ -168,6 +161,4 @@ put-record-spec =
     same-length-4
     same-length-5
     returns-4
-    same-length-6
-    returns-5
-    returns-6)
+    returns-5)

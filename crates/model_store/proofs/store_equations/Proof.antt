@@ -6,31 +6,35 @@ use Rattle.model_store.proofs.store_equations.Statement.{statement}
 use Rattle.model_store.proofs.store_equations.Tie as tie
 
 -- The points of the program: from what is known at a later one to what was known at an earlier one.
-abbrev start-before-put : tie.After-put-equations → tie.Start
-start-before-put c = c .before .before .before .before .before
+abbrev start-before-put-equations : tie.After-put-equations → tie.Start
+start-before-put-equations c = c .before .before .before .before .before
 
-abbrev put-before-with : tie.After-with-equations → tie.After-put-equations
-put-before-with c = c .before .before .before
+abbrev put-equations-before-slice-known3 : tie.After-slice-known3 → tie.After-put-equations
+put-equations-before-slice-known3 c = c .before .before
+
+abbrev moves-due-before-store-moves-arg : tie.After-store-moves-arg → tie.After-moves-due
+moves-due-before-store-moves-arg c = c .before .before
 
 put-equations-requires : tie.Need-put-equations-requires
 put-equations-requires c κs = search needs
 
 with-equations-requires : tie.Need-with-equations-requires
-with-equations-requires c κs = let at-put = c .before .before in
-    let at-start = start-before-put at-put in
+with-equations-requires c κs =
+    let after-put-equations = put-equations-before-slice-known3 c in
+    let at-start = start-before-put-equations after-put-equations in
     let a = at-start .args in
-    (at-start .pre .kept, put-inside _ (a .x) (a .at) _ _ _ (at-start .pre) (at-put .put-equations .ensures) .0)
+    (at-start .pre .kept, put-inside _ (a .x) (a .at) _ _ _ (at-start .pre) (after-put-equations .put-equations .ensures) .0)
 
 moves-due-requires : tie.Need-moves-due-requires
 moves-due-requires c κs = search needs
 
 store-moves-requires : tie.Need-store-moves-requires
-store-moves-requires c κs = let at-due = c .before .before in
-    let at-with = at-due .before in
-    let at-put = put-before-with at-with in
-    let at-start = start-before-put at-put in
+store-moves-requires c κs =
+    let after-moves-due = moves-due-before-store-moves-arg c in
+    let after-put-equations = put-equations-before-slice-known3 (after-moves-due .before .before) in
+    let at-start = start-before-put-equations after-put-equations in
     let a = at-start .args in
-    (rw (at-with .with-equations .ensures) (put-inside _ (a .x) (a .at) _ _ _ (at-start .pre) (at-put .put-equations .ensures) .2), sym (at-due .moves-due .ensures) ∙ c .before .if1 .taken)
+    (rw (after-moves-due .before .with-equations .ensures) (put-inside _ (a .x) (a .at) _ _ _ (at-start .pre) (after-put-equations .put-equations .ensures) .2), sym (after-moves-due .moves-due .ensures) ∙ c .before .if1 .taken)
 
 same-length : tie.Need-same-length
 same-length c = search needs
@@ -39,23 +43,27 @@ same-length-2 : tie.Need-same-length-2
 same-length-2 c = search needs
 
 returns : tie.Need-returns
-returns c = let at-moves = c .before .before in
-    let at-with = at-moves .before .before .before .before in
-    let at-put = put-before-with at-with in
-    let at-start = start-before-put at-put in
+returns c =
+    let after-store-moves = c .before .before in
+    let after-with-equations = moves-due-before-store-moves-arg (after-store-moves .before) .before in
+    let after-put-equations = put-equations-before-slice-known3 (after-with-equations .before) in
+    let at-start = start-before-put-equations after-put-equations in
     let a = at-start .args in
-    let m = rw (at-with .with-equations .ensures) at (at-moves .store-moves .ensures) in
-    λ ls. stored-more _ _ _ _ _ _ _ (equations-stored _ (a .rec) (a .x) (a .at) ls _ _ _ _ (at-start .pre) (at-put .put-equations .ensures)) (m (a .rec) ls _)
+    let m = rw (after-with-equations .with-equations .ensures) at (after-store-moves .store-moves .ensures) in
+    λ ls. let r = m (a .rec) ls _ in
+    (stored-more _ _ _ _ _ _ _ (equations-stored _ (a .rec) (a .x) (a .at) ls _ _ _ _ (at-start .pre) (after-put-equations .put-equations .ensures)) (r .0), r .1)
 
 same-length-3 : tie.Need-same-length-3
 same-length-3 c = search needs
 
 returns-2 : tie.Need-returns-2
-returns-2 c = let at-with = c .before .before in
-    let at-put = put-before-with at-with in
-    let at-start = start-before-put at-put in
+returns-2 c =
+    let after-with-equations = c .before .before in
+    let after-put-equations = put-equations-before-slice-known3 (after-with-equations .before) in
+    let at-start = start-before-put-equations after-put-equations in
     let a = at-start .args in
-    λ ls. rw (at-with .with-equations .ensures) (equations-stored _ (a .rec) (a .x) (a .at) ls _ _ _ _ (at-start .pre) (at-put .put-equations .ensures))
+    let none = rw (after-with-equations .with-equations .ensures) at (sym (c .before .moves-due .ensures) ∙ c .if1 .left) in
+    λ ls. rw (after-with-equations .with-equations .ensures) (equations-stored _ (a .rec) (a .x) (a .at) ls _ _ _ _ (at-start .pre) (after-put-equations .put-equations .ensures), none)
 
 pub store-equations-spec : {M : Type 1} → statement M
 store-equations-spec =

@@ -15,10 +15,11 @@ same-length : tie.Need-same-length
 same-length c = search needs
 
 returns : tie.Need-returns
-returns c = let at-put = c .before .before in
-    let at-start = at-put .before .before .before .before .before .before in
+returns c =
+    let after-put-moves = c .before .before in
+    let at-start = after-put-moves .before .before .before .before .before .before in
     let a = at-start .args in
-    λ r ls es. rw (at-put .put-moves .ensures) (moves-stored _ r (a .x) (a .at) ls es _ _ (at-start .pre .0) (at-start .pre .1))
+    λ r ls es. rw (after-put-moves .put-moves .ensures) (moves-stored _ r (a .x) (a .at) ls es _ _ (at-start .pre .0) (at-start .pre .1), tt)
 
 pub store-moves-spec : {M : Type 1} → statement M
 store-moves-spec = tie.close (tie.spec cast-put-moves put-moves-requires same-length returns)

@@ -1,4 +1,5 @@
--- `model_store::zeros` meets its contract. Assumes nothing.
+-- `model_store::zeros` meets its contract. The loop's invariant: the zeros so far, put before those still to come, are all of them;
+-- the measure: the zeros left. Assumes nothing.
 use mathlib.Core.List.{List}
 use mathlib.Core.Path.{_≡_, refl, sym, ap, _∙_}
 use Prim.Native.Nat.{ℕ, _+_, _-_}
@@ -16,6 +17,10 @@ Inv-loop room₀ from to i₀ room i = (length room ≡ length room₀) × (sets
 abbrev μ-loop : tie.MeasureT-loop
 μ-loop room₀ from to i₀ room i = to - i
 
+-- The points of the program: from what is known at a later one to what was known at an earlier one.
+abbrev start-before-at-loop : tie.At-loop Inv-loop μ-loop → tie.Start Inv-loop μ-loop
+start-before-at-loop c = c .before .before
+
 loop-holds : tie.Need-loop-holds Inv-loop μ-loop
 loop-holds c = (refl, refl)
 
@@ -30,16 +35,20 @@ loop-less c = omega arith
 
 loop-again : tie.Need-loop-again Inv-loop μ-loop
 loop-again c =
-    let e = c .before .before .set-word .ensures in
-    let i = c .before .before .before .before .before .loop .i in
-    let to = c .before .before .before .before .before .before .before .args .to in
-    (ap length e ∙ simp length-set (c .before .before .before .before .before .loop .inv .0), c .before .before .before .before .before .loop .inv .1 ∙ zeros-step (c .before .before .before .before .before .loop .room) i to (omega arith) ∙ sym (ap (λ (v : List ℕ). sets v (i + 1) (replicate (to - (i + 1)) 0)) e))
+    let after-set-word = c .before .before in
+    let at-loop = after-set-word .before .before .before in
+    let e = after-set-word .set-word .ensures in
+    let i = at-loop .loop .i in
+    let to = start-before-at-loop at-loop .args .to in
+    (ap length e ∙ simp length-set (at-loop .loop .inv .0), at-loop .loop .inv .1 ∙ zeros-step (at-loop .loop .room) i to (omega arith) ∙ sym (ap (λ (v : List ℕ). sets v (i + 1) (replicate (to - (i + 1)) 0)) e))
 
 same-length : tie.Need-same-length Inv-loop μ-loop
 same-length c = c .before .loop .inv .0
 
 returns : tie.Need-returns Inv-loop μ-loop
-returns c = sym (c .before .loop .inv .1 ∙ zeros-end (c .before .loop .room) (c .before .loop .i) (c .before .before .before .args .to) (omega arith))
+returns c =
+    let at-loop = c .before in
+    sym (at-loop .loop .inv .1 ∙ zeros-end (at-loop .loop .room) (at-loop .loop .i) (start-before-at-loop at-loop .args .to) (omega arith))
 
 pub zeros-spec : {M : Type 1} → statement M
 zeros-spec =

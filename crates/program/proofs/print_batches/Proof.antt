@@ -1,6 +1,7 @@
--- The loop over the batches meets its contract. Assumes nothing.
+-- The loop over the batches meets its contract. It keeps that what the batches left will print completes what all of them
+-- print, and that no room changes its length; what is left of the input gets shorter. Assumes nothing.
 use mathlib.Core.Path.{_≡_, refl}
-use Prim.Native.Nat.{_-_}
+use Prim.Native.Nat.{_+_, _-_, _≤_, _<_}
 use native.Mathlib.Omega.{arith}
 use lib.ListN.{length}
 use borrow.Author.Needs.{needs}
@@ -18,11 +19,29 @@ Inv-loop input start labels equations values₀ marks₀ moves₀ index₀ queue
 abbrev μ-loop : tie.MeasureT-loop
 μ-loop input start labels equations values₀ marks₀ moves₀ index₀ queue₀ out₀ place session₀ from₀ at₀ values marks moves index queue out session from at = length input - from
 
+-- The start, from the head of the loop.
+abbrev start-of : tie.At-loop Inv-loop μ-loop → tie.Start Inv-loop μ-loop
+start-of c = c .before .before .before .before .before .before .before .before .before .before
+
+-- Where the turn began, from after its step.
+abbrev in-loop-of : tie.After-step Inv-loop μ-loop → tie.In-loop Inv-loop μ-loop
+in-loop-of c = c .before .before .before .before .before .before .before .before
+
+-- After the step, from the end of the turn.
+abbrev after-step-of : tie.After-struct-known Inv-loop μ-loop → tie.After-step Inv-loop μ-loop
+after-step-of c = c .before .before .before .before .before .before .before .before .before .before .before .before .before .before
+
+-- The part that a turn takes has a byte, and it is within the input.
+turn-takes : (c : tie.After-step Inv-loop μ-loop) → (0 < c .step .result .taken) × (in-loop-of c .before .loop .from + c .step .result .taken ≤ length (start-of (in-loop-of c .before) .args .input .now))
+turn-takes c =
+    let in-loop = in-loop-of c in
+    let at-loop = in-loop .before in
+    takes _ _ _ _ _ _ _ _ _ _ _ (at-loop .loop .inv .6) (in-loop .loop-test .taken) (c .step .result) _ _ (rw (tail-part (at-loop .loop .from) (start-of at-loop .args .input .now)) at (c .step .ensures))
+
 loop-holds : tie.Need-loop-holds Inv-loop μ-loop
 loop-holds c =
-    let a = c .before .before .before .before .before .before .before .before .before .args in
-    let p = c .before .before .before .before .before .before .before .before .before .pre in
-    (refl, refl, refl, refl, refl, refl, begins (a .input .now) (a .first) (roomsWith (a .labels .now) (a .equations .now) (a .values .now) (a .marks .now) (a .moves .now) (a .index .now) (a .queue .now)) (a .start) (a .place) (a .out .now) (p .1) (p .2))
+    let at-start = c .before .before .before .before .before .before .before .before .before in
+    (refl, refl, refl, refl, refl, refl, begins _ _ _ _ _ _ (at-start .pre .1) (at-start .pre .2))
 
 sub-step : tie.Need-sub-step Inv-loop μ-loop
 sub-step c = omega arith
@@ -35,38 +54,36 @@ part-step-end c = search needs
 
 step-requires : tie.Need-step-requires Inv-loop μ-loop
 step-requires c κs =
-    let b = c .before .before .before .before .before .before .before .before .loop .inv .6 .bound in
+    let at-loop = c .before .before .before .before .before .before .before .before in
+    let b = at-loop .loop .inv .6 .bound in
     omega arith
 
 add-from : tie.Need-add-from Inv-loop μ-loop
 add-from c =
-    let a = c .before .before .before .before .before .before .before .before .before .before .before .before .before .before .before .before .before .before .before .before .before .before .before .before .before .before .before .before .before .before .before .before .before .args in
-    let k = c .before .before .before .before .before .before .before .before .before .before .before .before .before .before .before .before .before .before .before .before .before .before .before .loop in
-    let less = c .before .before .before .before .before .before .before .before .before .before .before .before .before .before .before .before .before .before .before .before .before .before .loop-test .taken in
-    let l0 = roomsWith (a .labels .now) (a .equations .now) (a .values .now) (a .marks .now) (a .moves .now) (a .index .now) (a .queue .now) in
-    let here = roomsWith (a .labels .now) (a .equations .now) (k .values) (k .marks) (k .moves) (k .index) (k .queue) in
-    let t = takes (a .input .now) (a .first) l0 (a .start) (a .place) (a .out .now) (k .session) here (k .from) (k .at) (k .out) (k .inv .6) less (c .before .before .before .before .before .before .before .before .before .before .before .before .before .before .step .result) _ _ (rw (tail-part (k .from) (a .input .now)) at (c .before .before .before .before .before .before .before .before .before .before .before .before .before .before .step .ensures)) in
-    record { fits = omega (arith, t .1, c .before .before .before .before .before .before .before .before .before .before .before .before .before .before .before .before .before .before .before .before .before .before .before .before .before .before .before .before .before .before .before .before .before .pre .0) }
+    let after-step = after-step-of c in
+    let at-start = start-of (in-loop-of after-step .before) in
+    record { fits = omega (arith, turn-takes after-step .1, at-start .pre .0) }
 
 loop-less : tie.Need-loop-less Inv-loop μ-loop
 loop-less c =
-    let a = c .before .before .before .before .before .before .before .before .before .before .before .before .before .before .before .before .before .before .before .before .before .before .before .before .before .before .before .before .before .before .before .before .before .args in
-    let k = c .before .before .before .before .before .before .before .before .before .before .before .before .before .before .before .before .before .before .before .before .before .before .before .loop in
-    let less = c .before .before .before .before .before .before .before .before .before .before .before .before .before .before .before .before .before .before .before .before .before .before .loop-test .taken in
-    let l0 = roomsWith (a .labels .now) (a .equations .now) (a .values .now) (a .marks .now) (a .moves .now) (a .index .now) (a .queue .now) in
-    let here = roomsWith (a .labels .now) (a .equations .now) (k .values) (k .marks) (k .moves) (k .index) (k .queue) in
-    let t = takes (a .input .now) (a .first) l0 (a .start) (a .place) (a .out .now) (k .session) here (k .from) (k .at) (k .out) (k .inv .6) less (c .before .before .before .before .before .before .before .before .before .before .before .before .before .before .step .result) _ _ (rw (tail-part (k .from) (a .input .now)) at (c .before .before .before .before .before .before .before .before .before .before .before .before .before .before .step .ensures)) in
-    omega (arith, t, less)
+    let after-step = after-step-of c in
+    omega (arith, turn-takes after-step, in-loop-of after-step .loop-test .taken)
 
 loop-again : tie.Need-loop-again Inv-loop μ-loop
 loop-again c =
-    let a = c .before .before .before .before .before .before .before .before .before .before .before .before .before .before .before .before .before .before .before .before .before .before .before .before .before .before .before .before .before .before .before .before .before .args in
-    let k = c .before .before .before .before .before .before .before .before .before .before .before .before .before .before .before .before .before .before .before .before .before .before .before .loop in
-    let less = c .before .before .before .before .before .before .before .before .before .before .before .before .before .before .before .before .before .before .before .before .before .before .loop-test .taken in
-    let l0 = roomsWith (a .labels .now) (a .equations .now) (a .values .now) (a .marks .now) (a .moves .now) (a .index .now) (a .queue .now) in
-    let here = roomsWith (a .labels .now) (a .equations .now) (k .values) (k .marks) (k .moves) (k .index) (k .queue) in
-    let g = goes-on (a .input .now) (a .first) l0 (a .start) (a .place) (a .out .now) (k .session) here (k .from) (k .at) (k .out) (k .inv .6) less (c .before .before .before .before .before .before .before .before .before .before .before .before .before .before .step .result) _ _ (rw (tail-part (k .from) (a .input .now)) at (c .before .before .before .before .before .before .before .before .before .before .before .before .before .before .step .ensures)) in
-    (search needs, search needs, search needs, search needs, search needs, search needs, g)
+    let kept = (after-step-of c) .step .kept in
+    let inv = in-loop-of (after-step-of c) .before .loop .inv in (
+      search needs,
+      search needs,
+      search needs,
+      search needs,
+      search needs,
+      search needs,
+      let after-step = after-step-of c in
+          let in-loop = in-loop-of after-step in
+          let at-loop = in-loop .before in
+          goes-on _ _ _ _ _ _ _ _ _ _ _ (inv .6) (in-loop .loop-test .taken) (after-step .step .result) _ _ (rw (tail-part (at-loop .loop .from) (start-of at-loop .args .input .now)) at (after-step .step .ensures)),
+    )
 
 same-length : tie.Need-same-length Inv-loop μ-loop
 same-length c = c .before .loop .inv .0
@@ -88,11 +105,8 @@ same-length-6 c = c .before .loop .inv .5
 
 returns : tie.Need-returns Inv-loop μ-loop
 returns c =
-    let a = c .before .before .before .before .before .before .before .before .before .before .before .args in
-    let k = c .before .loop in
-    let l0 = roomsWith (a .labels .now) (a .equations .now) (a .values .now) (a .marks .now) (a .moves .now) (a .index .now) (a .queue .now) in
-    let here = roomsWith (a .labels .now) (a .equations .now) (k .values) (k .marks) (k .moves) (k .index) (k .queue) in
-    all-printed (a .input .now) (a .first) l0 (a .start) (a .place) (a .out .now) (k .session) here (k .from) (k .at) (k .out) (k .inv .6) (omega arith)
+    let at-loop = c .before in
+    all-printed _ _ _ _ _ _ _ _ _ _ _ (at-loop .loop .inv .6) (omega arith)
 
 pub print-batches-spec : {M : Type 1} → statement M
 print-batches-spec =

@@ -35,11 +35,11 @@ same-length c = search needs
 returns : tie.Need-returns
 unfolding freshRooms
 returns c =
-    let s = c .before .before .before .before .before .before .before .before .before .before .before .before .before .before .before .before .before .before .before .before in
-    let a = s .args in
-    let r = c .before .before .before .before .before .before .before .before .before .run-in in
-    let f = fresh-run (a .input .now) (a .out .now) _ _ (r .ensures .0) (r .ensures .1) (s .pre .1) in
-    (f .0, (f .1, f .2))
+    let after-run-in = c .before .before .before .before .before .before .before .before .before in
+    let at-start = after-run-in .before .before .before .before .before .before .before .before .before .before .before in
+    let printed = after-run-in .run-in .ensures in
+    let whole = fresh-run _ _ _ _ (printed .0) (printed .1) (at-start .pre .1) in
+    (whole .0, (whole .1, whole .2))
 
 pub run-spec : {M : Type 1} → statement M
 run-spec =

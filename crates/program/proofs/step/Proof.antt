@@ -1,18 +1,23 @@
 -- One part: cut, handed over, and its line written. Assumes nothing.
 use mathlib.Core.Path.{refl}
 use native.Mathlib.Omega.{arith}
-use Rattle.rules.specs.Rooms.{roomsWith}
 use Rattle.laws.specs.bytes.RecordLaws.{are-bytes}
 use Rattle.program.specs.Steps.{part-within, stepped}
 use borrow.Author.Needs.{needs}
 use Rattle.program.proofs.step.Statement.{statement}
 use Rattle.program.proofs.step.Tie as tie
 
+-- The points of the program: from what is known at a later one to what was known at an earlier one.
+abbrev shared-slice-known-before-first-part : tie.After-first-part → tie.After-shared-slice-known
+shared-slice-known-before-first-part c = c .before .before .before .before .before .before .before .before .before
+
 first-part-requires : tie.Need-first-part-requires
 first-part-requires c κs = search needs
 
 slice-aggregate-batch : tie.Need-slice-aggregate-batch
-slice-aggregate-batch c = part-within (c .before .before .before .before .before .before .before .before .before .before .before .args .rest .now) (c .before .first-part .result) (c .before .first-part .ensures)
+slice-aggregate-batch c =
+    let after-first-part = c .before in
+    part-within (shared-slice-known-before-first-part after-first-part .before .args .rest .now) (after-first-part .first-part .result) (after-first-part .first-part .ensures)
 
 batch-requires : tie.Need-batch-requires
 batch-requires c κs = search needs
@@ -43,12 +48,14 @@ same-length-6 c = search needs
 
 returns : tie.Need-returns
 returns c =
-    let s = c .before .before .before .before .before .before .before .before .before .before .before .before .before .before .before .before .before .before .before .before .before .before .before .before .before .before .before .before .before .before .before .before .before in
-    let a = s .args in
-    let l = roomsWith (a .labels .now) (a .equations .now) (a .values .now) (a .marks .now) (a .moves .now) (a .index .now) (a .queue .now) in
-    let y = are-bytes (a .rest .now) (λ i. omega (arith, c .before .before .before .before .before .before .before .before .before .before .before .before .before .before .before .before .before .before .before .before .before .before .before .before .before .before .before .before .before .before .before .before .shared-slice-known .given i)) in
-    let p = c .before .before .before .put-update .ensures in
-    stepped (a .session) l (a .rest .now) y (a .out .now) _ (a .at) (c .before .before .before .before .before .before .before .before .before .before .before .before .before .before .before .before .before .before .before .before .before .before .before .first-part .result) _ _ (c .before .before .before .before .before .before .before .before .before .before .before .before .before .before .before .before .batch .result) (c .before .before .before .before .before .before .before .before .before .before .before .before .before .before .before .before .before .before .before .before .before .before .before .first-part .ensures) (c .before .before .before .before .before .before .before .before .before .before .before .before .before .before .before .before .batch .ensures) (p .0) (p .1) (c .session-after .ensures) refl
+    let after-put-update = c .before .before .before in
+    let after-batch = after-put-update .before .before .before .before .before .before .before .before .before .before .before .before .before in
+    let after-first-part = after-batch .before .before .before .before .before .before .before in
+    let after-shared-slice-known = shared-slice-known-before-first-part after-first-part in
+    let at-start = after-shared-slice-known .before in
+    let bytes = are-bytes (at-start .args .rest .now) (λ i. omega (arith, after-shared-slice-known .shared-slice-known .given i)) in
+    let put = after-put-update .put-update .ensures in
+    stepped _ _ _ bytes _ _ (at-start .args .at) _ _ _ (after-batch .batch .result) (after-first-part .first-part .ensures) (after-batch .batch .ensures) (put .0) (put .1) (c .session-after .ensures) refl
 
 pub step-spec : {M : Type 1} → statement M
 step-spec =

@@ -19,13 +19,19 @@ same-length : tie.Need-same-length
 same-length c = search needs
 
 returns : tie.Need-returns
-returns c = rw (c .before .before .before .before .before .said .given .1) (c .before .before .put-refusal .ensures)
+returns c =
+    let after-put-refusal = c .before .before in
+    let after-said = after-put-refusal .before .before .before in
+    rw (after-said .said .given .1) (after-put-refusal .put-refusal .ensures)
 
 same-length-2 : tie.Need-same-length-2
 same-length-2 c = search needs
 
 returns-2 : tie.Need-returns-2
-returns-2 c = rw (c .before .before .before .before .before .said2 .given .1) (c .before .before .put-session .ensures)
+returns-2 c =
+    let after-put-session = c .before .before in
+    let after-said2 = after-put-session .before .before .before in
+    rw (after-said2 .said2 .given .1) (after-put-session .put-session .ensures)
 
 pub put-load-spec : {M : Type 1} → statement M
 put-load-spec =

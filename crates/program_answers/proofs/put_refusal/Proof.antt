@@ -19,10 +19,12 @@ same-length c = search needs
 
 returns : tie.Need-returns
 returns c =
-    let s = c .before .before .before .before .before .before in
-    let a = s .args in
-    let k = c .before .before .before .before .number-of in
-    refusal-wrote (a .out .now) _ (a .at) _ (a .why) (k .result) (a .place) (k .ensures) (omega (arith, s .good)) (c .before .before .put-refused .ensures)
+    let after-put-refused = c .before .before in
+    let after-number-of = after-put-refused .before .before in
+    let at-start = after-number-of .before .before in
+    let a = at-start .args in
+    let k = after-number-of .number-of in
+    refusal-wrote (a .out .now) _ (a .at) _ (a .why) (k .result) (a .place) (k .ensures) (omega (arith, at-start .good)) (after-put-refused .put-refused .ensures)
 
 pub put-refusal-spec : {M : Type 1} → statement M
 put-refusal-spec = tie.close (tie.spec number-of-requires cast-number put-refused-requires same-length returns)

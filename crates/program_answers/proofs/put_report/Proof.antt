@@ -23,12 +23,14 @@ same-length c = search needs
 
 returns : tie.Need-returns
 returns c =
-    let s = c .before .before .before .before .before .before .before .before .before .before .before .before in
-    let a = s .args in
-    let t = c .before .before .before .before .before .before .count-true in
-    let few = pairs-few (a .report .session .sizes) (omega (arith, s .good)) (omega (arith, s .good)) in
-    let w = rw (handed (a .report .net) (omega (arith, s .good))) at (c .before .before .put-batch .ensures) in
-    report-wrote (a .out .now) _ (a .at) _ (t .result) _ (a .values .now) (t .ensures .1) (t .ensures .0) (a .report) (c .before .before .before .before .before .before .before .pairs-of .ensures .0) few (omega (arith, s .good)) (omega (arith, s .good)) (omega (arith, s .good)) (omega (arith, s .good)) w
+    let after-put-batch = c .before .before in
+    let after-count-true = after-put-batch .before .before .before .before in
+    let at-start = after-count-true .before .before .before .before .before .before in
+    let a = at-start .args in
+    let t = after-count-true .count-true in
+    let few = pairs-few (a .report .session .sizes) (omega (arith, at-start .good)) (omega (arith, at-start .good)) in
+    let w = rw (handed (a .report .net) (omega (arith, at-start .good))) at (after-put-batch .put-batch .ensures) in
+    report-wrote (a .out .now) _ (a .at) _ (t .result) _ (a .values .now) (t .ensures .1) (t .ensures .0) (a .report) (after-count-true .before .pairs-of .ensures .0) few (omega (arith, at-start .good)) (omega (arith, at-start .good)) (omega (arith, at-start .good)) (omega (arith, at-start .good)) w
 
 pub put-report-spec : {M : Type 1} → statement M
 put-report-spec =

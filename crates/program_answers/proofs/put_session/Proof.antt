@@ -22,11 +22,13 @@ same-length c = search needs
 
 returns : tie.Need-returns
 returns c =
-    let s = c .before .before .before .before .before .before .before .before .before in
-    let a = s .args in
-    let t = c .before .before .before .before .before .count-true in
-    let few = pairs-few (a .session .sizes) (omega (arith, s .good)) (omega (arith, s .good)) in
-    session-wrote (a .out .now) _ (a .at) _ (t .result) _ (a .values .now) (t .ensures .1) (t .ensures .0) (a .session) (c .before .before .before .before .before .before .pairs-of .ensures .0) few (omega (arith, s .good)) (c .before .before .put-loaded .ensures)
+    let after-put-loaded = c .before .before in
+    let after-count-true = after-put-loaded .before .before .before in
+    let at-start = after-count-true .before .before .before .before in
+    let a = at-start .args in
+    let t = after-count-true .count-true in
+    let few = pairs-few (a .session .sizes) (omega (arith, at-start .good)) (omega (arith, at-start .good)) in
+    session-wrote (a .out .now) _ (a .at) _ (t .result) _ (a .values .now) (t .ensures .1) (t .ensures .0) (a .session) (after-count-true .before .pairs-of .ensures .0) few (omega (arith, at-start .good)) (after-put-loaded .put-loaded .ensures)
 
 pub put-session-spec : {M : Type 1} → statement M
 put-session-spec =

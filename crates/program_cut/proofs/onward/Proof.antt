@@ -20,11 +20,17 @@ is-end-requires c κs = search needs
 
 returns-2 : tie.Need-returns-2
 unfolding onwardOf
-returns-2 c = rw (c .before .before .before .read .given .1, sym (c .before .is-end .ensures) ∙ c .if1 .taken) refl
+returns-2 c =
+    let after-is-end = c .before in
+    let after-read = after-is-end .before .before in
+    rw (after-read .read .given .1, sym (after-is-end .is-end .ensures) ∙ c .if1 .taken) refl
 
 returns-3 : tie.Need-returns-3
 unfolding onwardOf
-returns-3 c = rw (c .before .before .before .read .given .1, sym (c .before .is-end .ensures) ∙ c .if1 .left) refl
+returns-3 c =
+    let after-is-end = c .before in
+    let after-read = after-is-end .before .before in
+    rw (after-read .read .given .1, sym (after-is-end .is-end .ensures) ∙ c .if1 .left) refl
 
 pub onward-spec : {M : Type 1} → statement M
 onward-spec =

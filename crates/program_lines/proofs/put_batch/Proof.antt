@@ -1,7 +1,6 @@
--- The pieces of a batch's line, one after the other. Assumes nothing.
+-- `program_lines::put_batch` meets its contract: the pieces of a batch's line, one after the other. Assumes nothing.
 use native.Mathlib.Omega.{arith}
 use Rattle.program_lines.specs.Signs.{handed}
--- `program_lines::put_batch` meets its contract. Assumes nothing.
 use mathlib.Core.List.{_++_}
 use Rattle.program_lines.specs.Lines.{decimal, signed, net-text, visits-text, space-text, totals, batchLine}
 use Rattle.model_write.specs.SpelledLaws.{wrote-more}
@@ -45,20 +44,26 @@ same-length c = search needs
 returns : tie.Need-returns
 unfolding batchLine
 returns c =
-    let a = c .before .before .before .before .before .before .before .before .before .before .before .before .before .before .before .before .before .before .before .before .before .before .before .before .before .before .args in
+    let after-put-totals = c .before .before in
+    let after-put-text = after-put-totals .before .before .before .before in
+    let after-put-number2 = after-put-text .before .before .before .before .before in
+    let after-put-number = after-put-number2 .before .before .before .before .before .before in
+    let after-put-net = after-put-number .before .before .before .before .before .before in
+    let at-start = after-put-net .before .before .before in
+    let a = at-start .args in
     let d = net-text ++ signed (a .net) in
     let v = visits-text ++ decimal (a .visits .shift) in
     let w = space-text ++ decimal (a .visits .settle) in
     let t = totals (a .t) (a .n) (a .stamp) in
-    let x = c .before .before .before .before .before .before .before .before .before .before .before .before .before .before .before .before .before .before .before .before .before .before .before .put-net in
-    let y = c .before .before .before .before .before .before .before .before .before .before .before .before .before .before .before .before .before .put-number in
-    let z = c .before .before .before .before .before .before .before .before .before .before .before .put-number2 in
-    let u = c .before .before .before .before .before .before .put-text in
-    let e = rw (handed (a .net) (omega (arith, c .before .before .before .before .before .before .before .before .before .before .before .before .before .before .before .before .before .before .before .before .before .before .before .before .before .before .good))) at (x .ensures .0) in
+    let x = after-put-net .put-net in
+    let y = after-put-number .put-number in
+    let z = after-put-number2 .put-number2 in
+    let u = after-put-text .put-text in
+    let e = rw (handed (a .net) (omega (arith, at-start .good))) at (x .ensures .0) in
     wrote-more d (v ++ (w ++ (space-text ++ t))) (a .out .now) (x .last .0) _ (a .at) (x .result) _ e
     (wrote-more v (w ++ (space-text ++ t)) (x .last .0) (y .last .0) _ (x .result) (y .result) _ (y .ensures .0)
     (wrote-more w (space-text ++ t) (y .last .0) (z .last .0) _ (y .result) (z .result) _ (z .ensures .0)
-    (wrote-more space-text t (z .last .0) (u .last .0) _ (z .result) (u .result) _ (u .ensures) (c .before .before .put-totals .ensures))))
+    (wrote-more space-text t (z .last .0) (u .last .0) _ (z .result) (u .result) _ (u .ensures) (after-put-totals .put-totals .ensures))))
 
 pub put-batch-spec : {M : Type 1} → statement M
 put-batch-spec =

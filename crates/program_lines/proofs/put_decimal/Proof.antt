@@ -6,6 +6,13 @@ use borrow.Author.Needs.{needs}
 use Rattle.program_lines.proofs.put_decimal.Statement.{statement}
 use Rattle.program_lines.proofs.put_decimal.Tie as tie
 
+-- The points of the program: from what is known at a later one to what was known at an earlier one.
+abbrev start-before-decimal : tie.After-decimal → tie.Start
+start-before-decimal c = c .before .before .before
+
+abbrev decimal-before-text2 : tie.After-text2 → tie.After-decimal
+decimal-before-text2 c = c .before .before
+
 decimal-requires : tie.Need-decimal-requires
 decimal-requires c κs = search needs
 
@@ -17,8 +24,9 @@ slice-aggregate-put-text c = search needs
 
 put-text-requires : tie.Need-put-text-requires
 put-text-requires c κs =
-    let d = c .before .before .decimal in
-    let a = c .before .before .before .before .before .args in
+    let after-decimal = decimal-before-text2 c in
+    let d = after-decimal .decimal in
+    let a = start-before-decimal after-decimal .args in
     (omega arith, rw (d .ensures .1 .1 ∙ decimal-is (d .result) (a .n) (d .ensures .1 .0)) (decimal-few 20 (a .n) (omega arith) (omega arith)))
 
 same-length : tie.Need-same-length
@@ -26,9 +34,11 @@ same-length c = search needs
 
 returns : tie.Need-returns
 returns c =
-    let d = c .before .before .before .before .before .decimal in
-    let a = c .before .before .before .before .before .before .before .before .args in
-    let w = rw (d .ensures .1 .1 ∙ decimal-is (d .result) (a .n) (d .ensures .1 .0)) at (c .before .before .put-text .ensures) in
+    let after-put-text = c .before .before in
+    let after-decimal = decimal-before-text2 (after-put-text .before) in
+    let d = after-decimal .decimal in
+    let a = start-before-decimal after-decimal .args in
+    let w = rw (d .ensures .1 .1 ∙ decimal-is (d .result) (a .n) (d .ensures .1 .0)) at (after-put-text .put-text .ensures) in
     let l = decimal-few 20 (a .n) (omega arith) (omega arith) in
     (w, omega (arith, w .1))
 

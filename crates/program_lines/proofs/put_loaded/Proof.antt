@@ -20,8 +20,10 @@ same-length c = search needs
 returns : tie.Need-returns
 unfolding loadedLine
 returns c =
-    let a = c .before .before .before .before .before .before .before .before .before .before .args in
-    wrote-more loaded-text (totals (a .t) (a .n) (a .stamp)) (a .out .now) _ _ (a .at) _ _ (c .before .before .before .before .before .before .put-text .ensures) (c .before .before .put-totals .ensures)
+    let after-put-totals = c .before .before in
+    let after-put-text = after-put-totals .before .before .before .before in
+    let a = after-put-text .before .before .before .before .args in
+    wrote-more loaded-text (totals (a .t) (a .n) (a .stamp)) (a .out .now) _ _ (a .at) _ _ (after-put-text .put-text .ensures) (after-put-totals .put-totals .ensures)
 
 pub put-loaded-spec : {M : Type 1} → statement M
 put-loaded-spec =

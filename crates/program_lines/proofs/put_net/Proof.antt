@@ -1,6 +1,5 @@
--- A net change is a sign and a size. Assumes nothing.
+-- `program_lines::put_net` meets its contract: a net change is a sign and a size. Assumes nothing.
 use Rattle.program_lines.specs.Signs.{handed}
--- `program_lines::put_net` meets its contract. Assumes nothing.
 use native.Mathlib.Omega.{arith}
 use Rattle.program_lines.specs.Lines.{net-text, signed}
 use Rattle.model_write.specs.SpelledLaws.{wrote-more}
@@ -22,11 +21,13 @@ same-length c = search needs
 
 returns : tie.Need-returns
 returns c =
-    let s = c .before .before .before .before .before .before .before .before .before .before in
-    let a = s .args in
-    let t = c .before .before .before .before .before .before .put-text .ensures in
-    let d = c .before .before .put-signed .ensures in
-    let w = rw (handed (a .net) (omega (arith, s .good))) at (d .0) in
+    let after-put-signed = c .before .before in
+    let after-put-text = after-put-signed .before .before .before .before in
+    let at-start = after-put-text .before .before .before .before in
+    let a = at-start .args in
+    let t = after-put-text .put-text .ensures in
+    let d = after-put-signed .put-signed .ensures in
+    let w = rw (handed (a .net) (omega (arith, at-start .good))) at (d .0) in
     (wrote-more net-text (signed (a .net)) (a .out .now) _ _ (a .at) _ _ t w, omega (arith, t .1))
 
 pub put-net-spec : {M : Type 1} → statement M

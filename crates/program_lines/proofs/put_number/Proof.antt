@@ -17,9 +17,11 @@ same-length c = search needs
 
 returns : tie.Need-returns
 returns c =
-    let a = c .before .before .before .before .before .before .before .before .before .before .args in
-    let t = c .before .before .before .before .before .before .put-text .ensures in
-    let d = c .before .before .put-decimal .ensures in
+    let after-put-decimal = c .before .before in
+    let after-put-text = after-put-decimal .before .before .before .before in
+    let a = after-put-text .before .before .before .before .args in
+    let t = after-put-text .put-text .ensures in
+    let d = after-put-decimal .put-decimal .ensures in
     (wrote-more (a .text .now) (decimal (a .n)) (a .out .now) _ _ (a .at) _ _ t (d .0), omega (arith, t .1))
 
 pub put-number-spec : {M : Type 1} → statement M

@@ -30,13 +30,16 @@ same-length c = search needs
 returns : tie.Need-returns
 unfolding refusedLine
 returns c =
-    let a = c .before .before .before .before .before .before .before .before .before .before .before .before .before .before .before .before .args in
+    let after-put-text = c .before .before in
+    let after-put-number2 = after-put-text .before .before .before .before .before in
+    let after-put-number = after-put-number2 .before .before .before .before .before in
+    let a = after-put-number .before .before .before .before .args in
     let r = refused-text ++ decimal (a .number) in
     let p = at-text ++ decimal (a .place) in
-    let x = c .before .before .before .before .before .before .before .before .before .before .before .before .put-number in
-    let y = c .before .before .before .before .before .before .before .put-number2 in
+    let x = after-put-number .put-number in
+    let y = after-put-number2 .put-number2 in
     wrote-more r (p ++ feed-text) (a .out .now) (x .last .0) _ (a .at) (x .result) _ (x .ensures .0)
-    (wrote-more p feed-text (x .last .0) (y .last .0) _ (x .result) (y .result) _ (y .ensures .0) (c .before .before .put-text .ensures))
+    (wrote-more p feed-text (x .last .0) (y .last .0) _ (x .result) (y .result) _ (y .ensures .0) (after-put-text .put-text .ensures))
 
 pub put-refused-spec : {M : Type 1} → statement M
 put-refused-spec =

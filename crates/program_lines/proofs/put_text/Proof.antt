@@ -1,4 +1,5 @@
--- `program_lines::put_text` meets its contract. Assumes nothing.
+-- `program_lines::put_text` meets its contract. The loop keeps that the first i bytes of the text stand in the output from its
+-- place on, and that the output is as long as it was; what is left, n - i, gets smaller. Assumes nothing.
 use mathlib.Core.Path.{_≡_, refl}
 use Prim.Native.Nat.{_-_, _≤_}
 use native.Mathlib.Omega.{arith}
@@ -14,6 +15,10 @@ Inv-loop out₀ at text n i₀ out i = (length out ≡ length out₀) × (i ≤ 
 
 abbrev μ-loop : tie.MeasureT-loop
 μ-loop out₀ at text n i₀ out i = n - i
+
+-- The points of the program: from what is known at a later one to what was known at an earlier one.
+abbrev start-before-loop : tie.At-loop Inv-loop μ-loop → tie.Start Inv-loop μ-loop
+start-before-loop c = c .before .before .before
 
 loop-holds : tie.Need-loop-holds Inv-loop μ-loop
 loop-holds c = (refl, omega arith, refl, refl)
@@ -35,9 +40,11 @@ loop-less c = omega arith
 
 loop-again : tie.Need-loop-again Inv-loop μ-loop
 loop-again c =
-    let l = c .before .before .before .before .before .before .loop in
-    let a = c .before .before .before .before .before .before .before .before .before .args in
-    (search needs, omega arith, l .inv .2, copied-more (a .text .now) (a .out .now) (l .out) _ (a .at) (l .i) _ (omega arith) (l .inv .3) (c .before .before .before .byte-at .ensures) (c .before .before .set-byte .ensures))
+    let after-set-byte = c .before .before in
+    let at-loop = after-set-byte .before .before .before .before in
+    let l = at-loop .loop in
+    let a = start-before-loop at-loop .args in
+    (search needs, omega arith, l .inv .2, copied-more (a .text .now) (a .out .now) (l .out) _ (a .at) (l .i) _ (omega arith) (l .inv .3) (after-set-byte .before .byte-at .ensures) (after-set-byte .set-byte .ensures))
 
 add-result : tie.Need-add-result Inv-loop μ-loop
 add-result c = omega arith
@@ -47,8 +54,9 @@ same-length c = c .before .loop .inv .0
 
 returns : tie.Need-returns Inv-loop μ-loop
 returns c =
-    let l = c .before .loop in
-    let a = c .before .before .before .before .args in
+    let at-loop = c .before in
+    let l = at-loop .loop in
+    let a = start-before-loop at-loop .args in
     copied-all (a .text .now) (a .out .now) (l .out) (a .at) (l .i) _ (l .inv .2) (omega arith) (l .inv .3)
 
 pub put-text-spec : {M : Type 1} → statement M

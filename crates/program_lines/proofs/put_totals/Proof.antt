@@ -36,16 +36,20 @@ same-length c = search needs
 returns : tie.Need-returns
 unfolding totals
 returns c =
-    let a = c .before .before .before .before .before .before .before .before .before .before .before .before .before .before .before .before .before .before .before .before .before .args in
+    let after-put-text = c .before .before in
+    let after-put-number3 = after-put-text .before .before .before .before .before in
+    let after-put-number2 = after-put-number3 .before .before .before .before .before in
+    let after-put-number = after-put-number2 .before .before .before .before .before in
+    let a = after-put-number .before .before .before .before .args in
     let t = true-text ++ decimal (a .t) in
     let n = of-text ++ decimal (a .n) in
     let s = stamp-text ++ decimal (a .stamp) in
-    let x = c .before .before .before .before .before .before .before .before .before .before .before .before .before .before .before .before .before .put-number in
-    let y = c .before .before .before .before .before .before .before .before .before .before .before .before .put-number2 in
-    let z = c .before .before .before .before .before .before .before .put-number3 in
+    let x = after-put-number .put-number in
+    let y = after-put-number2 .put-number2 in
+    let z = after-put-number3 .put-number3 in
     wrote-more t (n ++ (s ++ feed-text)) (a .out .now) (x .last .0) _ (a .at) (x .result) _ (x .ensures .0)
     (wrote-more n (s ++ feed-text) (x .last .0) (y .last .0) _ (x .result) (y .result) _ (y .ensures .0)
-    (wrote-more s feed-text (y .last .0) (z .last .0) _ (y .result) (z .result) _ (z .ensures .0) (c .before .before .put-text .ensures)))
+    (wrote-more s feed-text (y .last .0) (z .last .0) _ (y .result) (z .result) _ (z .ensures .0) (after-put-text .put-text .ensures)))
 
 pub put-totals-spec : {M : Type 1} → statement M
 put-totals-spec =

@@ -15,6 +15,16 @@ Inv-loop input₀ done₀ input done = (length input ≡ length input₀) × (do
 abbrev μ-loop : tie.MeasureT-loop
 μ-loop input₀ done₀ input done = length input - done
 
+-- The points of the program: from what is known at a later one to what was known at an earlier one.
+abbrev at-loop-before-read-more : tie.After-read-more Inv-loop μ-loop → tie.At-loop Inv-loop μ-loop
+at-loop-before-read-more c = c .before .before .before
+
+abbrev read-more-before-got : tie.After-got Inv-loop μ-loop → tie.After-read-more Inv-loop μ-loop
+read-more-before-got c = c .before .before .before .before
+
+abbrev got-before-else1 : tie.Else1 Inv-loop μ-loop → tie.After-got Inv-loop μ-loop
+got-before-else1 c = c .before .before
+
 loop-holds : tie.Need-loop-holds Inv-loop μ-loop
 loop-holds c = search needs
 
@@ -41,9 +51,11 @@ returns-2 c = search needs
 
 add-done : tie.Need-add-done Inv-loop μ-loop
 add-done c =
-    let r = c .before .before .before .before .before .before .read-more in
-    let k = c .before .before .before .before .before .before .before .before .before .loop in
-    let n = c .before .before .got .given in
+    let after-got = got-before-else1 c in
+    let after-read-more = read-more-before-got after-got in
+    let r = after-read-more .read-more in
+    let k = at-loop-before-read-more after-read-more .loop in
+    let n = after-got .got .given in
     let h = counted-within (k .done) (n .0 .0) (r .result) (r .last .0) (n .1) (r .ensures .0) in
     record { fits = omega arith }
 
@@ -52,9 +64,11 @@ loop-less c = search needs
 
 loop-again : tie.Need-loop-again Inv-loop μ-loop
 loop-again c =
-    let r = c .before .before .before .before .before .before .read-more in
-    let k = c .before .before .before .before .before .before .before .before .before .loop in
-    let n = c .before .before .got .given in
+    let after-got = got-before-else1 c in
+    let after-read-more = read-more-before-got after-got in
+    let r = after-read-more .read-more in
+    let k = at-loop-before-read-more after-read-more .loop in
+    let n = after-got .got .given in
     let h = counted-within (k .done) (n .0 .0) (r .result) (r .last .0) (n .1) (r .ensures .0) in
     (search needs, omega arith)
 

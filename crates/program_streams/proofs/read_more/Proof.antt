@@ -38,11 +38,12 @@ same-length c = search needs
 
 returns : tie.Need-returns
 returns c =
-    let s = c .before .before .before .before .before .before .before .before in
-    let at = s .args .at in
-    let input = s .args .input .now in
-    let r = c .before .before .before .before .before .read in
-    (reading-within (toZ w64 (ofZ w64 (r .result))) at (c .reading-of .result) (putMid at (length input - at) input (r .last .1 .0)) (c .reading-of .ensures) (search needs), take-put at (length input - at) input (r .last .1 .0) (s .pre))
+    let after-read = c .before .before .before .before .before in
+    let at-start = after-read .before .before .before in
+    let at = at-start .args .at in
+    let input = at-start .args .input .now in
+    let r = after-read .read in
+    (reading-within (toZ w64 (ofZ w64 (r .result))) at (c .reading-of .result) (putMid at (length input - at) input (r .last .1 .0)) (c .reading-of .ensures) (search needs), take-put at (length input - at) input (r .last .1 .0) (at-start .pre))
 
 pub read-more-spec : {M : Type 1} → statement M
 read-more-spec =

@@ -20,9 +20,10 @@ slice-aggregate-write-output c = search needs
 
 write-output-requires : tie.Need-write-output-requires
 write-output-requires c κs =
-    let s = c .before .before .before .before .before .before .before in
-    let r = c .before .before .before .run in
-    ap (λ (l : List ℕ). take (r .result) l) (r .ensures .0) ∙ front-filled (printed (s .args .input .now)) (s .args .out .now) (r .result) (r .ensures .1 .0)
+    let after-run = c .before .before .before in
+    let at-start = after-run .before .before .before .before in
+    let r = after-run .run in
+    ap (λ (l : List ℕ). take (r .result) l) (r .ensures .0) ∙ front-filled (printed (at-start .args .input .now)) (at-start .args .out .now) (r .result) (r .ensures .1 .0)
 
 same-length : tie.Need-same-length
 same-length c = search needs

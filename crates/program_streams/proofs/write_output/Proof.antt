@@ -1,4 +1,5 @@
--- What is left is handed over until all is taken. The measure is what is left. Assumes nothing.
+-- What is left is handed over until all is taken. The loop keeps that no more was taken than there is; what is left gets
+-- smaller. Assumes nothing.
 use Prim.Native.Nat.{_-_, _≤_}
 use lib.ListN.{length}
 use borrow.Author.Needs.{needs}
@@ -27,8 +28,9 @@ part-write-more-end c = search needs
 
 write-more-requires : tie.Need-write-more-requires Inv-loop μ-loop
 write-more-requires c κs =
-    let s = c .before .before .before .before .before in
-    left-over (c .before .before .loop .done) (s .args .said .now) (printed (s .args .input .now)) (s .pre)
+    let at-loop = c .before .before in
+    let at-start = at-loop .before .before .before in
+    left-over (at-loop .loop .done) (at-start .args .said .now) (printed (at-start .args .input .now)) (at-start .pre)
 
 returns : tie.Need-returns Inv-loop μ-loop
 returns c = search needs
