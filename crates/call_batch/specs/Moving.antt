@@ -10,7 +10,7 @@ use lib.Seq.{take-at, length-take-le}
 use lib.Dec.{leb}
 use Rattle.lists.specs.Lists.{all}
 use Rattle.lists.specs.Tests.{tests, tell, and-is, leb-is}
-use Rattle.rules.specs.Limits.{most-moves, sizesOk}
+use Rattle.rules.specs.Limits.{most-moves, most-changes, sizesOk}
 use Rattle.rules.specs.Model.{liveOk, wellFormed, WellFormed}
 use Rattle.rules.specs.Records.{accepted}
 use Rattle.rules.specs.Rooms.{Rooms, lengthsOf, pairsOf, indexNeeds, queueNeeds, workOk}
@@ -22,7 +22,7 @@ use Rattle.laws.specs.moves.Edits.{Judged, AllOk, judge-out, edited-wellFormed,
 use Rattle.laws.specs.model.LiveApart.{still, still-good}
 use Rattle.laws.specs.model.ModelSystem.{Sound, sound}
 use Rattle.session_check.specs.CheckedMoves as Moves
-use Rattle.batch_apply.specs.Kept.{Kept, appliedTo, Ready}
+use Rattle.batch_apply.specs.Kept.{Kept, kept, movesIn, appliedTo, Ready}
 use Rattle.batch_apply.specs.Struck.{below-mark}
 use Rattle.batch_apply.specs.Applied.{laid, applied-edits}
 use Rattle.session_judge.specs.Checks.{checkOf, checkedSays}
@@ -65,28 +65,30 @@ unfolding wellFormed
 sane-sizes s l p = let k = simp and-is at (p .model) in k .0 .0 .0 .0 .0
 
 -- What a batch may rely on when it is judged.
-pub sane-held : (s : Session) (l : Rooms) → Sane s l → Held s (l .moves)
+pub sane-held : (s : Session) (l : Rooms) → Sane s l → Held s (held s l .moves)
 unfolding wellFormed
 sane-held s l p = let k = simp and-is at (p .model) in record { stamp = p .moves .stamp; in-range = p .moves .in-range; lively = k .1 .1 .1 }
 
 -- Changes with which nothing is wrong in such a session.
 pub record Able (s : Session) (l : Rooms) (cs : List Change) : Type 0 where
   pub is-sane : Sane s l
+  pub short : length cs ≤ most-changes
   pub judged : Judged (held s l .moves) cs
   pub in-range : changesOk (s .sizes) cs ≡ true
   pub few : length (edited cs (held s l .moves)) ≤ min most-moves (length (l .moves))
   pub lives : liveOk (s .live) (s .sizes .states) (edited cs (held s l .moves)) ≡ true
 
 -- The judgement says so.
-pub able : (s : Session) (l : Rooms) (b b′ : Batch) → Sane s l → changesOk (s .sizes) (b .changes) ≡ true → judge s (length (l .moves)) (held s l .moves) b ≡ accepted b′ → Able s l (b .changes)
-able s l b b′ p r j = let k = judge-out s (length (l .moves)) (held s l .moves) b b′ j in record { is-sane = p; judged = k .1; in-range = r; few = k .2; lives = k .4 }
+pub able : (s : Session) (l : Rooms) (b b′ : Batch) → Sane s l → length (b .changes) ≤ most-changes → changesOk (s .sizes) (b .changes) ≡ true → judge s (length (l .moves)) (held s l .moves) b ≡ accepted b′ → Able s l (b .changes)
+able s l b b′ p n r j = let k = judge-out s (length (l .moves)) (held s l .moves) b b′ j in record { is-sane = p; short = n; judged = k .1; in-range = r; few = k .2; lives = k .4 }
 
 -- They can be made in the room of the moves.
-pub able-ready : (s : Session) (l : Rooms) (cs : List Change) → Able s l cs → Ready cs (record { moves = l .moves; count = s .moves })
+pub able-ready : (s : Session) (l : Rooms) (cs : List Change) → Able s l cs → Ready cs (kept (l .moves) (s .moves))
 able-ready s l cs a =
     let f = a .few in
     record {
       start = record { fits = a .is-sane .fits .moves-room; ascend = a .is-sane .moves .ascend };
+      short = a .short;
       judged = a .judged;
       few = omega arith;
       most = a .is-sane .fits .moves;
@@ -101,9 +103,9 @@ each-small (v ∷ l) h (suc p) = each-small l (and-is (leb v 1) (all (λ v. leb 
 
 -- The changes were made in the room of the moves: it holds ms now, of which n are moves.
 module _ (s : Session) (l : Rooms) (cs : List Change) (a : Able s l cs) (ms : List ℕ) (n : ℕ)
-    (e : _≡_ {A = Kept} (record { moves = ms; count = n }) (appliedTo cs (record { moves = l .moves; count = s .moves }))) where
+    (e : kept ms n ≡ appliedTo cs (kept (l .moves) (s .moves))) where
   -- The room holds the edited moves.
-  pub made : _≡_ {A = Kept} (record { moves = ms; count = n }) (laid (s .moves) (l .moves) (edited cs (held s l .moves)))
+  pub made : kept ms n ≡ laid (s .moves) (l .moves) (edited cs (held s l .moves))
   made =
       let f = a .few in
       e ∙ applied-edits (s .moves) (l .moves) cs (a .is-sane .fits .moves-room) (a .is-sane .moves .ascend) (a .judged) (omega arith)
@@ -112,7 +114,7 @@ module _ (s : Session) (l : Rooms) (cs : List Change) (a : Able s l cs) (ms : Li
   made-moves =
       let es = edited cs (held s l .moves) in
       let zs : List ℕ = replicate (s .moves - length es) 0 in
-      ap (λ (k : Kept). take (k .count) (k .moves)) made
+      ap movesIn made
       ∙ ap (take (length es)) (append-assoc es zs (drop (length (es ++ zs)) (l .moves))) ∙ take-at es _ (length es) refl
 
   -- There are few of them.

@@ -1,15 +1,13 @@
--- A batch that was read into a room of at least 64 places: the first places, taken back as changes, are its changes.
--- Assumes nothing.
+-- A batch that was read into a room with a place for each change that a batch may have: the first places, taken back as changes, are
+-- its changes. Assumes nothing.
 use mathlib.Core.Path.{_≡_, refl, sym, ap, ap₂, _∙_, subst}
-use mathlib.Core.Bool.{Bool, true, false}
-use mathlib.Core.List.{List, [], _∷_, map}
-use Prim.Native.Nat.{ℕ, suc, _+_, _*_, _/_, _%_, _≤_, _<_}
+use mathlib.Core.Bool.{true}
+use mathlib.Core.List.{List, [], _∷_}
+use Prim.Native.Nat.{ℕ, suc, _+_, _≤_, _<_}
 use native.Mathlib.Nat.{zero-add}
 use native.Mathlib.Omega.{arith}
-use lib.ListN.{length, getD, take, drop, length-map}
+use lib.ListN.{length, take, drop, length-map}
 use lib.Seq.{sets, sets-eq, length-sets, take-at}
-use lib.Dec.{eqb}
-use Rattle.lists.specs.Lists.{bit}
 use Rattle.lists.specs.Tests.{and-is, leb-is}
 use Rattle.rules.specs.Limits.{most-changes, sizesOk}
 use Rattle.rules.specs.Records.{Outcome, refused, accepted, parts}
@@ -19,36 +17,23 @@ use Rattle.rules.specs.declared.Sizes.{Sizes}
 use Rattle.rules.specs.declared.Refusal.{Refusal}
 use Rattle.laws.specs.bytes.RecordLaws.{AreBytes, never}
 use Rattle.laws.specs.bytes.BatchReads.{read-batch-spelling}
-use Rattle.batch_read.specs.Reading.{changeCode, codesOf, Summary, summary, batchSays, ReadInto}
-use Rattle.batch_read.specs.CodedBatch.{codes-accepted, code-exact}
+use Rattle.batch_read.specs.Reading.{codes, codesOf, Summary, summary, batchSays, ReadInto}
+use Rattle.batch_read.specs.CodedBatch.{codes-accepted, code-back}
 use Rattle.batch_read.specs.declared.ReadBatch.{ReadBatch}
 use Rattle.batch_read.specs.declared.ReadBatch.the-variants as B
-use Rattle.batch_judge.specs.Changes.{changeOf, changesOf}
-
--- Twice a move and the bit of an insert, taken back.
-taken-back : (b : Bool) (q : ℕ) → changeOf (2 * q + bit b) ≡ record { insert = b; move = q }
-taken-back true q =
-    let m : (2 * q + 1) / 2 ≡ q = omega arith in
-    let r : (2 * q + 1) % 2 ≡ 1 = omega arith in
-    let e : eqb ((2 * q + 1) % 2) 1 ≡ true = rw r refl in
-    λ i. record { insert = e i; move = m i }
-taken-back false q =
-    let m : (2 * q + 0) / 2 ≡ q = omega arith in
-    let r : (2 * q + 0) % 2 ≡ 0 = omega arith in
-    let e : eqb ((2 * q + 0) % 2) 1 ≡ false = rw r refl in
-    λ i. record { insert = e i; move = m i }
+use Rattle.words.specs.Words.{changesOf}
 
 -- Changes in range, put down as numbers and taken back, are the same.
-codes-back : (z : Sizes) (cs : List Change) → sizesOk z ≡ true → changesOk z cs ≡ true → changesOf (map changeCode cs) ≡ cs
+codes-back : (z : Sizes) (cs : List Change) → sizesOk z ≡ true → changesOk z cs ≡ true → changesOf (codes cs) ≡ cs
 codes-back z [] k h = refl
 codes-back z (c ∷ cs) k h =
     let a = simp and-is at h in
-    ap₂ (λ (x : Change) (l : List Change). x ∷ l) (ap changeOf (code-exact z c k (a .0)) ∙ taken-back (c .insert) (c .move)) (codes-back z cs k (a .1))
+    ap₂ (λ (x : Change) (l : List Change). x ∷ l) (code-back z c k (a .0)) (codes-back z cs k (a .1))
 
 -- The bytes spell this stamp and the first n changes of the room.
 pub record WasRead (z : Sizes) (bytes : List ℕ) (stamp n : ℕ) (room : List ℕ) : Type 0 where
   pub read : readBatch z bytes ≡ accepted (record { stamp = stamp; changes = changesOf (take n room) })
-  pub few : n ≤ 64
+  pub few : n ≤ most-changes
   pub in-range : changesOk z (changesOf (take n room)) ≡ true
 
 -- The first n places of a room, where n numbers were put down.
@@ -64,9 +49,9 @@ module _ (z : Sizes) (bytes : List ℕ) (k : sizesOk z ≡ true) (y : AreBytes b
       let g = simp and-is at (read-batch-spelling z k bytes b y e .0) in
       let n = leb-is (length (b .changes)) most-changes .0 (g .0 .1) in
       let same = ap (λ (x : List ℕ). length x) r ∙ length-sets before 0 (codesOf z (parts bytes)) in
-      let c : room ≡ sets before 0 (map changeCode (b .changes)) = r ∙ ap (sets before 0) (codes-accepted z bytes b e) in
-      let t : take (length (b .changes)) room ≡ map changeCode (b .changes) =
-      ap (take (length (b .changes))) c ∙ put-down (length (b .changes)) (map changeCode (b .changes)) before (length-map (b .changes) changeCode) (omega arith) in
+      let c : room ≡ sets before 0 (codes (b .changes)) = r ∙ ap (sets before 0) (codes-accepted z bytes b e) in
+      let t : take (length (b .changes)) room ≡ codes (b .changes) =
+      ap (take (length (b .changes))) c ∙ put-down (length (b .changes)) (codes (b .changes)) before (length-map (b .changes) _) (omega arith) in
       let s : changesOf (take (length (b .changes)) room) ≡ b .changes = ap changesOf t ∙ codes-back z (b .changes) k (g .1) in
       record {
         read = e ∙ ap (λ (cs : List Change). accepted (record { stamp = b .stamp; changes = cs })) (sym s);

@@ -27,7 +27,7 @@ use Rattle.laws.specs.model.LiveApart.{still, turn-still, visits-still}
 use Rattle.batch_judge.specs.Judging.{verdictSays}
 use Rattle.batch_judge.specs.declared.Verdict.{Verdict}
 use Rattle.batch_judge.specs.declared.Verdict.the-variants as Found
-use Rattle.batch_apply.specs.Kept.{Kept, appliedTo}
+use Rattle.batch_apply.specs.Kept.{kept, appliedTo}
 use Rattle.call_batch.specs.BatchLaws.{updated}
 use Rattle.engine_table.specs.Lent.{tableOf}
 use Rattle.engine_values.specs.Differences.{mag-sub}
@@ -62,7 +62,7 @@ leaves-live m cs values₀ marks₀ values marks shift settle net f =
 
 -- The values, the marks, the visits and the net that the machine leaves, with the stamp carried and the rooms to work in cleared.
 pub update-reports : (s : Session) (l : Rooms) (cs : List Change) (a : Able s l cs) (ms : List ℕ) (n : ℕ)
-    → _≡_ {A = Kept} (record { moves = ms; count = n }) (appliedTo cs (record { moves = l .moves; count = s .moves }))
+    → kept ms n ≡ appliedTo cs (kept (l .moves) (s .moves))
     → length ms ≡ length (l .moves) → (values marks index queue : List ℕ) (shift settle : ℕ) (net : ℤ) (stamp : ℕ)
     → Leaves (tableOf (s .sizes) (l .labels) (l .equations) ms n) (turnAll (tableOf (s .sizes) (l .labels) (l .equations) ms n) cs (valueAt (l .values))) (l .values) (l .marks) values marks shift settle net
     → index ≡ indexAfter (s .sizes) (length ms) (l .index) → queue ≡ queueAfter (s .sizes) (l .queue) → stamp ≡ carry (s .stamp) cs

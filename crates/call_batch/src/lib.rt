@@ -3,12 +3,14 @@
 ghost use mathlib.Core.Path.{_≡_};
 ghost use mathlib.Core.Bool.{true};
 ghost use Prim.Native.Nat.{_≤_};
-ghost use lib.ListN.{length, take};
+ghost use lib.ListN.{length};
+ghost use Rattle.rules.specs.Limits.{most-changes};
 ghost use Rattle.rules.specs.Batch.{changesOk};
 ghost use Rattle.rules.specs.Records.{accepted};
 ghost use Rattle.rules.specs.Answers.{updatedSays};
 ghost use Rattle.rules.specs.Calls.{batch};
-ghost use Rattle.batch_judge.specs.Changes.{changesOf};
+ghost use Rattle.words.specs.Words.{changesOf};
+ghost use Rattle.batch_judge.specs.Judging.{batchIn};
 ghost use Rattle.rules.specs.Rooms.{roomsWith};
 ghost use Rattle.call_batch.specs.BatchLaws.{updated};
 ghost use Rattle.call_batch.specs.Moving.{Sane, Able};
@@ -25,7 +27,6 @@ use session_judge::Checked;
 fn move_on(
     session: Session,
     changes: &[u32],
-    count: usize,
     labels: &[u32],
     equations: &[u32],
     values: &mut [u8],
@@ -34,13 +35,12 @@ fn move_on(
     index: &mut [u16],
     queue: &mut [u16],
 ) -> Report
-    requires { ⌜ Able session (roomsWith (now labels) (now equations) (now values) (now marks) (now moves) (now index) (now queue)) (changesOf (take count (now changes))) ⌝ }
-    requires { ⌜ (count ≤ 64) × (count ≤ length (now changes)) ⌝ }
+    requires { ⌜ Able session (roomsWith (now labels) (now equations) (now values) (now marks) (now moves) (now index) (now queue)) (changesOf (now changes)) ⌝ }
     ensures { λ r. ⌜ updated (accepted r) (roomsWith (now (labels .entry)) (now (equations .entry)) (now (values .exit)) (now (marks .exit)) (now (moves .exit)) (now (index .exit)) (now (queue .exit)))
-        ≡ batchOf session (roomsWith (now (labels .entry)) (now (equations .entry)) (now (values .entry)) (now (marks .entry)) (now (moves .entry)) (now (index .entry)) (now (queue .entry))) (changesOf (take count (now (changes .entry)))) ⌝ }
+        ≡ batchOf session (roomsWith (now (labels .entry)) (now (equations .entry)) (now (values .entry)) (now (marks .entry)) (now (moves .entry)) (now (index .entry)) (now (queue .entry))) (changesOf (now (changes .entry))) ⌝ }
 {
     let sizes = session.sizes;
-    let n = batch_apply::apply(changes, count, moves, session.moves as usize);
+    let n = batch_apply::apply(changes, moves, session.moves as usize);
     let done = engine::update(
         sizes,
         labels,
@@ -48,7 +48,7 @@ fn move_on(
         moves,
         n,
         changes,
-        count,
+        changes.len(),
         values,
         marks,
         index,
@@ -60,7 +60,7 @@ fn move_on(
         sizes: sizes,
         live: session.live,
         moves: held,
-        stamp: batch_judge::carried(session.stamp, changes, count),
+        stamp: batch_judge::carried(session.stamp, changes),
     };
     Report {
         session: after,
@@ -73,7 +73,6 @@ fn move_on(
 fn judge_on(
     session: Session,
     changes: &[u32],
-    count: usize,
     stamp: u32,
     labels: &[u32],
     equations: &[u32],
@@ -84,20 +83,19 @@ fn judge_on(
     queue: &mut [u16],
 ) -> Updated
     requires { ⌜ Sane session (roomsWith (now labels) (now equations) (now values) (now marks) (now moves) (now index) (now queue)) ⌝ }
-    requires { ⌜ (count ≤ 64) × (count ≤ length (now changes)) ⌝ }
-    requires { ⌜ changesOk (session .sizes) (changesOf (take count (now changes))) ≡ true ⌝ }
+    requires { ⌜ (length (now changes) ≤ most-changes) × (changesOk (session .sizes) (changesOf (now changes)) ≡ true) ⌝ }
     ensures { λ r. ⌜ updated (updatedSays r) (roomsWith (now (labels .entry)) (now (equations .entry)) (now (values .exit)) (now (marks .exit)) (now (moves .exit)) (now (index .exit)) (now (queue .exit)))
         ≡ batchRead session (roomsWith (now (labels .entry)) (now (equations .entry)) (now (values .entry)) (now (marks .entry)) (now (moves .entry)) (now (index .entry)) (now (queue .entry)))
-        (record { stamp = stamp; changes = changesOf (take count (now (changes .entry))) }) ⌝ }
+        (batchIn stamp (now (changes .entry))) ⌝ }
 {
     let room = moves.len();
-    let verdict = batch_judge::judge_batch(session, changes, count, stamp, moves, room);
+    let n = session.moves as usize;
+    let verdict = batch_judge::judge_batch(session, changes, stamp, &moves[..n], room);
     match verdict {
         Verdict::Refused(why, at) => Updated::Refused(why, at),
         Verdict::Good => Updated::Accepted(move_on(
             session,
             changes,
-            count,
             labels,
             equations,
             values,
@@ -125,14 +123,13 @@ fn read_on(
     ensures { λ r. ⌜ updated (updatedSays r) (roomsWith (now (labels .entry)) (now (equations .entry)) (now (values .exit)) (now (marks .exit)) (now (moves .exit)) (now (index .exit)) (now (queue .exit)))
         ≡ batchBytes session (roomsWith (now (labels .entry)) (now (equations .entry)) (now (values .entry)) (now (marks .entry)) (now (moves .entry)) (now (index .entry)) (now (queue .entry))) (now (bytes .entry)) ⌝ }
 {
-    let mut changes = [0u32; 64];
+    let mut changes = [0u32; limits::MOST_CHANGES];
     let read = batch_read::read_batch(bytes, session.sizes, &mut changes);
     match read {
         ReadBatch::Refused(why, at) => Updated::Refused(why, at),
         ReadBatch::Good(stamp, count) => judge_on(
             session,
-            &changes,
-            count,
+            &changes[..count],
             stamp,
             labels,
             equations,

@@ -2,10 +2,29 @@
 use Rattle.call_batch.specs.Moving.{sane}
 use Rattle.call_batch.specs.BatchLaws.{measured, batch-stops, batch-goes}
 use mathlib.Core.Path.{_∙_}
-use Rattle.rules.specs.Rooms.{roomsWith}
+use Rattle.rules.specs.Rooms.{Rooms, roomsWith}
 use borrow.Author.Needs.{needs}
 use Rattle.call_batch.proofs.batch.Statement.{statement}
 use Rattle.call_batch.proofs.batch.Tie as tie
+
+-- The rooms as they are lent.
+abbrev lent : tie.Start → Rooms
+lent s =
+    let a = s .args in
+    roomsWith (a .labels .now) (a .equations .now) (a .values .now) (a .marks .now) (a .moves .now) (a .index .now) (a .queue .now)
+
+-- The points of the program: from what is known at a later one to what was known at an earlier one.
+abbrev start-before-work-ok : tie.After-work-ok → tie.Start
+start-before-work-ok c = c .before .before .before .before .before .before .before .before .before
+
+abbrev work-ok-before-session-refusal : tie.After-session-refusal → tie.After-work-ok
+work-ok-before-session-refusal c = c .before .before .before .before
+
+abbrev session-refusal-before-enum-told : tie.After-enum-told → tie.After-session-refusal
+session-refusal-before-enum-told c = c .before .before
+
+abbrev enum-told-before-read-on-arg5 : tie.After-read-on-arg5 → tie.After-enum-told
+enum-told-before-read-on-arg5 c = c .before .before .before .before .before
 
 work-ok-requires : tie.Need-work-ok-requires
 work-ok-requires c κs = search needs
@@ -21,11 +40,14 @@ enum-told c = search needs
 
 read-on-requires : tie.Need-read-on-requires
 read-on-requires c κs =
-    let s = c .before .before .before .before .before .before .before .before .before .before .before .before .before .before .before .before .before .before .before .before in
-    let a = s .args in
-    let l = roomsWith (a .labels .now) (a .equations .now) (a .values .now) (a .marks .now) (a .moves .now) (a .index .now) (a .queue .now) in
-    let h = measured (a .session) l (c .before .before .before .before .before .before .before .session-refusal .result) _ (c .before .before .before .before .before .before .before .before .before .before .before .work-ok .ensures) (c .before .before .before .before .before .before .before .session-refusal .ensures) in
-    sane (a .session) l (c .before .before .before .before .before .before .before .session-refusal .result) h (c .before .before .before .before .before .enum-told .given .1)
+    let after-enum-told = enum-told-before-read-on-arg5 c in
+    let after-session-refusal = session-refusal-before-enum-told after-enum-told in
+    let after-work-ok = work-ok-before-session-refusal after-session-refusal in
+    let at-start = start-before-work-ok after-work-ok in
+    let s = at-start .args .session in
+    let found = after-session-refusal .session-refusal in
+    let h = measured s (lent at-start) (found .result) _ (after-work-ok .work-ok .ensures) (found .ensures) in
+    sane s (lent at-start) (found .result) h (after-enum-told .enum-told .given .1)
 
 same-length : tie.Need-same-length
 same-length c = search needs
@@ -38,11 +60,13 @@ same-length-3 c = search needs
 
 returns : tie.Need-returns
 returns c =
-    let s = c .before .before .before .before .before .before .before .before .before .before .before .before .before .before .before .before in
-    let a = s .args in
-    let l = roomsWith (a .labels .now) (a .equations .now) (a .values .now) (a .marks .now) (a .moves .now) (a .index .now) (a .queue .now) in
-    let h = measured (a .session) l (c .before .before .before .session-refusal .result) _ (c .before .before .before .before .before .before .before .work-ok .ensures) (c .before .before .before .session-refusal .ensures) in
-    batch-stops (a .session) l (a .bytes .now) (c .before .before .before .session-refusal .result) h _ (c .before .found .given .1)
+    let after-session-refusal = c .before .before .before in
+    let after-work-ok = work-ok-before-session-refusal after-session-refusal in
+    let at-start = start-before-work-ok after-work-ok in
+    let s = at-start .args .session in
+    let found = after-session-refusal .session-refusal in
+    let h = measured s (lent at-start) (found .result) _ (after-work-ok .work-ok .ensures) (found .ensures) in
+    batch-stops s (lent at-start) (at-start .args .bytes .now) (found .result) h _ (c .before .found .given .1)
 
 same-length-4 : tie.Need-same-length-4
 same-length-4 c = search needs
@@ -61,11 +85,15 @@ same-length-8 c = search needs
 
 returns-2 : tie.Need-returns-2
 returns-2 c =
-    let s = c .before .before .before .before .before .before .before .before .before .before .before .before .before .before .before .before .before .before .before .before .before .before .before .before .before .before .before .before .before .before .before in
-    let a = s .args in
-    let l = roomsWith (a .labels .now) (a .equations .now) (a .values .now) (a .marks .now) (a .moves .now) (a .index .now) (a .queue .now) in
-    let h = measured (a .session) l (c .before .before .before .before .before .before .before .before .before .before .before .before .before .before .before .before .before .before .session-refusal .result) _ (c .before .before .before .before .before .before .before .before .before .before .before .before .before .before .before .before .before .before .before .before .before .before .work-ok .ensures) (c .before .before .before .before .before .before .before .before .before .before .before .before .before .before .before .before .before .before .session-refusal .ensures) in
-    c .before .before .before .before .before .before .before .before .before .before .read-on .ensures ∙ batch-goes (a .session) l (a .bytes .now) (c .before .before .before .before .before .before .before .before .before .before .before .before .before .before .before .before .before .before .session-refusal .result) h (c .before .before .before .before .before .before .before .before .before .before .before .before .before .before .before .before .enum-told .given .1)
+    let after-read-on = c .before .before .before .before .before .before .before .before .before .before in
+    let after-enum-told = enum-told-before-read-on-arg5 (after-read-on .before) in
+    let after-session-refusal = session-refusal-before-enum-told after-enum-told in
+    let after-work-ok = work-ok-before-session-refusal after-session-refusal in
+    let at-start = start-before-work-ok after-work-ok in
+    let s = at-start .args .session in
+    let found = after-session-refusal .session-refusal in
+    let h = measured s (lent at-start) (found .result) _ (after-work-ok .work-ok .ensures) (found .ensures) in
+    after-read-on .read-on .ensures ∙ batch-goes s (lent at-start) (at-start .args .bytes .now) (found .result) h (after-enum-told .enum-told .given .1)
 
 pub batch-spec : {M : Type 1} → statement M
 batch-spec =
