@@ -6,7 +6,7 @@ use Prim.Native.Nat.{ℕ, _+_, _*_, _≤_, _<_}
 use native.Mathlib.Omega.{arith}
 use lib.ListN.{length, take}
 use Rattle.lists.specs.Lists.{fill}
-use Rattle.lists.specs.Tests.{leb-is, cond-yes, cond-no}
+use Rattle.lists.specs.Tests.{leb-is, leb-no, cond-yes, cond-no}
 use Rattle.rules.specs.Records.{Outcome, refused, accepted}
 use Rattle.rules.specs.Rooms.{Rooms}
 use Rattle.rules.specs.Spelling.{encode}
@@ -15,16 +15,12 @@ use Rattle.rules.specs.Calls.{Left, writeBy, writable, write}
 use Rattle.rules.specs.Answers.{numberOf}
 use Rattle.rules.specs.declared.Refusal.{Refusal}
 use Rattle.rules.specs.declared.Session.{Session}
-use Rattle.laws.specs.bytes.SpellingLength.{labelled, equationSize, encode-length}
-use Rattle.lists.specs.Tests.{leb-no}
+use Rattle.laws.specs.bytes.SpellingLength.{encode-length}
 use Rattle.session_judge.specs.Checks.{checkOf, work-unasked, checkedSays, checked-stops, checked-goes}
 use Rattle.session_judge.specs.Passed.{passed-holds}
 use Rattle.session_judge.specs.declared.Checked.{Checked}
+use Rattle.model_write.specs.Spelled.{lengthBy}
 use Rattle.session_judge.specs.declared.Checked.the-variants as Found
-
--- The length of what is written, by the counts that the session keeps.
-abbrev pub lengthBy : Session → List ℕ → ℕ
-lengthBy s labels = 8 + s .live + 7 * labelled (take (s .sizes .states) labels) + 3 * s .sizes .blocks + equationSize (s .sizes) * s .sizes .variables + 6 * s .moves
 
 -- The call left this answer and this output.
 abbrev pub wrote : Outcome ℕ → List ℕ → Left ℕ (List ℕ)
@@ -39,7 +35,7 @@ module _ (s : Session) (l : Rooms) (out : List ℕ) (k : Checked) (h : checkedSa
 
   module _ (g : k ≡ Found.Good) where
     -- The length of the spelling, by the counts.
-    pub good-length : length (encode (held s l)) ≡ lengthBy s (l .labels)
+    pub good-length : length (encode (held s l)) ≡ lengthBy s (held s l .labels)
     good-length =
         let w = passed-holds true s l k h g in
         let e = encode-length (held s l) (w .0) in

@@ -9,7 +9,8 @@ use rules::Written;
 use session_judge::Checked;
 
 // The model's spelling, written into the front of the output. It is refused 12 for the counts, 13 for the rooms, 12 for the
-// rest of the session and 13 for the room of the output; where it is refused, the output stays.
+// rest of the session and 13 for the room of the output; where it is refused, the output stays. The rooms are cut to their lengths
+// here.
 pub fn write(
     session: Session,
     labels: &[u32],
@@ -27,18 +28,19 @@ pub fn write(
         }
         Checked::Good => {}
     }
-    let n = model_write::spelled_length(session.sizes, session.live, session.moves, labels);
+    let states = session.sizes.states as usize;
+    let variables = session.sizes.variables as usize;
+    let count = session.moves as usize;
+    let n = model_write::spelled_length(session, &labels[..states]);
     if out.len() < n {
         return Written::Refused(Refusal::ShortRoom, 0);
     }
     model_write::write_model(
         &mut out[..n],
-        session.sizes,
-        session.live,
-        session.moves as usize,
-        labels,
-        equations,
-        moves,
+        session,
+        &labels[..states],
+        &equations[..variables],
+        &moves[..count],
     );
     Written::Accepted(n)
 }

@@ -13,6 +13,28 @@ use borrow.Author.Needs.{needs}
 use Rattle.model_write.proofs.write_model.Statement.{statement}
 use Rattle.model_write.proofs.write_model.Tie as tie
 
+-- From what is known after each part to what was known after the part before it, and at the start.
+abbrev start-before-sizes : tie.After-write-sizes → tie.Start
+start-before-sizes c = c .before .before .before .before .before .before .before
+
+abbrev sizes-before-live : tie.After-put-live → tie.After-write-sizes
+sizes-before-live c = c .before .before .before .before
+
+abbrev live-before-labels : tie.After-write-labels → tie.After-put-live
+live-before-labels c = c .before .before .before .before
+
+abbrev labels-before-equations : tie.After-write-equations → tie.After-write-labels
+labels-before-equations c = c .before .before .before .before .before
+
+abbrev start-before-live : tie.After-put-live → tie.Start
+start-before-live c = start-before-sizes (sizes-before-live c)
+
+abbrev start-before-labels : tie.After-write-labels → tie.Start
+start-before-labels c = start-before-live (live-before-labels c)
+
+abbrev start-before-equations : tie.After-write-equations → tie.Start
+start-before-equations c = start-before-labels (labels-before-equations c)
+
 -- The bytes of the parts, as the arguments give them.
 abbrev sizes-of : tie.Start → List ℕ
 sizes-of c = bytes (sizesRec (c .args .session .sizes))
@@ -63,60 +85,42 @@ after-equations c =
     let wrote = subst (λ (b : Bool). Wrote (p .write-labels .last .0) (p .write-labels .result) (equationBytes b 0 (map unword (s .args .equations .now)) 0) (c .write-equations .last .0) (c .write-equations .result)) (c .before .signed .ensures) (c .write-equations .ensures) in
     writing-more (after-labels p) (equations-of s) (moves-of s) (c .write-equations .last .0) (c .write-equations .result) refl wrote
 
--- The points of the program: from what is known at a later one to what was known at an earlier one.
-abbrev start-before-write-sizes-arg : tie.After-write-sizes-arg → tie.Start
-start-before-write-sizes-arg c = c .before .before .before .before .before .before
-
-abbrev write-sizes-before-put-live-arg : tie.After-put-live-arg → tie.After-write-sizes
-write-sizes-before-put-live-arg c = c .before .before .before
-
-abbrev start-before-put-live : tie.After-put-live → tie.Start
-start-before-put-live c = start-before-write-sizes-arg (write-sizes-before-put-live-arg (c .before) .before)
-
-abbrev put-live-before-write-labels-arg : tie.After-write-labels-arg → tie.After-put-live
-put-live-before-write-labels-arg c = c .before .before .before
-
-abbrev write-equations-before-write-moves-arg : tie.After-write-moves-arg → tie.After-write-equations
-write-equations-before-write-moves-arg c = c .before .before .before
-
 write-sizes-requires : tie.Need-write-sizes-requires
 unfolding widths
 write-sizes-requires c κs =
-    let at-start = start-before-write-sizes-arg c in
-    writing-fits (begun at-start) (sizes-of at-start) (live-of at-start ++ (labels-of at-start ++ (equations-of at-start ++ moves-of at-start))) (parts at-start)
+    let s = c .before .before .before .before .before .before in
+    writing-fits (begun s) (sizes-of s) (live-of s ++ (labels-of s ++ (equations-of s ++ moves-of s))) (parts s)
 
 put-live-requires : tie.Need-put-live-requires
 put-live-requires c κs =
-    let after-write-sizes = write-sizes-before-put-live-arg c in
-    let at-start = start-before-write-sizes-arg (after-write-sizes .before) in
-    writing-fits (after-sizes after-write-sizes) (live-of at-start) (labels-of at-start ++ (equations-of at-start ++ moves-of at-start)) refl
+    let p = c .before .before .before in
+    let s = start-before-sizes p in
+    writing-fits (after-sizes p) (live-of s) (labels-of s ++ (equations-of s ++ moves-of s)) refl
 
 write-labels-requires : tie.Need-write-labels-requires
 write-labels-requires c κs =
-    let after-put-live = put-live-before-write-labels-arg c in
-    let at-start = start-before-put-live after-put-live in
-    (writing-fits (after-live after-put-live) (labels-of at-start) (equations-of at-start ++ moves-of at-start) refl, at-start .pre .0 .0)
+    let p = c .before .before .before in
+    let s = start-before-live p in
+    (writing-fits (after-live p) (labels-of s) (equations-of s ++ moves-of s) refl, s .pre .0 .0)
 
 signed-requires : tie.Need-signed-requires
 signed-requires c κs = search needs
 
 write-equations-requires : tie.Need-write-equations-requires
 write-equations-requires c κs =
-    let after-write-labels = c .before .before .before .before in
-    let at-start = start-before-put-live (put-live-before-write-labels-arg (after-write-labels .before)) in
-    let fits = writing-fits (after-labels after-write-labels) (equations-of at-start) (moves-of at-start) refl in
-    (subst (λ (b : Bool). HasRoom (after-write-labels .write-labels .last .0) (after-write-labels .write-labels .result) (equationBytes b 0 (map unword (at-start .args .equations .now)) 0)) (sym (c .signed .ensures)) fits, at-start .pre .0 .1)
+    let p = c .before .before .before .before in
+    let s = start-before-labels p in
+    let fits = writing-fits (after-labels p) (equations-of s) (moves-of s) refl in
+    (subst (λ (b : Bool). HasRoom (p .write-labels .last .0) (p .write-labels .result) (equationBytes b 0 (map unword (s .args .equations .now)) 0)) (sym (c .signed .ensures)) fits, s .pre .0 .1)
 
 write-moves-requires : tie.Need-write-moves-requires
-write-moves-requires c κs = after-equations (write-equations-before-write-moves-arg c) .room
+write-moves-requires c κs = after-equations (c .before .before .before) .room
 
 same-length : tie.Need-same-length
 same-length c = search needs
 
 returns : tie.Need-returns
-returns c =
-    let after-write-moves = c .before .before in
-    after-equations (write-equations-before-write-moves-arg (after-write-moves .before)) .leads _ _ (after-write-moves .write-moves .ensures)
+returns c = after-equations (c .before .before .before .before .before .before) .leads _ _ (c .before .before .write-moves .ensures)
 
 pub write-model-spec : {M : Type 1} → statement M
 write-model-spec =
