@@ -10,7 +10,7 @@ use Rattle.bytes_read.specs.Places.{recordAt}
 use Rattle.bytes_read.specs.declared.Read.{Read}
 use Rattle.batch_read.specs.Going.{placeOf, answerOf, putChange, Began, Follows, Onward, Going, left}
 use Rattle.batch_read.specs.Reading.{Turned, ReadInto}
-use Rattle.batch_read.specs.TurnLaws.{put-code}
+use Rattle.batch_read.specs.ChangeTurns.{put-code}
 use Rattle.batch_read.specs.declared.ChangeTurn.{ChangeTurn}
 use Rattle.batch_read.specs.declared.ChangeTurn.the-variants as T
 

@@ -1,6 +1,6 @@
 pub mod Reading
 pub mod Going
-pub mod TurnLaws
+pub mod ChangeTurns
 pub mod GoingLaws
 pub mod Passing
 pub mod PassingLaws

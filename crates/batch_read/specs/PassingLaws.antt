@@ -18,7 +18,7 @@ use Rattle.batch_read.specs.Going.{Onward, Going}
 use Rattle.batch_read.specs.GoingLaws.{follows-on}
 use Rattle.batch_read.specs.Passing.{GoodChange, nextCode, ChangesPut, none, more, Within, Forwarded}
 use Rattle.batch_read.specs.Reading.{changeTurn, Turned}
-use Rattle.batch_read.specs.TurnLaws.{turned-insert, turned-delete}
+use Rattle.batch_read.specs.ChangeTurns.{turned-insert, turned-delete}
 use Rattle.batch_read.specs.declared.ChangeRun.{ChangeRun}
 use Rattle.batch_read.specs.declared.ChangeTurn.{ChangeTurn}
 use Rattle.batch_read.specs.declared.ChangeTurn.the-variants as T

@@ -10,16 +10,13 @@ use Rattle.lists.specs.Lists.{bit}
 use Rattle.lists.specs.Tests.{ltb-is, ltb-no, or-no}
 use Rattle.rules.specs.Rooms.{Rooms}
 use Rattle.rules.specs.Values.{state, variable}
-use Rattle.rules.specs.Calls.{load, batch, write, ask}
+use Rattle.rules.specs.Calls.{load, batch, write, ask, leaves}
 use Rattle.rules.specs.Answers.{loadedSays, updatedSays, writtenSays, askedSays}
 use Rattle.rules.specs.declared.Session.{Session}
 use Rattle.rules.specs.declared.Loaded.{Loaded}
 use Rattle.rules.specs.declared.Updated.{Updated}
 use Rattle.rules.specs.declared.Written.{Written}
 use Rattle.rules.specs.declared.Asked.{Asked}
-use Rattle.call_load.specs.LoadLaws.{loaded}
-use Rattle.call_batch.specs.BatchLaws.{updated}
-use Rattle.call_write.specs.WriteLaws.{wrote}
 use Rattle.boundary_numbers.specs.Numbers.{sessionIn, sessionAfter, movedTo, reportAfter, told}
 use Rattle.boundary.specs.Boundary.{loadedTo, loadLeft, loadCall, batchedTo, batchLeft, batchCall, wroteTo, writeLeft, writeCall, askCall}
 
@@ -45,7 +42,7 @@ module _ (session : List ℕ) (l : Rooms) (out : List ℕ) where
 
   -- A session s was read, the call answered k and left the output so, and r is told of it.
   pub write-comes : (s : Session) (k : Written) (after : List ℕ) (r : ℕ) → 8 ≤ length session → s ≡ sessionIn session
-      → wrote (writtenSays k) after ≡ write s l out → r ≡ told (λ n. n) (writtenSays k) → wroteTo r after ≡ writeCall session l out
+      → leaves (writtenSays k) after ≡ write s l out → r ≡ told (λ n. n) (writtenSays k) → wroteTo r after ≡ writeCall session l out
   unfolding writeCall
   write-comes s k after r h i e b = rw (b, ltb-no (length session) 8 .1 h) (ap writeLeft (rw i at e))
 
@@ -57,7 +54,7 @@ module _ (session : List ℕ) (l : Rooms) (bytes : List ℕ) where
   load-short h = rw (ltb-is (length session) 8 .1 h) refl
 
   -- The call answered k and left the rooms so, r is told of it, and its session was kept.
-  pub load-comes : (k : Loaded) (after : Rooms) (r : ℕ) (kept : List ℕ) → 8 ≤ length session → loaded (loadedSays k) after ≡ load l bytes
+  pub load-comes : (k : Loaded) (after : Rooms) (r : ℕ) (kept : List ℕ) → 8 ≤ length session → leaves (loadedSays k) after ≡ load l bytes
       → r ≡ told (λ _. 0) (loadedSays k) → kept ≡ sessionAfter session (loadedSays k) → loadedTo r kept after ≡ loadCall session l bytes
   unfolding loadCall
   load-comes k after r kept h e b d = rw (b, d, ltb-no (length session) 8 .1 h) (ap (loadLeft session) e)
@@ -80,7 +77,7 @@ module _ (session : List ℕ) (l : Rooms) (report : List ℤ) (bytes : List ℕ)
     -- A session s was read, the call answered k and left the rooms so, r is told of it, and its session and its report
     -- were kept.
     pub batch-comes : (s : Session) (k : Updated) (after : Rooms) (r : ℕ) (kept : List ℕ) (told-of : List ℤ) → s ≡ sessionIn session
-        → updated (updatedSays k) after ≡ batch s l bytes → r ≡ told (λ _. 0) (updatedSays k)
+        → leaves (updatedSays k) after ≡ batch s l bytes → r ≡ told (λ _. 0) (updatedSays k)
         → kept ≡ sessionAfter session (movedTo (updatedSays k)) → told-of ≡ reportAfter report (updatedSays k)
         → batchedTo r kept after told-of ≡ batchCall session l report bytes
     unfolding batchCall

@@ -50,7 +50,14 @@ pub fn write_sizes(out: &mut [u8], at: usize, z: Sizes)
     ensures { λ _. ⌜ now (out .exit) ≡ sets (now (out .entry)) at (bytes (sizesRec z)) ⌝ }
 {
     let states = z.states as u32;
-    put4(out, at, 1, words::byte_1(states), words::byte_2(states), z.actions);
+    put4(
+        out,
+        at,
+        1,
+        words::byte_1(states),
+        words::byte_2(states),
+        z.actions,
+    );
     put3(out, at + 4, z.propositions, z.variables, z.blocks);
 }
 
@@ -108,7 +115,14 @@ pub fn write_move(out: &mut [u8], at: usize, q: u32)
     let m = words::unpacked(q);
     let source = m.source.0 as u32;
     let target = m.target.0 as u32;
-    put4(out, at, 5, words::byte_1(source), words::byte_2(source), m.action.0);
+    put4(
+        out,
+        at,
+        5,
+        words::byte_1(source),
+        words::byte_2(source),
+        m.action.0,
+    );
     put2(out, at + 4, words::byte_1(target), words::byte_2(target));
 }
 

@@ -8,7 +8,7 @@ use Rattle.rules.specs.Records.{Outcome, refused, accepted}
 use Rattle.rules.specs.Rooms.{Rooms, roomsOf, lengthsOf, roomsOk, workOk, lentOk}
 use Rattle.rules.specs.Batch.{Batch, readBatch, judge}
 use Rattle.rules.specs.Session.{held, countsOk, restOk}
-use Rattle.rules.specs.Calls.{Left, andThen, judged, batchBy, batch}
+use Rattle.rules.specs.Calls.{Left, andThen, judged, batchBy, batch, leaves}
 use Rattle.rules.specs.Answers.{numberOf}
 use Rattle.rules.specs.declared.Refusal.{Refusal}
 use Rattle.rules.specs.declared.Session.{Session}
@@ -16,10 +16,6 @@ use Rattle.rules.specs.declared.Report.{Report}
 use Rattle.session_judge.specs.Checks.{checkOf, checkedSays, checked-stops, checked-goes}
 use Rattle.session_judge.specs.declared.Checked.{Checked}
 use Rattle.session_judge.specs.declared.Checked.the-variants as Found
-
--- The call left this answer and these rooms.
-abbrev pub updated : Outcome Report → Rooms → Left Report Rooms
-updated o l = record { answer = o; rooms = l }
 
 -- A session that was checked in the rooms that it lies in, where `work` says whether those to work in are long enough: the check
 -- looks at these no further, so that is what is asked of all rooms.
@@ -32,7 +28,7 @@ measured s l k work e h = h ∙ ap (λ (w : Bool). checkOf w s l) e
 -- A session that was checked: k is what the check found.
 module _ (s : Session) (l : Rooms) (bytes : List ℕ) (k : Checked) (h : checkedSays k ≡ checkOf (workOk (lengthsOf l) (s .sizes)) s l) where
   -- A refusal of the check is the answer, and the rooms stay.
-  pub batch-stops : (why : Refusal) → k ≡ Found.Refused why → updated (refused (numberOf why) 0) l ≡ batch s l bytes
+  pub batch-stops : (why : Refusal) → k ≡ Found.Refused why → leaves (refused (numberOf why) 0) l ≡ batch s l bytes
   unfolding batch judged lentOk
   batch-stops why g = sym (ap (batchBy s l) (checked-stops _ s l k h _ why g))
 

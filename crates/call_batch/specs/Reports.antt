@@ -17,7 +17,7 @@ use Rattle.rules.specs.Batch.{Change, Batch, readBatch, judge, edited}
 use Rattle.rules.specs.Session.{held}
 use Rattle.rules.specs.Update.{Turned, changed, turnAll, trues}
 use Rattle.rules.specs.Values.{Values}
-use Rattle.rules.specs.Calls.{Left, andThen, valueAt, batchBy}
+use Rattle.rules.specs.Calls.{Left, andThen, valueAt, batchBy, leaves}
 use Rattle.rules.specs.Answers.{numberOf}
 use Rattle.rules.specs.declared.Refusal.{Refusal}
 use Rattle.rules.specs.declared.Session.{Session}
@@ -28,7 +28,6 @@ use Rattle.batch_judge.specs.Judging.{verdictSays}
 use Rattle.batch_judge.specs.declared.Verdict.{Verdict}
 use Rattle.batch_judge.specs.declared.Verdict.the-variants as Found
 use Rattle.batch_apply.specs.Kept.{kept, appliedTo}
-use Rattle.call_batch.specs.BatchLaws.{updated}
 use Rattle.engine_table.specs.Lent.{tableOf}
 use Rattle.engine_values.specs.Differences.{mag-sub}
 use Rattle.engine.specs.Updates.{Leaves}
@@ -66,7 +65,7 @@ pub update-reports : (s : Session) (l : Rooms) (cs : List Change) (a : Able s l 
     → length ms ≡ length (l .moves) → (values marks index queue : List ℕ) (shift settle : ℕ) (net : ℤ) (stamp : ℕ)
     → Leaves (tableOf (s .sizes) (l .labels) (l .equations) ms n) (turnAll (tableOf (s .sizes) (l .labels) (l .equations) ms n) cs (valueAt (l .values))) (l .values) (l .marks) values marks shift settle net
     → index ≡ indexAfter (s .sizes) (length ms) (l .index) → queue ≡ queueAfter (s .sizes) (l .queue) → stamp ≡ carry (s .stamp) cs
-    → updated (accepted (record { session = record { sizes = s .sizes; live = s .live; moves = n; stamp = stamp }; visits = record { shift = shift; settle = settle }; net = net })) (roomsWith (l .labels) (l .equations) values marks ms index queue)
+    → leaves (accepted (record { session = record { sizes = s .sizes; live = s .live; moves = n; stamp = stamp }; visits = record { shift = shift; settle = settle }; net = net })) (roomsWith (l .labels) (l .equations) values marks ms index queue)
     ≡ batchOf s l cs
 update-reports s l cs a ms n e long values marks index queue shift settle net stamp f j q c =
     let g = leaves-live (changed cs (held s l)) cs (l .values) (l .marks) values marks shift settle net
@@ -108,12 +107,12 @@ module _ (s : Session) (l : Rooms) (b : Batch) (v : Verdict) (h : verdictSays b 
   read-good x g e = e ∙ sym (ap (batchBy s l) (judged-good g))
 
   -- A refusal is the answer, and the rooms stay.
-  pub read-bad : (why : Refusal) (at : ℕ) → v ≡ Found.Refused why at → updated (refused (numberOf why) at) l ≡ batchRead s l b
+  pub read-bad : (why : Refusal) (at : ℕ) → v ≡ Found.Refused why at → leaves (refused (numberOf why) at) l ≡ batchRead s l b
   read-bad why at g = sym (ap (batchBy s l) (sym h ∙ ap (verdictSays b) g))
 
 -- Bytes that are read as a batch come to what the batch comes to, and a refusal of the reading is the answer.
 pub bytes-good : (s : Session) (l : Rooms) (bytes : List ℕ) (b : Batch) → readBatch (s .sizes) bytes ≡ accepted b → batchRead s l b ≡ batchBytes s l bytes
 bytes-good s l bytes b e = sym (ap (λ (o : Outcome Batch). batchBy s l (andThen o (judge s (length (l .moves)) (held s l .moves)))) e)
 
-pub bytes-bad : (s : Session) (l : Rooms) (bytes : List ℕ) (n p : ℕ) → readBatch (s .sizes) bytes ≡ refused n p → updated (refused n p) l ≡ batchBytes s l bytes
+pub bytes-bad : (s : Session) (l : Rooms) (bytes : List ℕ) (n p : ℕ) → readBatch (s .sizes) bytes ≡ refused n p → leaves (refused n p) l ≡ batchBytes s l bytes
 bytes-bad s l bytes n p e = sym (ap (λ (o : Outcome Batch). batchBy s l (andThen o (judge s (length (l .moves)) (held s l .moves)))) e)

@@ -8,11 +8,10 @@ ghost use Rattle.rules.specs.Limits.{most-changes};
 ghost use Rattle.rules.specs.Batch.{changesOk};
 ghost use Rattle.rules.specs.Records.{accepted};
 ghost use Rattle.rules.specs.Answers.{updatedSays};
-ghost use Rattle.rules.specs.Calls.{batch};
+ghost use Rattle.rules.specs.Calls.{batch, leaves};
 ghost use Rattle.words.specs.Words.{changesOf};
 ghost use Rattle.batch_judge.specs.Judging.{batchIn};
 ghost use Rattle.rules.specs.Rooms.{roomsWith};
-ghost use Rattle.call_batch.specs.BatchLaws.{updated};
 ghost use Rattle.call_batch.specs.Moving.{Sane, Able};
 ghost use Rattle.call_batch.specs.Reports.{batchOf, batchRead, batchBytes};
 use batch_judge::Verdict;
@@ -36,7 +35,7 @@ fn move_on(
     queue: &mut [u16],
 ) -> Report
     requires { ⌜ Able session (roomsWith (now labels) (now equations) (now values) (now marks) (now moves) (now index) (now queue)) (changesOf (now changes)) ⌝ }
-    ensures { λ r. ⌜ updated (accepted r) (roomsWith (now (labels .entry)) (now (equations .entry)) (now (values .exit)) (now (marks .exit)) (now (moves .exit)) (now (index .exit)) (now (queue .exit)))
+    ensures { λ r. ⌜ leaves (accepted r) (roomsWith (now (labels .entry)) (now (equations .entry)) (now (values .exit)) (now (marks .exit)) (now (moves .exit)) (now (index .exit)) (now (queue .exit)))
         ≡ batchOf session (roomsWith (now (labels .entry)) (now (equations .entry)) (now (values .entry)) (now (marks .entry)) (now (moves .entry)) (now (index .entry)) (now (queue .entry))) (changesOf (now (changes .entry))) ⌝ }
 {
     let sizes = session.sizes;
@@ -84,7 +83,7 @@ fn judge_on(
 ) -> Updated
     requires { ⌜ Sane session (roomsWith (now labels) (now equations) (now values) (now marks) (now moves) (now index) (now queue)) ⌝ }
     requires { ⌜ (length (now changes) ≤ most-changes) × (changesOk (session .sizes) (changesOf (now changes)) ≡ true) ⌝ }
-    ensures { λ r. ⌜ updated (updatedSays r) (roomsWith (now (labels .entry)) (now (equations .entry)) (now (values .exit)) (now (marks .exit)) (now (moves .exit)) (now (index .exit)) (now (queue .exit)))
+    ensures { λ r. ⌜ leaves (updatedSays r) (roomsWith (now (labels .entry)) (now (equations .entry)) (now (values .exit)) (now (marks .exit)) (now (moves .exit)) (now (index .exit)) (now (queue .exit)))
         ≡ batchRead session (roomsWith (now (labels .entry)) (now (equations .entry)) (now (values .entry)) (now (marks .entry)) (now (moves .entry)) (now (index .entry)) (now (queue .entry)))
         (batchIn stamp (now (changes .entry))) ⌝ }
 {
@@ -120,7 +119,7 @@ fn read_on(
     queue: &mut [u16],
 ) -> Updated
     requires { ⌜ Sane session (roomsWith (now labels) (now equations) (now values) (now marks) (now moves) (now index) (now queue)) ⌝ }
-    ensures { λ r. ⌜ updated (updatedSays r) (roomsWith (now (labels .entry)) (now (equations .entry)) (now (values .exit)) (now (marks .exit)) (now (moves .exit)) (now (index .exit)) (now (queue .exit)))
+    ensures { λ r. ⌜ leaves (updatedSays r) (roomsWith (now (labels .entry)) (now (equations .entry)) (now (values .exit)) (now (marks .exit)) (now (moves .exit)) (now (index .exit)) (now (queue .exit)))
         ≡ batchBytes session (roomsWith (now (labels .entry)) (now (equations .entry)) (now (values .entry)) (now (marks .entry)) (now (moves .entry)) (now (index .entry)) (now (queue .entry))) (now (bytes .entry)) ⌝ }
 {
     let mut changes = [0u32; limits::MOST_CHANGES];
@@ -154,7 +153,7 @@ pub fn batch(
     index: &mut [u16],
     queue: &mut [u16],
 ) -> Updated
-    ensures { λ r. ⌜ updated (updatedSays r) (roomsWith (now (labels .entry)) (now (equations .entry)) (now (values .exit)) (now (marks .exit)) (now (moves .exit)) (now (index .exit)) (now (queue .exit)))
+    ensures { λ r. ⌜ leaves (updatedSays r) (roomsWith (now (labels .entry)) (now (equations .entry)) (now (values .exit)) (now (marks .exit)) (now (moves .exit)) (now (index .exit)) (now (queue .exit)))
         ≡ batch session (roomsWith (now (labels .entry)) (now (equations .entry)) (now (values .entry)) (now (marks .entry)) (now (moves .entry)) (now (index .entry)) (now (queue .entry))) (now (bytes .entry)) ⌝ }
 {
     let lent = Lent {

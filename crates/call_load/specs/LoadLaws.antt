@@ -15,7 +15,7 @@ use Rattle.rules.specs.Moves.{stampOf}
 use Rattle.rules.specs.Load.{readModel}
 use Rattle.rules.specs.Values.{solve}
 use Rattle.rules.specs.Session.{sessionOf}
-use Rattle.rules.specs.Calls.{Left, bits, loadBy, load}
+use Rattle.rules.specs.Calls.{Left, bits, loadBy, load, leaves}
 use Rattle.rules.specs.Answers.{numberOf}
 use Rattle.rules.specs.declared.Refusal.{Refusal}
 use Rattle.rules.specs.declared.Session.{Session}
@@ -31,10 +31,6 @@ use Rattle.model_judge.specs.declared.ReadModel.the-variants as M
 use Rattle.model_store.specs.Stored.{Stored, three, storedBy, ReadInto}
 use Rattle.engine_table.specs.Lent.{tableOf, Drawn}
 
--- The call left this answer and these rooms.
-abbrev pub loaded : Outcome Session → Rooms → Left Session Rooms
-loaded o l = record { answer = o; rooms = l }
-
 -- The three rooms that a reading fills.
 abbrev pub readRooms : Rooms → Stored
 readRooms l = three (l .labels) (l .equations) (l .moves)
@@ -45,7 +41,7 @@ withRead u values marks index queue = roomsWith (u .labels) (u .equations) value
 
 -- A reading that refused leaves what a refused load leaves.
 refused-leaves : (o : Outcome Model) (n p : ℕ) (l : Rooms) (u : Stored) → refused n p ≡ summary o → u ≡ storedBy o (readRooms l)
-    → loaded (refused n p) (withRead u (l .values) (l .marks) (l .index) (l .queue)) ≡ loadBy l o
+    → leaves (refused n p) (withRead u (l .values) (l .marks) (l .index) (l .queue)) ≡ loadBy l o
 refused-leaves (refused k q) n p l u h e =
     let a : n ≡ k = cc in
     let b : p ≡ q = cc in
@@ -86,7 +82,7 @@ module _ (l : Rooms) (m : Model) (w : WellFormed m) (r : lentOk (lengthsOf l) (m
 -- The rooms l, and a reading of the bytes s into them that answered r and left u.
 module _ (l : Rooms) (s : List ℕ) (y : AreBytes s) (r : ReadModel) (u : Stored) (h : ReadInto s (lengthsOf l) (readRooms l) r u) where
   -- A refusal of the reading is the answer, and the rooms stay.
-  pub load-refused : (why : Refusal) (p : ℕ) → r ≡ M.Refused why p → loaded (refused (numberOf why) p) (withRead u (l .values) (l .marks) (l .index) (l .queue)) ≡ load l s
+  pub load-refused : (why : Refusal) (p : ℕ) → r ≡ M.Refused why p → leaves (refused (numberOf why) p) (withRead u (l .values) (l .marks) (l .index) (l .queue)) ≡ load l s
   unfolding load
   load-refused why p g = refused-leaves (readModel (lengthsOf l) s) (numberOf why) p l u (rw g at (h .says)) (h .stores)
 
@@ -137,7 +133,7 @@ module _ (l : Rooms) (s : List ℕ) (y : AreBytes s) (r : ReadModel) (u : Stored
     pub load-good : (values marks index queue : List ℕ) (stamp : ℕ)
         → values ≡ fill (bits (pairsOf z) (at (solve (tableOf z (u .labels) (u .equations) (u .moves) n)))) (l .values)
         → marks ≡ fill (replicate (pairsOf z) 0) (l .marks) → index ≡ indexAfter z (length (u .moves)) (l .index) → queue ≡ queueAfter z (l .queue) → stamp ≡ stampOf (take n (u .moves))
-        → loaded (accepted (record { sizes = z; live = live; moves = n; stamp = stamp })) (withRead u values marks index queue) ≡ load l s
+        → leaves (accepted (record { sizes = z; live = live; moves = n; stamp = stamp })) (withRead u values marks index queue) ≡ load l s
     unfolding load
     load-good values marks index queue stamp a b j q d =
         let f = found in
@@ -152,7 +148,7 @@ module _ (l : Rooms) (s : List ℕ) (y : AreBytes s) (r : ReadModel) (u : Stored
         j ∙ ap (λ (x : Sizes). indexAfter x (length (u .moves)) (l .index)) zs ∙ ap (λ (n : ℕ). indexAfter (f .model .sizes) n (l .index)) (f .moves-room) in
         let qs : queue ≡ queueAfter (f .model .sizes) (l .queue) = q ∙ ap (λ (x : Sizes). queueAfter x (l .queue)) zs in
         let ss : stamp ≡ stampOf (f .model .moves) = d ∙ ap (λ (x : Model). stampOf (x .moves)) t in
-        let is : loaded (accepted (record { sizes = z; live = live; moves = n; stamp = stamp })) (withRead u values marks index queue) ≡ loadBy l (accepted (f .model)) =
+        let is : leaves (accepted (record { sizes = z; live = live; moves = n; stamp = stamp })) (withRead u values marks index queue) ≡ loadBy l (accepted (f .model)) =
         λ i. record {
           answer = accepted (record { sizes = zs i; live = f .flag i; moves = f .count i; stamp = ss i });
           rooms = withRead (f .stored i) (vs i) (ks i) (js i) (qs i);

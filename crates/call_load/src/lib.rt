@@ -1,9 +1,8 @@
 // The call that loads a model: read and judged, stored in the rooms lent, and its values found.
 ghost use mathlib.Core.Path.{_≡_};
 ghost use Rattle.rules.specs.Rooms.{roomsWith};
-ghost use Rattle.rules.specs.Calls.{load};
+ghost use Rattle.rules.specs.Calls.{load, leaves};
 ghost use Rattle.rules.specs.Answers.{loadedSays};
-ghost use Rattle.call_load.specs.LoadLaws.{loaded};
 use limits::Lent;
 use model_judge::ReadModel;
 use rules::Loaded;
@@ -21,7 +20,7 @@ pub fn load(
     index: &mut [u16],
     queue: &mut [u16],
 ) -> Loaded
-    ensures { λ r. ⌜ loaded (loadedSays r) (roomsWith (now (labels .exit)) (now (equations .exit)) (now (values .exit)) (now (marks .exit)) (now (moves .exit)) (now (index .exit)) (now (queue .exit)))
+    ensures { λ r. ⌜ leaves (loadedSays r) (roomsWith (now (labels .exit)) (now (equations .exit)) (now (values .exit)) (now (marks .exit)) (now (moves .exit)) (now (index .exit)) (now (queue .exit)))
         ≡ load (roomsWith (now (labels .entry)) (now (equations .entry)) (now (values .entry)) (now (marks .entry)) (now (moves .entry)) (now (index .entry)) (now (queue .entry))) (now (bytes .entry)) ⌝ }
 {
     let lent = Lent {
@@ -49,7 +48,7 @@ pub fn load(
                 index,
                 queue,
             );
-            let stamp = moves::stamp_of(moves, n);
+            let stamp = moves::stamp_of(&moves[..n]);
             Loaded::Accepted(Session {
                 sizes: sizes,
                 live: live,

@@ -12,12 +12,12 @@ use Rattle.rules.specs.Records.{refused, accepted}
 use Rattle.rules.specs.Rooms.{Rooms}
 use Rattle.rules.specs.Spelling.{encode}
 use Rattle.rules.specs.Session.{held}
-use Rattle.rules.specs.Calls.{write}
+use Rattle.rules.specs.Calls.{write, leaves}
 use Rattle.rules.specs.declared.Session.{Session}
 use Rattle.session_check.specs.Fitting.{Fits}
 use Rattle.session_judge.specs.Checks.{checkOf, checkedSays}
 use Rattle.session_judge.specs.Passed.{passed-fits}
-use Rattle.call_write.specs.WriteLaws.{wrote, good-length, write-short, write-good}
+use Rattle.call_write.specs.WriteLaws.{good-length, write-short, write-good}
 use Rattle.session_judge.specs.declared.Checked.{Checked}
 use Rattle.session_judge.specs.declared.Checked.the-variants as Found
 use Rattle.model_write.specs.Spelled.{HasRoom, Wrote, lengthBy}
@@ -49,7 +49,7 @@ module _ (s : Session) (l : Rooms) (out : List ℕ) (found : Checked) (h : check
     counted-is = e ∙ sym (good-length s l out found h g)
 
     -- 13 where the output is shorter, and it stays.
-    pub leaves-short : length out < n → wrote (refused 13 0) out ≡ write s l out
+    pub leaves-short : length out < n → leaves (refused 13 0) out ≡ write s l out
     leaves-short f = write-short s l out found h g n counted-is f
 
     -- Where it has room, as many of its places hold the spelling.
@@ -62,7 +62,7 @@ module _ (s : Session) (l : Rooms) (out : List ℕ) (found : Checked) (h : check
     -- Where it has room, the writer is handed as many places of the output as the spelling needs. What it leaves there, with the
     -- places past them, is what the call leaves.
     pub leaves-written : n ≤ length out → (part : List ℕ) (next : ℕ) → Wrote (take n out) 0 (encode (held s l)) part next
-        → wrote (accepted n) (part ++ drop n out) ≡ write s l out
+        → leaves (accepted n) (part ++ drop n out) ≡ write s l out
     leaves-written f part next w =
         let bs = encode (held s l) in
         let c = counted-is in

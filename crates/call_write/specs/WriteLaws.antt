@@ -11,7 +11,7 @@ use Rattle.rules.specs.Records.{Outcome, refused, accepted}
 use Rattle.rules.specs.Rooms.{Rooms}
 use Rattle.rules.specs.Spelling.{encode}
 use Rattle.rules.specs.Session.{held}
-use Rattle.rules.specs.Calls.{Left, writeBy, writable, write}
+use Rattle.rules.specs.Calls.{Left, writeBy, writable, write, leaves}
 use Rattle.rules.specs.Answers.{numberOf}
 use Rattle.rules.specs.declared.Refusal.{Refusal}
 use Rattle.rules.specs.declared.Session.{Session}
@@ -22,14 +22,10 @@ use Rattle.session_judge.specs.declared.Checked.{Checked}
 use Rattle.model_write.specs.Spelled.{lengthBy}
 use Rattle.session_judge.specs.declared.Checked.the-variants as Found
 
--- The call left this answer and this output.
-abbrev pub wrote : Outcome ℕ → List ℕ → Left ℕ (List ℕ)
-wrote o out = record { answer = o; rooms = out }
-
 -- A session that was checked: k is what the check found.
 module _ (s : Session) (l : Rooms) (out : List ℕ) (k : Checked) (h : checkedSays k ≡ checkOf true s l) where
   -- A refusal of the check is the answer, and the output stays.
-  pub write-stops : (why : Refusal) → k ≡ Found.Refused why → wrote (refused (numberOf why) 0) out ≡ write s l out
+  pub write-stops : (why : Refusal) → k ≡ Found.Refused why → leaves (refused (numberOf why) 0) out ≡ write s l out
   unfolding write writable
   write-stops why g = sym (ap (writeBy (held s l) out) (work-unasked s l _ ∙ checked-stops true s l k h _ why g))
 
@@ -43,7 +39,7 @@ module _ (s : Session) (l : Rooms) (out : List ℕ) (k : Checked) (h : checkedSa
 
     module _ (n : ℕ) (e : n ≡ length (encode (held s l))) where
       -- 13 where the output is too short, and it stays.
-      pub write-short : length out < n → wrote (refused 13 0) out ≡ write s l out
+      pub write-short : length out < n → leaves (refused 13 0) out ≡ write s l out
       unfolding write writable
       write-short f =
           let m = length (encode (held s l)) in
@@ -51,7 +47,7 @@ module _ (s : Session) (l : Rooms) (out : List ℕ) (k : Checked) (h : checkedSa
           sym (ap (writeBy (held s l) out) w)
 
       -- Where it has room, the answer is the length, and the output begins with the spelling.
-      pub write-good : n ≤ length out → (after : List ℕ) → after ≡ fill (encode (held s l)) out → wrote (accepted n) after ≡ write s l out
+      pub write-good : n ≤ length out → (after : List ℕ) → after ≡ fill (encode (held s l)) out → leaves (accepted n) after ≡ write s l out
       unfolding write writable
       write-good f after d =
           let m = length (encode (held s l)) in

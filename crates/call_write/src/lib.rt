@@ -20,7 +20,7 @@ pub fn write(
     moves: &[u32],
     out: &mut [u8],
 ) -> Written
-    ensures { λ r. ⌜ record { answer = writtenSays r; rooms = now (out .exit) } ≡ write session (roomsOf (now (labels .entry)) (now (equations .entry)) (now (values .entry)) (now (marks .entry)) (now (moves .entry))) (now (out .entry)) ⌝ }
+    ensures { λ r. ⌜ leaves (writtenSays r) (now (out .exit)) ≡ write session (roomsOf (now (labels .entry)) (now (equations .entry)) (now (values .entry)) (now (marks .entry)) (now (moves .entry))) (now (out .entry)) ⌝ }
 {
     match session_judge::session_refusal(session, labels, equations, values, marks, moves, true) {
         Checked::Refused(why) => {

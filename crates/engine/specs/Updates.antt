@@ -10,6 +10,7 @@ use lib.ListN.{length, getD, take, drop, replicate, length-replicate, length-app
 use lib.Seq.{getD-take, take-at, drop-append-seam, length-take-le}
 use lib.Dec.{eqb}
 use lib.IntN.{ℤ, pos, _-ℤ_}
+use Rattle.lists.specs.Marks.{markOf}
 use Rattle.lists.specs.Lists.{bit, listed, fill}
 use Rattle.lists.specs.Sums.{bit-le, sum-ext}
 use Rattle.lists.specs.Smallest.{at, table}
@@ -23,7 +24,7 @@ use Rattle.rules.specs.Model.{Model, blocksOf}
 use Rattle.rules.specs.Rooms.{pairsOf, indexNeeds}
 use Rattle.rules.specs.Batch.{Change, edited}
 use Rattle.rules.specs.Values.{Values, leanings, greatestIn, greatest, solve}
-use Rattle.rules.specs.Update.{changed, Turned, turnAll, markOf, visitsOn, trues, netOf}
+use Rattle.rules.specs.Update.{changed, Turned, turnAll, visitsOn, trues, netOf}
 use Rattle.rules.specs.Calls.{valueAt, bits, marksOf}
 use Rattle.laws.specs.moves.Edits.{Judged}
 use Rattle.laws.specs.model.ModelSystem.{frame, block-past, Sound, pairs-full, model-fits}

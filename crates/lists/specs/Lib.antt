@@ -10,3 +10,4 @@ pub mod SmallestLaws
 pub mod Entries
 pub mod Ranges
 pub mod Masks
+pub mod Marks

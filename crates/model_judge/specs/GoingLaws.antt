@@ -27,7 +27,7 @@ use Rattle.model_judge.specs.Passing.{Passed, here, on, Forwarded}
 use Rattle.model_judge.specs.Plain.{plain, withSigns}
 use Rattle.model_judge.specs.Progress.{sofarOf, Kept, KeptIn}
 use Rattle.model_judge.specs.SignsRead.{signed-there, signs-length, one-more, spelled-none, spelled-more}
-use Rattle.model_judge.specs.TurnLaws.{Stepped, label, block, equation, move, lives, sign, stepped, counted-by, first-is}
+use Rattle.model_judge.specs.RecordTurns.{Stepped, label, block, equation, move, lives, sign, stepped, counted-by, first-is}
 use Rattle.model_judge.specs.Turning.{readSays, summary, summaryAfter, readOn, Goes, Turned}
 use Rattle.model_judge.specs.declared.Progress.{Progress}
 use Rattle.model_judge.specs.declared.OneTurn.{OneTurn}

@@ -9,7 +9,7 @@ pub mod Beside
 pub mod Asking
 pub mod SignsRead
 pub mod Going
-pub mod TurnLaws
+pub mod RecordTurns
 pub mod PassingLaws
 pub mod GoingLaws
 pub mod AskedLaws

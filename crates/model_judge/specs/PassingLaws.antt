@@ -28,7 +28,7 @@ use Rattle.model_judge.specs.Going.{Inside}
 use Rattle.model_judge.specs.Passing.{Passed, here, on, Forwarded, labelRun, withLabels, blockEnd, equationAt, equationRun, withEquations, moveRun, withMoves}
 use Rattle.model_judge.specs.Plain.{plain}
 use Rattle.model_judge.specs.Progress.{sofarOf, KeptIn, LabelsDue, MovesDue}
-use Rattle.model_judge.specs.TurnLaws.{step-kept, turned-next}
+use Rattle.model_judge.specs.RecordTurns.{step-kept, turned-next}
 use Rattle.model_judge.specs.Turning.{Goes}
 use Rattle.model_judge.specs.declared.Progress.{Progress}
 use Rattle.model_judge.specs.declared.OneTurn.{OneTurn}

@@ -36,7 +36,7 @@ use Rattle.model_judge.specs.Passing.{labelRun, withLabels, blockEnd, equationA
 use Rattle.model_judge.specs.PassingLaws.{label-goes, equations-inside, equation-goes}
 use Rattle.model_judge.specs.Plain.{plain}
 use Rattle.model_judge.specs.Progress.{sofarOf, Kept, KeptIn, LabelsDue, MovesDue}
-use Rattle.model_judge.specs.TurnLaws.{Stepped, label, block, equation, move, end, lives, sign, refusal, stepped, step-kept}
+use Rattle.model_judge.specs.RecordTurns.{Stepped, label, block, equation, move, end, lives, sign, refusal, stepped, step-kept}
 use Rattle.model_judge.specs.Turning.{readOn}
 use Rattle.model_judge.specs.declared.Progress.{Progress}
 use Rattle.model_judge.specs.declared.OneTurn.{OneTurn}

@@ -47,7 +47,7 @@ use Rattle.model_judge.specs.declared.ReadModel.the-variants as M
 use Rattle.rules.specs.Answers.{numberOf}
 use Rattle.rules.specs.declared.Refusal.{Refusal}
 use Rattle.rules.specs.declared.Sizes.{Sizes}
-use Rattle.model_judge.specs.TurnLaws.{Stepped, label, block, equation, move, lives, sign, stepped, first-is}
+use Rattle.model_judge.specs.RecordTurns.{Stepped, label, block, equation, move, lives, sign, stepped, first-is}
 use Rattle.model_judge.specs.declared.Progress.{Progress}
 use Rattle.model_store.specs.Stored.{Stored, Here, Holds, Reached, NoMoves, Storing, Storable, StorableTurn, StoredWhole, putRooms, putTurn, laid, withComponents, storedBy, Spans, ReadInto}
 

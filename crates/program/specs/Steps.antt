@@ -10,13 +10,12 @@ use lib.ListN.{length, take, drop}
 use lib.Seq.{length-take-le}
 use Rattle.lists.specs.Tests.{tell, ltb-is, ltb-no}
 use Rattle.rules.specs.Answers.{updatedSays}
-use Rattle.rules.specs.Calls.{Left, batch}
+use Rattle.rules.specs.Calls.{Left, batch, leaves}
 use Rattle.rules.specs.Rooms.{Rooms}
 use Rattle.rules.specs.declared.Report.{Report}
 use Rattle.rules.specs.declared.Session.{Session}
 use Rattle.rules.specs.declared.Updated.{Updated}
 use Rattle.laws.specs.bytes.RecordLaws.{AreBytes}
-use Rattle.call_batch.specs.BatchLaws.{updated}
 use Rattle.model_write.specs.Spelled.{Wrote}
 use Rattle.program_cut.specs.Cut.{cut, allPieces}
 use Rattle.program_cut.specs.CutLaws.{cut-most, cut-more, pieces-more, pieces-none}
@@ -61,13 +60,13 @@ bytes-take (suc n) (b ∷ w) h = (h .0, bytes-take n w (h .1))
 
 -- The calls of one part are that part.
 pub stepped : (s : Session) (l : Rooms) (w : List ℕ) → AreBytes w → (out written : List ℕ) (at k : ℕ) (r : Went) (after : Rooms) (said : Updated)
-    → k ≡ cut w → updated (updatedSays said) after ≡ batch s l (take k w)
+    → k ≡ cut w → leaves (updatedSays said) after ≡ batch s l (take k w)
     → Wrote out at (batchPrints (updatedSays said) (after .values)) written (r .at) → r .at ≤ at + 96
     → r .session ≡ sessionAfter s (updatedSays said) → r .taken ≡ k
     → Stepped s l w out at r after written
 stepped s l w y out written at k r after said f g wrote most sess took =
     let b = batch s l (take (cut w) w) in
-    let e : updated (updatedSays said) after ≡ b = rw f at g in
+    let e : leaves (updatedSays said) after ≡ b = rw f at g in
     let a : updatedSays said ≡ b .answer = ap (λ (x : Left Report Rooms). x .answer) e in
     let q : after ≡ b .rooms = ap (λ (x : Left Report Rooms). x .rooms) e in
     let n = length-take-le (cut w) w (cut-most w) in

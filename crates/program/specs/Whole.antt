@@ -12,7 +12,7 @@ use Rattle.io.specs.Counts.{Counts}
 use Rattle.lists.specs.Lists.{fill}
 use Rattle.lists.specs.Tests.{tell, ltb-is, ltb-no}
 use Rattle.rules.specs.Answers.{numberOf, loadedSays}
-use Rattle.rules.specs.Calls.{Left, load}
+use Rattle.rules.specs.Calls.{Left, load, leaves}
 use Rattle.rules.specs.Records.{refused, accepted}
 use Rattle.rules.specs.Rooms.{Rooms}
 use Rattle.rules.specs.declared.Loaded.{Loaded}
@@ -20,7 +20,6 @@ use Rattle.rules.specs.declared.Loaded.the-variants as L
 use Rattle.rules.specs.declared.Refusal.{Refusal}
 use Rattle.rules.specs.declared.Session.{Session}
 use Rattle.laws.specs.bytes.RecordLaws.{AreBytes}
-use Rattle.call_load.specs.LoadLaws.{loaded}
 use Rattle.model_write.specs.Spelled.{Wrote}
 use Rattle.model_write.specs.SpelledLaws.{wrote-more, wrote-fills}
 use Rattle.program_cut.specs.Cut.{cut}
@@ -32,10 +31,10 @@ use Rattle.program.specs.Steps.{batchesFrom, bytes-take}
 
 -- The model's part handed over, and its line written.
 module _ (l : Rooms) (w : List ℕ) (y : AreBytes w) (k : ℕ) (cuts : k ≡ cut w) (said : Loaded) (after : Rooms)
-    (e : loaded (loadedSays said) after ≡ load l (take k w)) (out mid : List ℕ) (at : ℕ) (line : Wrote out 0 (loadPrints (loadedSays said) (after .values)) mid at)
+    (e : leaves (loadedSays said) after ≡ load l (take k w)) (out mid : List ℕ) (at : ℕ) (line : Wrote out 0 (loadPrints (loadedSays said) (after .values)) mid at)
     (most : at ≤ 96) where
   -- The part handed over is the cut.
-  loads : loaded (loadedSays said) after ≡ load l (take (cut w) w)
+  loads : leaves (loadedSays said) after ≡ load l (take (cut w) w)
   loads = rw cuts at e
 
   -- Its line is no longer than 16 bytes more than 16 for each byte of the part.
@@ -54,7 +53,7 @@ module _ (l : Rooms) (w : List ℕ) (y : AreBytes w) (k : ℕ) (cuts : k ≡ cut
   pub refused-run : (why : Refusal) (p : ℕ) → said ≡ L.Refused why p → Wrote out 0 (printedIn l w) mid at
   unfolding printedIn
   refused-run why p g =
-      let h : loaded (refused (numberOf why) p) after ≡ load l (take (cut w) w) = rw g at loads in
+      let h : leaves (refused (numberOf why) p) after ≡ load l (take (cut w) w) = rw g at loads in
       let v : Wrote out 0 (loadPrints (refused (numberOf why) p) (after .values)) mid at = rw g at line in
       rw (← h, append-nil) v
 
@@ -63,7 +62,7 @@ module _ (l : Rooms) (w : List ℕ) (y : AreBytes w) (k : ℕ) (cuts : k ≡ cut
       → Wrote out 0 (printedIn l w) written r
   unfolding printedIn batchesFrom
   accepted-run s g written r b =
-      let h : loaded (accepted s) after ≡ load l (take (cut w) w) = rw g at loads in
+      let h : leaves (accepted s) after ≡ load l (take (cut w) w) = rw g at loads in
       let v : Wrote out 0 (loadPrints (accepted s) (after .values)) mid at = rw g at line in
       let c : Wrote mid at (afterLoad (accepted s) after (drop (cut w) w)) written r = rw cuts at b in
       rw (← h) (wrote-more (loadPrints (accepted s) (after .values)) (afterLoad (accepted s) after (drop (cut w) w)) out mid written 0 at r v c)

@@ -5,6 +5,7 @@ use mathlib.Core.List.{List, [], _∷_, _++_, map}
 use Prim.Native.Nat.{ℕ, _-_}
 use lib.ListN.{length, getD, replicate}
 use lib.Dec.{eqb, ltb, leb}
+use Rattle.lists.specs.Marks.{markOf}
 use Rattle.lists.specs.Lists.{bit, listed, fill}
 use Rattle.lists.specs.Smallest.{at}
 use Rattle.rules.specs.Limits.{sizesOk}
@@ -15,7 +16,7 @@ use Rattle.rules.specs.Load.{readModel}
 use Rattle.rules.specs.Spelling.{encode}
 use Rattle.rules.specs.Batch.{Batch, readBatch, judge}
 use Rattle.rules.specs.Values.{Values, pair, solve}
-use Rattle.rules.specs.Update.{changed, Turned, turnAll, markOf, visitsOn, netOf}
+use Rattle.rules.specs.Update.{changed, Turned, turnAll, visitsOn, netOf}
 use Rattle.rules.specs.Session.{word, held, sessionOf, sessionDemands}
 use Rattle.rules.specs.declared.State.{State}
 use Rattle.rules.specs.declared.Variable.{Variable}
@@ -26,6 +27,10 @@ use Rattle.rules.specs.declared.Report.{Report}
 pub record Left (A R : Type 0) : Type 0 where
   pub answer : Outcome A
   pub rooms : R
+
+-- The same, from the answer and the rooms: a call's contract says what its answer and its rooms at the end are together.
+abbrev pub leaves : {A R : Type 0} → Outcome A → R → Left A R
+leaves o l = record { answer = o; rooms = l }
 
 -- Questions asked in order, each with the number of its refusal, at place 0: the first that fails decides.
 abbrev pub asked : {B : Type 0} → List (ℕ × Bool) → Outcome B → Outcome B

@@ -5,13 +5,14 @@ use Prim.Native.Nat.{ℕ, zero, suc}
 use lib.IntN.{ℤ, pos, _-ℤ_}
 use lib.ListN.{length}
 use lib.Dec.{eqb, ltb}
+use Rattle.lists.specs.Marks.{put}
 use Rattle.lists.specs.Lists.{is, any, bit, count, sum}
 use Rattle.lists.specs.Smallest.{table, at, smallest}
 use Rattle.rules.specs.Moves.{target}
 use Rattle.rules.specs.Model.{Model, blocksOf}
 use Rattle.rules.specs.Rooms.{pairsOf}
 use Rattle.rules.specs.Batch.{Change, inserts, deletes, edited}
-use Rattle.rules.specs.Values.{Values, Term, constant, proposition, join, step, state, pair, stateOf, termAt, blockOf, greatest, own, leanings, put, settledSet}
+use Rattle.rules.specs.Values.{Values, Term, constant, proposition, join, step, state, pair, stateOf, termAt, blockOf, greatest, own, leanings, settledSet}
 use Rattle.rules.specs.declared.State.{State}
 
 -- The model with the moves that a batch makes of its own.
@@ -94,13 +95,6 @@ turnTo m cs old (suc i) = turnBlock m cs old i (turnTo m cs old i)
 -- The whole update: m is the model with its new moves, cs the changes that made them, old the values before.
 unfoldable pub turnAll : Model → List Change → Values → Turned
 turnAll m cs old = turnTo m cs old (blocksOf m)
-
--- 0 never turned, 1 shifted and stayed, 2 shifted and came back, 3 turned by settling only.
-abbrev pub markOf : Bool → Bool → ℕ
-markOf false false = 0
-markOf true false = 1
-markOf true true = 2
-markOf false true = 3
 
 -- The leanings, inside one block, on the pairs of a set, whoever leans.
 unfoldable pub visitsOn : Model → (ℕ → Bool) → ℕ

@@ -6,6 +6,7 @@ use mathlib.Core.List.{List, [], _∷_, map}
 use Prim.Native.Nat.{ℕ, zero, suc, _+_, _*_, _/_, _%_, _^_, _<_}
 use lib.ListN.{getD}
 use lib.Dec.{eqb, ltb}
+use Rattle.lists.specs.Marks.{put}
 use Rattle.lists.specs.Lists.{is, any, all}
 use Rattle.lists.specs.Smallest.{table, at, smallest}
 use Rattle.rules.specs.Moves.{source, action, target}
@@ -130,10 +131,6 @@ pub record Solution (m : Model) (v : Values) : Type 0 where
       → (p : ℕ) → blockOf m p ≡ i → v p ≡ true → u p ≡ true
   pub largest : (i : ℕ) → i < blocksOf m → greatest m i ≡ true → (u : Values) → Agree m i u v → Solves m i u
       → (p : ℕ) → blockOf m p ≡ i → u p ≡ true → v p ≡ true
-
--- The values v, but c at the pairs of a set.
-abbrev pub put : Bool → Values → (ℕ → Bool) → Values
-put c v s p = cond (s p) c (v p)
 
 -- Settling block i from the values v, where the pairs of s have turned already. For a greatest block: a true pair whose
 -- equation gives false. For a least block: a false pair whose equation gives true.

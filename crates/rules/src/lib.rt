@@ -41,7 +41,7 @@ pub struct Session {
     pub stamp: u32,
 }
 
-// Why the checker says no, in the order of the paper's numbers: 1 to 13, and 16.
+// Why the checker says no, in the order of the paper's numbers (specs/Answers.antt, `numberOf`).
 pub enum Refusal {
     Broken,
     NotDue,

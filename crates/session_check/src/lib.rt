@@ -250,7 +250,12 @@ pub fn rest_ok(
     let states = sizes.states as usize;
     let variables = sizes.variables as usize;
     let count = session.moves as usize;
-    model_ok(session, &labels[..states], &equations[..variables], &moves[..count])
+    model_ok(
+        session,
+        &labels[..states],
+        &equations[..variables],
+        &moves[..count],
+    )
         & bytes_ok(&values[..pairs], 1)
         & bytes_ok(&marks[..pairs], 3)
         & (session.stamp == moves::stamp_of(&moves[..count]))

@@ -1,13 +1,14 @@
 -- What is known of a session in which the check finds nothing wrong. Assumes nothing.
 use mathlib.Core.Path.{_≡_, sym, ap, _∙_}
 use mathlib.Core.Bool.{Bool, true}
+use Rattle.laws.specs.bytes.RecordLaws.{Met}
 use Rattle.lists.specs.Tests.{and-in, and-is}
 use Rattle.rules.specs.Model.{WellFormed}
 use Rattle.rules.specs.Rooms.{Rooms, lengthsOf, roomsOk}
 use Rattle.rules.specs.Session.{held}
 use Rattle.rules.specs.declared.Session.{Session}
 use Rattle.laws.specs.session.SessionHolds.{sessionOk, Holds, session-holds}
-use Rattle.laws.specs.session.Accepted.{Yes, asked-out}
+use Rattle.laws.specs.session.Accepted.{asked-out}
 use Rattle.session_check.specs.CheckedMoves as Moves
 use Rattle.session_check.specs.Fitting.{Fits, fits}
 use Rattle.session_judge.specs.Checks.{allWell, demandsWith, checkOf, checkedSays}
@@ -16,7 +17,7 @@ use Rattle.session_judge.specs.declared.Checked.the-variants as Found
 
 module _ (work : Bool) (s : Session) (l : Rooms) (k : Checked) (h : checkedSays k ≡ checkOf work s l) (g : k ≡ Found.Good) where
   -- All three questions are answered yes.
-  passed-yes : Yes (demandsWith work s l)
+  passed-yes : Met (demandsWith work s l)
   passed-yes = asked-out (demandsWith work s l) allWell tt (sym h ∙ ap checkedSays g) .0
 
   -- No room is too short.

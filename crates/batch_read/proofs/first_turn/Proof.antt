@@ -1,7 +1,7 @@
 -- What is read at the front decides: nothing, the stamp, or another record. Assumes nothing.
 use mathlib.Core.Path.{sym, _∙_}
 use borrow.Author.Needs.{needs}
-use Rattle.batch_read.specs.TurnLaws.{first-stamp, first-broken, first-other}
+use Rattle.batch_read.specs.ChangeTurns.{first-stamp, first-broken, first-other}
 use Rattle.batch_read.proofs.first_turn.Statement.{statement}
 use Rattle.batch_read.proofs.first_turn.Tie as tie
 

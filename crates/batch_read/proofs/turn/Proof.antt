@@ -1,7 +1,7 @@
 -- Each sort of record is a turn of its own. Assumes nothing.
 use mathlib.Core.Path.{refl, sym, _∙_}
 use borrow.Author.Needs.{needs}
-use Rattle.batch_read.specs.TurnLaws.{turned-broken, turned-insert, turned-delete, turned-end, turned-other}
+use Rattle.batch_read.specs.ChangeTurns.{turned-broken, turned-insert, turned-delete, turned-end, turned-other}
 use Rattle.batch_read.proofs.turn.Statement.{statement}
 use Rattle.batch_read.proofs.turn.Tie as tie
 

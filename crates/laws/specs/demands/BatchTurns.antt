@@ -9,6 +9,7 @@ use Prim.Native.Nat.{ℕ, _+_, _*_, _≤_, _<_}
 use native.Mathlib.Omega.{arith}
 use lib.ListN.{getD}
 use lib.Dec.{eqb, ltb}
+use Rattle.lists.specs.Marks.{markOf}
 use Rattle.lists.specs.Lists.{any, fill}
 use Rattle.lists.specs.Smallest.{Rule, at, table, smallest}
 use Rattle.lists.specs.Sets.{Sub}
@@ -30,7 +31,7 @@ use Rattle.rules.specs.Records.{accepted}
 use Rattle.rules.specs.Rooms.{Rooms, pairsOf}
 use Rattle.rules.specs.Batch.{Change, Batch, inserts, deletes, remove, insert, removeAll, insertAll, edited}
 use Rattle.rules.specs.Values.{Values, Term, constant, proposition, join, step, pair, state, stateOf, termAt, blockOf, own, targets, leaningsBy, leanings, settles, settledSet, solve}
-use Rattle.rules.specs.Update.{changed, touches, shifts, shiftedSet, Turned, turnAll, markOf, visitsOn, leaningsIn}
+use Rattle.rules.specs.Update.{changed, touches, shifts, shiftedSet, Turned, turnAll, visitsOn, leaningsIn}
 use Rattle.rules.specs.Session.{held}
 use Rattle.rules.specs.Calls.{Left, valueAt, marksOf, reportOf, batch}
 use Rattle.rules.specs.declared.State.{State}
@@ -39,7 +40,7 @@ use Rattle.rules.specs.declared.Session.{Session}
 use Rattle.rules.specs.declared.Report.{Report}
 use Rattle.laws.specs.model.ModelSystem.{frame, Sound, sound, pairs-full}
 use Rattle.laws.specs.demands.ValuesSolve.{settles-drops}
-use Rattle.laws.specs.model.UpdateMoves.{begun, shiftedIn, raised, settledIn, shifted-own, settled-own, fits-old, fits-new, shifts-same, update-values, update-shifted, update-settled, visits-agree, mark-same}
+use Rattle.laws.specs.model.UpdateMoves.{begun, shiftedIn, raised, settledIn, shifted-own, settled-own, fits-old, fits-new, shifts-same, update-values, update-shifted, update-settled, visits-agree}
 use Rattle.laws.specs.moves.Edits.{Judged}
 use Rattle.laws.specs.session.SessionHolds.{session-holds}
 use Rattle.laws.specs.session.Accepted.{WasBatch, filled-at, values-held}
@@ -154,8 +155,8 @@ module _ (m : Model) (cs : List Change) (j : Judged (m .moves) cs) (ok : Sound m
       let down = at (turnAll (changed cs m) cs old .settled) p in
       ap (λ (f : Values). f p) (update-values m cs j ok ok′ old)
       ∙ mark-turns F L M (fits-old m cs j ok ok′ old) (fits-new m cs j ok ok′ old) w p (pairs-full (changed cs m) ok′ p h)
-      ∙ ap₂ (λ (a b : Bool). flip (odd (K.markOf a b)) (w p)) (sym (update-shifted m cs j ok ok′ old p h)) (sym (update-settled m cs j ok ok′ old p h))
-      ∙ ap (λ (k : ℕ). flip (odd k) (w p)) (mark-same up down) ∙ ap (flip (odd (markOf up down))) (table-at n old p h)
+      ∙ ap₂ (λ (a b : Bool). flip (odd (markOf a b)) (w p)) (sym (update-shifted m cs j ok ok′ old p h)) (sym (update-settled m cs j ok ok′ old p h))
+      ∙ ap (flip (odd (markOf up down))) (table-at n old p h)
 
 -- What a batch with the changes cs turns, in the model m with its new moves, from the values old. In each block, from the
 -- values it begins with, the shifted set is the smallest that the rule of shifting asks for; once these pairs have turned,

@@ -8,6 +8,7 @@ use Prim.Native.Nat.{ℕ, zero, suc, _≤_, _<_}
 use native.Mathlib.Nat.{le-refl}
 use native.Mathlib.Omega.{arith}
 use lib.Dec.{eqb}
+use Rattle.lists.specs.Marks.{put}
 use Rattle.lists.specs.Lists.{is}
 use Rattle.lists.specs.Smallest.{Rule, table, at, smallest}
 use Rattle.lists.specs.Tests.{_∈_, tell, clash, eqb-out, eqb-no}
@@ -17,7 +18,7 @@ use Rattle.systems.specs.solution.System as S
 use Rattle.systems.specs.solution.SolveSolution.{solve-solution, solution-largest, solution-smallest, unique}
 use Rattle.rules.specs.Model.{Model, blocksOf}
 use Rattle.rules.specs.Rooms.{pairsOf}
-use Rattle.rules.specs.Values.{Values, blockOf, greatest, leanings, gives, Solves, Agree, Solution, put, settles, fresh, solveTo, solve}
+use Rattle.rules.specs.Values.{Values, blockOf, greatest, leanings, gives, Solves, Agree, Solution, settles, fresh, solveTo, solve}
 use Rattle.laws.specs.model.ModelSystem.{frame, gives-eval, block-past, block-inside, Sound, pairs-full, model-fits}
 
 -- What the rule asks for lies below its end.

@@ -4,13 +4,14 @@ use mathlib.Core.Bool.{Bool, true, false, not, cond, _&&_, _||_}
 use mathlib.Core.List.{List, []}
 use Prim.Native.Nat.{ℕ, zero, suc}
 use lib.Dec.{eqb, ltb}
+use Rattle.lists.specs.Marks.{put}
 use Rattle.lists.specs.Lists.{is, any, count, sum}
 use Rattle.lists.specs.Smallest.{Rule, table, at, smallest}
 use Rattle.rules.specs.Batch.{Change, inserts, deletes}
 use Rattle.rules.specs.Model.{Model, WellFormed, wellFormed, liveOk, blocksOf}
 use Rattle.rules.specs.Rooms.{pairsOf}
 use Rattle.rules.specs.Update.{gains, loses, went, shifts, turnedTo, Turned, turnBlock, turnTo, turnAll, visitsOn}
-use Rattle.rules.specs.Values.{Values, Term, constant, proposition, join, step, stateOf, termAt, blockOf, greatest, leaningsBy, leanings, givesBy, gives, put, settles, fresh, solveTo, solve}
+use Rattle.rules.specs.Values.{Values, Term, constant, proposition, join, step, stateOf, termAt, blockOf, greatest, leaningsBy, leanings, givesBy, gives, settles, fresh, solveTo, solve}
 use Rattle.rules.specs.declared.State.{State}
 use Rattle.lists.specs.Tests.{and-is}
 

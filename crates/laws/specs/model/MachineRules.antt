@@ -10,6 +10,7 @@ use native.Mathlib.Omega.{arith}
 use lib.ListN.{length, getD, List·getD-eq-default}
 use lib.Seq.{ext-getD}
 use lib.Dec.{eqb}
+use Rattle.lists.specs.Marks.{markOf}
 use Rattle.lists.specs.Lists.{bit}
 use Rattle.lists.specs.Smallest.{at, table}
 use Rattle.lists.specs.Sums.{sum-ext}
@@ -30,12 +31,12 @@ use Rattle.rules.specs.Model.{Model, blocksOf}
 use Rattle.rules.specs.Rooms.{pairsOf}
 use Rattle.rules.specs.Batch.{Change}
 use Rattle.rules.specs.Values.{Values, leanings, solve}
-use Rattle.rules.specs.Update.{changed, Turned, turnAll, markOf, visitsOn, trues}
+use Rattle.rules.specs.Update.{changed, Turned, turnAll, visitsOn, trues}
 use Rattle.rules.specs.Calls.{valueAt, bits, marksOf}
 use Rattle.laws.specs.moves.Edits.{Judged}
 use Rattle.laws.specs.model.ModelSystem.{frame, Sound, pairs-full, model-fits}
 use Rattle.laws.specs.demands.ValuesSolve.{solve-same}
-use Rattle.laws.specs.model.UpdateMoves.{fits-old, fits-new, update-values, update-shifted, update-settled, visits-agree, mark-same}
+use Rattle.laws.specs.model.UpdateMoves.{fits-old, fits-new, update-values, update-shifted, update-settled, visits-agree}
 
 -- The update's machine, n units on: the model m with its new moves, a test of looks, lists of who leans on whom, the values vs,
 -- and room for a queue.
@@ -103,7 +104,7 @@ module _ (m : Model) (cs : List Change) (j : Judged (m .moves) cs) (ok : Sound m
             ∙ sym (listed-is N (λ p. bit (at (t .values) p)) p l));
         marks = ext-getD 0 _ (marksOf N t) (w .long-marks ∙ sym lm) (λ p k.
             let l : p < N = omega (arith, w .long-marks) in
-            w .marks p l ∙ ap₂ K.markOf (shifted-same p l) (settled-same p l) ∙ mark-same (at (t .shifted) p) (at (t .settled) p)
+            w .marks p l ∙ ap₂ markOf (shifted-same p l) (settled-same p l)
             ∙ sym (listed-is N (λ p. markOf (at (t .shifted) p) (at (t .settled) p)) p l));
         shift = w .shift-visits ∙ visits-agree (changed cs m) ok′ (shiftOf F L M (valOf vs)) (at (t .shifted)) shifted-same;
         settle = w .settle-visits ∙ visits-agree (changed cs m) ok′ (settleOf F L M (valOf vs)) (at (t .settled)) settled-same;

@@ -8,6 +8,7 @@ use Prim.Native.Nat.{_+_, ℕ, zero, suc, _≤_, _<_}
 use native.Mathlib.Nat.{le-refl}
 use native.Mathlib.Omega.{arith}
 use lib.Dec.{eqb, ltb}
+use Rattle.lists.specs.Marks.{markOf, put}
 use Rattle.lists.specs.Lists.{is, any, bit, count}
 use Rattle.lists.specs.Smallest.{Rule, table, at, smallest}
 use Rattle.lists.specs.Sums.{sum-ext}
@@ -16,14 +17,13 @@ use Rattle.lists.specs.TableLaws.{table-is, table-at, table-past}
 use Rattle.systems.specs.solution.System.{Frame, Leans, Fits, settled, shifted, moveTo, lifted, move}
 use Rattle.systems.specs.solution.System as S
 use Rattle.systems.specs.moving.Marks.{shiftOf, settleOf, visits}
-use Rattle.systems.specs.moving.Marks as K
 use Rattle.systems.specs.moving.UpTo.{upTo, up-in, up-off, shift-at, settle-at, shift-suc, settle-suc}
 use Rattle.rules.specs.Moves.{target}
 use Rattle.rules.specs.Model.{Model, moveOk, blocksOf}
 use Rattle.rules.specs.Rooms.{pairsOf}
 use Rattle.rules.specs.Batch.{Change, inserts, deletes}
-use Rattle.rules.specs.Values.{Values, state, pair, stateOf, termAt, blockOf, greatest, leanings, put, settles, settledSet}
-use Rattle.rules.specs.Update.{markOf, changed, gains, loses, went, shifts, shiftedSet, turnedTo, turnBlock, turnTo, turnAll, visitsOn}
+use Rattle.rules.specs.Values.{Values, state, pair, stateOf, termAt, blockOf, greatest, leanings, settles, settledSet}
+use Rattle.rules.specs.Update.{changed, gains, loses, went, shifts, shiftedSet, turnedTo, turnBlock, turnTo, turnAll, visitsOn}
 use Rattle.rules.specs.declared.Variable.{Variable}
 use Rattle.laws.specs.moves.Edits.{Judged}
 use Rattle.laws.specs.chains.Named.{move-range}
@@ -222,10 +222,3 @@ visits-agree m ok f g e = sum-ext (pairsOf (m .sizes)) _ _ (λ p h. counts p (le
     counts p [] h = refl
     counts p (q ∷ l) h =
         ap₂ _+_ (ap (λ (x : Bool). bit (eqb (blockOf m q) (blockOf m p) && x)) (e q (h q (List·Memᴰ·head refl)))) (counts p l (λ r k. h r (List·Memᴰ·tail k)))
-
--- The rule and the system give the same marks.
-pub mark-same : (a b : Bool) → K.markOf a b ≡ markOf a b
-mark-same true true = refl
-mark-same true false = refl
-mark-same false true = refl
-mark-same false false = refl

@@ -8,6 +8,7 @@ use native.Mathlib.Omega.{arith}
 use lib.ListN.{length, getD, take, drop, List·getD-append}
 use lib.Seq.{take-at}
 use lib.Dec.{eqb, leb}
+use Rattle.lists.specs.Marks.{markOf}
 use Rattle.lists.specs.Lists.{all, bit, fill}
 use Rattle.lists.specs.Smallest.{at}
 use Rattle.lists.specs.Tests.{tell, and-in, and-left, and-is}
@@ -20,22 +21,18 @@ use Rattle.rules.specs.Load.{readModel}
 use Rattle.rules.specs.Spelling.{encode}
 use Rattle.rules.specs.Batch.{Batch, readBatch, judge, edited}
 use Rattle.rules.specs.Values.{Values, solve}
-use Rattle.rules.specs.Update.{changed, Turned, markOf}
+use Rattle.rules.specs.Update.{changed, Turned}
 use Rattle.rules.specs.Session.{held, sessionOf, sessionDemands}
 use Rattle.rules.specs.Calls.{asked, andThen, valueAt, bits, loadBy, load, judged, marksOf, batchBy, batch}
 use Rattle.rules.specs.declared.Session.{Session}
 use Rattle.rules.specs.declared.Report.{Report}
-use Rattle.laws.specs.bytes.RecordLaws.{AreBytes, never}
+use Rattle.laws.specs.bytes.RecordLaws.{AreBytes, never, Met}
 use Rattle.laws.specs.bytes.ReadSpells.{read-spelling}
 use Rattle.laws.specs.moves.Edits.{Judged, judge-out, batch-keeps}
 use Rattle.laws.specs.session.SessionHolds.{sessionOk, Holds, session-holds, laid-holds}
 
--- Questions that were all answered yes.
-abbrev pub Yes : List (ℕ × Bool) → Type 0
-Yes [] = Unit {0}
-Yes (d ∷ ds) = (d .1 ≡ true) × Yes ds
-
-pub asked-out : {B : Type 0} (ds : List (ℕ × Bool)) (o : Outcome B) (b : B) → asked ds o ≡ accepted b → Yes ds × (o ≡ accepted b)
+-- Questions that were all answered yes are demands that were met.
+pub asked-out : {B : Type 0} (ds : List (ℕ × Bool)) (o : Outcome B) (b : B) → asked ds o ≡ accepted b → Met ds × (o ≡ accepted b)
 asked-out [] o b e = (tt, e)
 asked-out (d ∷ ds) o b e =
     elim (tell true (d .1)) [
@@ -43,7 +40,7 @@ asked-out (d ∷ ds) o b e =
       | inr t ↦ absurd (never (rw t at e))
     ]
 
-pub asked-in : {B : Type 0} (ds : List (ℕ × Bool)) (o : Outcome B) → Yes ds → asked ds o ≡ o
+pub asked-in : {B : Type 0} (ds : List (ℕ × Bool)) (o : Outcome B) → Met ds → asked ds o ≡ o
 asked-in [] o y = refl
 asked-in (d ∷ ds) o y = rw (y .0) (asked-in ds o (y .1))
 

@@ -9,6 +9,7 @@ use native.Mathlib.Omega.{arith}
 use lib.ListN.{length, getD, take, drop}
 use lib.Seq.{take-at, getD-take}
 use lib.Dec.{eqb}
+use Rattle.lists.specs.Marks.{markOf}
 use Rattle.lists.specs.Lists.{bit}
 use Rattle.lists.specs.Smallest.{at, table}
 use Rattle.lists.specs.TableLaws.{bit-back, table-at, table-past, listed-is, listed-length, listed-same}
@@ -19,7 +20,7 @@ use Rattle.rules.specs.Rooms.{Rooms, pairsOf}
 use Rattle.rules.specs.Records.{accepted}
 use Rattle.rules.specs.Batch.{Change, Batch}
 use Rattle.rules.specs.Values.{Values, leanings, solve}
-use Rattle.rules.specs.Update.{changed, turnAll, markOf}
+use Rattle.rules.specs.Update.{changed, turnAll}
 use Rattle.rules.specs.Session.{held, sessionOf}
 use Rattle.rules.specs.Calls.{valueAt, bits, marksOf, batchBy}
 use Rattle.rules.specs.declared.Session.{Session}

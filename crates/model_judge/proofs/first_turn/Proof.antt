@@ -10,7 +10,7 @@ use Rattle.rules.specs.Load.{before}
 use Rattle.limits.specs.Lent.{lengthsBy}
 use Rattle.bytes_read.specs.declared.Read.the-variants.{Got}
 use Rattle.bytes_read.specs.Places.{recordAt}
-use Rattle.model_judge.specs.TurnLaws.{turned-broken, turned-no, turned-next, sizes-no, sizes-next, sizes-due, started-kept}
+use Rattle.model_judge.specs.RecordTurns.{turned-broken, turned-no, turned-next, sizes-no, sizes-next, sizes-due, started-kept}
 use Rattle.model_judge.proofs.first_turn.Statement.{statement}
 use Rattle.model_judge.proofs.first_turn.Tie as tie
 

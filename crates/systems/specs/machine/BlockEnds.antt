@@ -7,10 +7,11 @@ use mathlib.Core.List.{[]}
 use Prim.Native.Nat.{ℕ, suc, _<_}
 use native.Mathlib.Decide.{ℕ-discrete, decLt}
 use native.Mathlib.Omega.{arith}
+use Rattle.lists.specs.Marks.{markOf}
 use Rattle.lists.specs.Tests.{_∈_, cond-no}
 use Rattle.lists.specs.Sets.{none}
 use Rattle.systems.specs.solution.System.{Values, settled, shifted, moveTo}
-use Rattle.systems.specs.moving.Marks.{shiftOf, markOf, mark}
+use Rattle.systems.specs.moving.Marks.{shiftOf, mark}
 use Rattle.systems.specs.moving.UpTo.{shift-at, settle-at}
 use Rattle.systems.specs.machine.Worklist.{Waiting}
 use Rattle.systems.specs.machine.WorklistEnds.{work-start, work-end}

@@ -9,11 +9,12 @@ use Prim.Native.Nat.{ℕ, _≤_, _<_}
 use native.Mathlib.Nat.{le-refl}
 use native.Mathlib.Decide.{decLt}
 use native.Mathlib.Omega.{arith}
+use Rattle.lists.specs.Marks.{markOf}
 use Rattle.lists.specs.Tests.{tell, no-way, ltb-in, ltb-no, cond-yes, cond-no}
 use Rattle.lists.specs.Sets.{Sub, sub-no}
 use Rattle.lists.specs.SmallestLaws.{Monotone, smallest-rule}
 use Rattle.systems.specs.solution.System.{Values, shifted, moveTo, move}
-use Rattle.systems.specs.moving.Marks.{shiftOf, settleOf, markOf, mark}
+use Rattle.systems.specs.moving.Marks.{shiftOf, settleOf, mark}
 use Rattle.systems.specs.solution.Put.{put-in, put-off}
 use Rattle.systems.specs.moving.SettleRule.{Drops, drops-out, drops-monotone}
 use Rattle.systems.specs.moving.ShiftRule.{Shifts, shifts-out, shifts-monotone}

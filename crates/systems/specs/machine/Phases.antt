@@ -5,9 +5,10 @@ use mathlib.Core.Bool.{Bool, true, false, not, cond}
 use mathlib.Core.List.{List}
 use Prim.Native.Nat.{ℕ, _<_}
 use lib.Dec.{ltb}
+use Rattle.lists.specs.Marks.{put}
 use Rattle.lists.specs.Smallest.{at, Rule, smallest}
 use Rattle.lists.specs.Tests.{_∈_}
-use Rattle.systems.specs.solution.System.{Frame, Leans, Values, Fits, put, drops, shifts, moveTo, lifted}
+use Rattle.systems.specs.solution.System.{Frame, Leans, Values, Fits, drops, shifts, moveTo, lifted}
 use Rattle.systems.specs.moving.Marks.{mark}
 use Rattle.systems.specs.machine.Worklist.{Waiting, Plan, Work}
 use Rattle.systems.specs.machine.Machine.{free, nextMark}

@@ -8,10 +8,11 @@ use Prim.Native.Nat.{ℕ, _<_}
 use native.Mathlib.Decide.{ℕ-discrete}
 use native.Mathlib.Omega.{arith}
 use lib.Dec.{eqb, ltb}
+use Rattle.lists.specs.Marks.{put}
 use Rattle.lists.specs.Lists.{is}
 use Rattle.lists.specs.Tests.{_∈_, tell, clash, not-not, is-out, is-in, and-in, and-left, and-right, or-out, eqb-out, cond-yes, cond-no}
 use Rattle.lists.specs.Sets.{none, add, add-same, add-other}
-use Rattle.systems.specs.solution.System.{Values, eval, put, drops, shifts, moveTo}
+use Rattle.systems.specs.solution.System.{Values, eval, drops, shifts, moveTo}
 use Rattle.systems.specs.solution.Operands.{ev-differ}
 use Rattle.systems.specs.solution.Put.{put-in, put-off}
 use Rattle.systems.specs.moving.SettleRule.{drops-out, drops-in}

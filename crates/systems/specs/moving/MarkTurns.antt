@@ -6,9 +6,10 @@ use mathlib.Core.Bool.{Bool, true, false, not}
 use Prim.Native.Nat.{ℕ, zero, suc, _<_}
 use native.Mathlib.Nat.{le-refl}
 use native.Mathlib.Omega.{arith}
+use Rattle.lists.specs.Marks.{markOf}
 use Rattle.lists.specs.Tests.{not-not}
 use Rattle.systems.specs.solution.System.{Frame, Leans, Values, Fits, settled, shifted, moveTo, lifted, move}
-use Rattle.systems.specs.moving.Marks.{shiftOf, settleOf, markOf, mark}
+use Rattle.systems.specs.moving.Marks.{shiftOf, settleOf, mark}
 use Rattle.systems.specs.solution.Put.{put-in, put-off}
 use Rattle.systems.specs.moving.SettleRule.{settled-out}
 use Rattle.systems.specs.moving.ShiftRule.{shifted-out}

@@ -4,6 +4,7 @@ use mathlib.Core.Bool.{Bool, true, false, _&&_}
 use Prim.Native.Nat.{ℕ}
 use lib.Dec.{eqb}
 use lib.ListN.{length}
+use Rattle.lists.specs.Marks.{markOf}
 use Rattle.lists.specs.Lists.{count, sum}
 use Rattle.systems.specs.solution.System.{Frame, Leans, Values, settled, shifted, moveTo, lifted}
 
@@ -16,14 +17,6 @@ shiftOf F L M old p = let i = F .block p in shifted F L M i old (moveTo F L M ol
 unfoldable pub settleOf : Frame → Leans → Leans → Values → ℕ → Bool
 unfolding moveTo
 settleOf F L M old p = let i = F .block p in settled F M i (lifted F L M old i) p
-
--- The mark of a pair that did or did not shift, and did or did not settle: 0 never turned, 1 shifted and stayed, 2
--- shifted and came back, 3 turned by settling only.
-abbrev pub markOf : Bool → Bool → ℕ
-markOf false false = 0
-markOf true false = 1
-markOf true true = 2
-markOf false true = 3
 
 -- The mark of p.
 unfoldable pub mark : Frame → Leans → Leans → Values → ℕ → ℕ

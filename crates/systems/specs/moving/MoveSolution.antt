@@ -8,9 +8,10 @@ use Prim.Native.Nat.{ℕ, zero, suc, _≤_, _<_}
 use native.Mathlib.Nat.{eq-or-lt-of-le, le-of-suc-le-suc, not-suc-le-zero, le-refl}
 use native.Mathlib.Omega.{arith}
 use lib.Dec.{eqb}
+use Rattle.lists.specs.Marks.{put}
 use Rattle.lists.specs.Lists.{is, elem}
 use Rattle.lists.specs.Tests.{_∈_, tell, clash, not-out, is-out, is-in, and-in, and-left, and-right, eqb-in, eqb-off, elem-out}
-use Rattle.systems.specs.solution.System.{Frame, Leans, Values, Fits, ev, eval, Agree, Solution, put, solve, shifted, moveTo, lifted, move}
+use Rattle.systems.specs.solution.System.{Frame, Leans, Values, Fits, ev, eval, Agree, Solution, solve, shifted, moveTo, lifted, move}
 use Rattle.systems.specs.solution.Operands.{all-out, all-in, one-in, one-out, ev-mono}
 use Rattle.systems.specs.solution.Put.{put-in, put-off, put-keep}
 use Rattle.systems.specs.solution.Top.{Supported, Above, Top, operand-block, top-agree}

@@ -6,11 +6,12 @@ use mathlib.Core.Bool.{Bool, true, false, not, _&&_}
 use Prim.Native.Nat.{ℕ, _<_}
 use native.Mathlib.Omega.{arith}
 use lib.Dec.{eqb}
+use Rattle.lists.specs.Marks.{put}
 use Rattle.lists.specs.Lists.{is}
 use Rattle.lists.specs.Tests.{no-way, is-out, is-in, and-in, and-left, and-right, eqb-out, eqb-in}
 use Rattle.lists.specs.Sets.{Sub}
 use Rattle.lists.specs.SmallestLaws.{Monotone, Made, smallest-closed, smallest-rule, smallest-least, made-same}
-use Rattle.systems.specs.solution.System.{Frame, Leans, Values, Fits, eval, put, drops, settled}
+use Rattle.systems.specs.solution.System.{Frame, Leans, Values, Fits, eval, drops, settled}
 use Rattle.systems.specs.solution.Operands.{ev-mono}
 use Rattle.systems.specs.solution.Put.{put-off, put-mono}
 

@@ -9,10 +9,11 @@ use Prim.Native.Nat.{ℕ, zero, suc, _≤_, _<_}
 use native.Mathlib.Nat.{eq-or-lt-of-le, le-of-suc-le-suc, not-suc-le-zero}
 use native.Mathlib.Decide.{ℕ-discrete}
 use native.Mathlib.Omega.{arith}
+use Rattle.lists.specs.Marks.{put}
 use Rattle.lists.specs.Lists.{elem}
 use Rattle.lists.specs.Tests.{_∈_, tell, clash, not-not, elem-in}
 use Rattle.lists.specs.SmallestLaws.{smallest-ind}
-use Rattle.systems.specs.solution.System.{Frame, Leans, Values, Fits, ev, Solution, put, settled, shifted, moveTo, lifted}
+use Rattle.systems.specs.solution.System.{Frame, Leans, Values, Fits, ev, Solution, settled, shifted, moveTo, lifted}
 use Rattle.systems.specs.moving.Marks.{shiftOf, settleOf}
 use Rattle.systems.specs.solution.Operands.{ev-differ}
 use Rattle.systems.specs.solution.Put.{put-off}

@@ -7,9 +7,10 @@ use Prim.Native.Nat.{ℕ, _<_}
 use native.Mathlib.Nat.{le-refl}
 use native.Mathlib.Omega.{arith}
 use lib.Dec.{eqb}
+use Rattle.lists.specs.Marks.{put}
 use Rattle.lists.specs.Lists.{is}
 use Rattle.lists.specs.Tests.{is-in, is-out, tell, and-in, and-left, and-right, eqb-in, eqb-out}
-use Rattle.systems.specs.solution.System.{Frame, Leans, Values, Fits, ev, eval, Solves, Agree, Solution, put, solve}
+use Rattle.systems.specs.solution.System.{Frame, Leans, Values, Fits, ev, eval, Solves, Agree, Solution, solve}
 use Rattle.systems.specs.solution.Operands.{ev-mono}
 use Rattle.systems.specs.solution.Put.{put-in, put-off, put-keep}
 use Rattle.systems.specs.solution.Top.{Supported, Top, operand-block}

@@ -4,9 +4,10 @@ use mathlib.Core.Path.{_≡_, sym, _∙_}
 use mathlib.Core.Logic.{inl, inr}
 use mathlib.Core.Bool.{Bool, true, false}
 use Prim.Native.Nat.{ℕ}
+use Rattle.lists.specs.Marks.{put}
 use Rattle.lists.specs.Tests.{tell, cond-yes, cond-no}
 use Rattle.lists.specs.Sets.{Sub}
-use Rattle.systems.specs.solution.System.{Values, put}
+use Rattle.systems.specs.solution.System.{Values}
 
 -- A pair of the set has the value that was set.
 pub put-in : (c : Bool) (v : Values) (s : ℕ → Bool) (p : ℕ) → s p ≡ true → put c v s p ≡ c

@@ -8,10 +8,11 @@ use Prim.Native.Nat.{ℕ, zero, suc, _≤_, _<_}
 use native.Mathlib.Nat.{le-refl, eq-or-lt-of-le, le-of-suc-le-suc, not-suc-le-zero}
 use native.Mathlib.Omega.{arith}
 use lib.Dec.{eqb}
+use Rattle.lists.specs.Marks.{put}
 use Rattle.lists.specs.Lists.{is}
 use Rattle.lists.specs.Tests.{_∈_, tell, clash, no-way, is-out, is-in, and-in, and-right, eqb-in, eqb-off, cond-yes, cond-no}
 use Rattle.lists.specs.Sets.{Sub}
-use Rattle.systems.specs.solution.System.{Frame, Leans, Values, Fits, eval, Solves, Agree, Solution, put, drops, settled, fresh, solveTo, solve}
+use Rattle.systems.specs.solution.System.{Frame, Leans, Values, Fits, eval, Solves, Agree, Solution, drops, settled, fresh, solveTo, solve}
 use Rattle.systems.specs.solution.Operands.{ev-mono}
 use Rattle.systems.specs.solution.Put.{put-in, put-off}
 use Rattle.systems.specs.solution.Top.{Supported, Above, Top, operand-block, top-solves, top-agree}

@@ -6,6 +6,7 @@ use mathlib.Core.Bool.{Bool, true, false, not, cond, _&&_, _||_}
 use mathlib.Core.List.{List, [], _∷_}
 use Prim.Native.Nat.{ℕ, zero, suc, _≤_, _<_}
 use lib.Dec.{eqb, ltb}
+use Rattle.lists.specs.Marks.{put}
 use Rattle.lists.specs.Lists.{is, any, elem}
 use Rattle.lists.specs.Smallest.{at, smallest}
 use Rattle.lists.specs.Tests.{_∈_}
@@ -66,10 +67,6 @@ pub record Solution (F : Frame) (L : Leans) (v : Values) : Type 0 where
   pub solves : (i : ℕ) → i < F .blocks → Solves F L i v
   pub extreme : (i : ℕ) → i < F .blocks → (u : Values) → Agree F i u v → Solves F L i u
       → (p : ℕ) → F .block p ≡ i → u p ≡ F .great i → v p ≡ F .great i
-
--- The values v, but c at the pairs of the set s.
-abbrev pub put : Bool → Values → (ℕ → Bool) → Values
-put c v s p = cond (s p) c (v p)
 
 -- The rule of settling, in block i from the values v, where the pairs of s have turned already: a pair turns that had the
 -- block's own value, though its equation gives the other.
