@@ -108,8 +108,8 @@ fn moving(moves: &[u32]) -> u32
     let mut i: usize = 0;
     let mut r: u32 = 0;
     while i < moves.len() {
-        let from = words::source_of(moves[i]);
-        r = limits::moving_with(r, from);
+        let m = words::unpacked(moves[i]);
+        r = limits::moving_with(r, m.source);
         i = i + 1;
     }
     r

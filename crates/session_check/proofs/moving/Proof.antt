@@ -23,14 +23,14 @@ start-before-at-loop c = c .before .before
 loop-holds : tie.Need-loop-holds Inv-loop μ-loop
 loop-holds c = refl
 
-mul-source-of : tie.Need-mul-source-of Inv-loop μ-loop
-mul-source-of c = search needs
+mul-unpacked : tie.Need-mul-unpacked Inv-loop μ-loop
+mul-unpacked c = search needs
 
-shared-slice-read-source-of : tie.Need-shared-slice-read-source-of Inv-loop μ-loop
-shared-slice-read-source-of c = search needs
+shared-slice-read-unpacked : tie.Need-shared-slice-read-unpacked Inv-loop μ-loop
+shared-slice-read-unpacked c = search needs
 
-source-of-requires : tie.Need-source-of-requires Inv-loop μ-loop
-source-of-requires c κs = search needs
+unpacked-requires : tie.Need-unpacked-requires Inv-loop μ-loop
+unpacked-requires c κs = search needs
 
 moving-with-requires : tie.Need-moving-with-requires Inv-loop μ-loop
 moving-with-requires c κs = search needs
@@ -47,7 +47,7 @@ loop-again c =
     let l = start-before-at-loop at-loop .args .moves .now in
     let s = at-loop .loop in
     ap (λ (k : ℕ). movingOver k (drop (s .i + 1) l)) (c .moving-with .ensures)
-    ∙ moving-turn l (s .i) (s .r) _ _ (omega arith) (c .before .source-of .ensures) (s .inv)
+    ∙ moving-turn l (s .i) (s .r) _ _ (omega arith) (c .before .unpacked .ensures .0) (s .inv)
 
 returns : tie.Need-returns Inv-loop μ-loop
 returns c =
@@ -61,9 +61,9 @@ moving-spec =
     Inv-loop
     μ-loop
     loop-holds
-    mul-source-of
-    shared-slice-read-source-of
-    source-of-requires
+    mul-unpacked
+    shared-slice-read-unpacked
+    unpacked-requires
     moving-with-requires
     add-i
     loop-less
