@@ -1,14 +1,13 @@
 -- The changes of a batch, and how a walk meets them. Assumes nothing.
 use mathlib.Core.Path.{_≡_, refl, ap, _∙_}
 use mathlib.Core.Logic.{inl, inr}
-use mathlib.Core.Bool.{true, cond}
+use mathlib.Core.Bool.{true}
 use mathlib.Core.List.{List, [], _∷_}
 use Prim.Native.Nat.{ℕ, _+_, _-_, _≤_, _<_}
 use native.Mathlib.Omega.{arith}
 use lib.ListN.{length, getD, drop, length-map, drop-of-length-le}
 use Rattle.lists.specs.Lists.{bit}
 use Rattle.lists.specs.Tests.{tell}
-use Rattle.rules.specs.Moves.{weight, wrap}
 use Rattle.rules.specs.Batch.{Change, inserts, deletes}
 use Rattle.words.specs.Words.{changeOf, changesOf}
 use Rattle.moves.specs.Fronts.{left-more, left-less}
@@ -29,10 +28,6 @@ module _ (l : List ℕ) (i : ℕ) where
   -- At the end nothing is left.
   pub changes-over : length l ≤ i → changesFrom l i ≡ []
   changes-over h = ap changesOf (drop-of-length-le l h)
-
--- The stamp carried over one change.
-abbrev pub carriedBy : ℕ → Change → ℕ
-carriedBy x c = cond (c .insert) (wrap (x + weight (c .move))) (wrap (x + (4294967296 - wrap (weight (c .move)))))
 
 -- A change counts 1 as an insert, and 0 as a delete.
 pub inserts-more : (c : Change) (cs : List Change) → length (inserts (c ∷ cs)) ≡ bit (c .insert) + length (inserts cs)

@@ -1,7 +1,7 @@
 // The changes of a batch: judged against the moves, and carried into the stamp.
 ghost use mathlib.Core.Path.{_≡_};
 ghost use mathlib.Core.Bool.{true, cond};
-ghost use mathlib.Core.List.{[]};
+ghost use mathlib.Core.List.{[], _∷_};
 ghost use mathlib.Core.Option.{some};
 ghost use Prim.Native.Nat.{_≤_};
 ghost use lib.ListN.{length};
@@ -12,7 +12,6 @@ ghost use Rattle.rules.specs.Answers.{numberOf};
 ghost use Rattle.laws.specs.moves.Edits.{carry};
 ghost use Rattle.laws.specs.moves.Emptied.{movesOf, emptied, staysIn, livesBy};
 ghost use Rattle.words.specs.Words.{changeOf, changesOf};
-ghost use Rattle.batch_judge.specs.Changes.{carriedBy};
 ghost use Rattle.moves.specs.Ascending.{ascends};
 ghost use Rattle.batch_judge.specs.Fits.{fitsBy, Held};
 ghost use Rattle.batch_judge.specs.Hangs.{namedBy, names, hangsBy};
@@ -29,7 +28,7 @@ pub enum Verdict {
 
 // The stamp carried over one change.
 fn carry_one(stamp: u32, w: u32) -> u32
-    ensures { λ r. ⌜ r ≡ carriedBy stamp (changeOf w) ⌝ }
+    ensures { λ r. ⌜ r ≡ carry stamp (changeOf w ∷ []) ⌝ }
 {
     if words::inserts(w) {
         return moves::stamp_with(stamp, words::move_of(w));

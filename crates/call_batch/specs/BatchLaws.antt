@@ -4,9 +4,9 @@ use mathlib.Core.Bool.{Bool}
 use mathlib.Core.List.{List}
 use Prim.Native.Nat.{ℕ}
 use lib.ListN.{length}
-use Rattle.rules.specs.Records.{Outcome, refused, accepted}
+use Rattle.rules.specs.Records.{Outcome, refused}
 use Rattle.rules.specs.Rooms.{Rooms, roomsOf, lengthsOf, roomsOk, workOk, lentOk}
-use Rattle.rules.specs.Batch.{Batch, readBatch, judge}
+use Rattle.rules.specs.Batch.{readBatch, judge}
 use Rattle.rules.specs.Session.{held, countsOk, restOk}
 use Rattle.rules.specs.Calls.{Left, andThen, judged, batchBy, batch, leaves}
 use Rattle.rules.specs.Answers.{numberOf}

@@ -1,6 +1,5 @@
 -- A session that was checked and a batch with which nothing is wrong: the table that the changes make. Assumes nothing.
 use mathlib.Core.Path.{_≡_, refl, sym, ap, _∙_, subst}
-use mathlib.Core.Logic.{inl, inr}
 use mathlib.Core.Bool.{true}
 use mathlib.Core.List.{List, [], _∷_, _++_, append-assoc}
 use Prim.Native.Nat.{ℕ, zero, suc, _-_, _≤_, min}
@@ -9,16 +8,16 @@ use lib.ListN.{length, getD, take, drop, replicate, length-append}
 use lib.Seq.{take-at, length-take-le}
 use lib.Dec.{leb}
 use Rattle.lists.specs.Lists.{all}
-use Rattle.lists.specs.Tests.{tests, tell, and-is, leb-is}
+use Rattle.lists.specs.Tests.{tests, and-is, leb-is}
 use Rattle.rules.specs.Limits.{most-moves, most-changes, sizesOk}
 use Rattle.rules.specs.Model.{liveOk, wellFormed, WellFormed}
 use Rattle.rules.specs.Records.{accepted}
 use Rattle.rules.specs.Rooms.{Rooms, lengthsOf, pairsOf, indexNeeds, queueNeeds, workOk}
-use Rattle.rules.specs.Batch.{Change, Batch, changesOk, judge, inserts, edited}
+use Rattle.rules.specs.Batch.{Change, Batch, changesOk, judge, edited}
 use Rattle.rules.specs.Session.{held}
 use Rattle.rules.specs.Update.{changed}
 use Rattle.rules.specs.declared.Session.{Session}
-use Rattle.laws.specs.moves.Edits.{Judged, AllOk, judge-out, edited-wellFormed, all-ok}
+use Rattle.laws.specs.moves.Edits.{Judged, judge-out, edited-wellFormed, all-ok}
 use Rattle.laws.specs.model.LiveApart.{still, still-good}
 use Rattle.laws.specs.model.ModelSystem.{Sound, sound}
 use Rattle.session_check.specs.CheckedMoves as Moves

@@ -46,7 +46,3 @@ module _ (l : List ℕ) (i : ℕ) where
 -- What makes a when b is added to it, wrapping, is a and what b leaves of 2 to the 32nd.
 pub wrap-less : (r a b : ℕ) → r < 4294967296 → b < 4294967296 → (r + b) % 2 ^ 32 ≡ a → r ≡ wrap (a + (4294967296 - b))
 wrap-less r a b h k e = omega arith
-
--- What wraps is below 2 to the 32nd.
-pub wrap-small : (a : ℕ) → wrap a < 4294967296
-wrap-small a = omega arith
