@@ -1,6 +1,6 @@
 // The call that writes the model a session holds, whole: for any rooms, what is answered and what the output holds after.
 ghost use mathlib.Core.Path.{_≡_};
-ghost use Rattle.rules.specs.Calls.{write};
+ghost use Rattle.rules.specs.Calls.{leaves, write};
 ghost use Rattle.rules.specs.Answers.{writtenSays};
 ghost use Rattle.rules.specs.Rooms.{roomsOf};
 use rules::Refusal;

@@ -1,5 +1,7 @@
 -- `call_load::load` meets its contract. Assumes nothing.
+use mathlib.Core.Path.{sym}
 use native.Mathlib.Omega.{arith}
+use lib.Seq.{length-take-le}
 use Rattle.laws.specs.bytes.RecordLaws.{AreBytes, are-bytes}
 use Rattle.rules.specs.Rooms.{roomsWith}
 use Rattle.call_load.specs.LoadLaws.{load-refused, found, load-good}
@@ -50,6 +52,14 @@ load-values-requires c κs =
     let values = f .values-room in
     let marks = f .marks-room in
     (f .drawn, ((omega (arith, values, marks), omega (arith, values, marks)), (f .index-room, f .queue-room)))
+
+slice-reshare-prefix-stamp-of : tie.Need-slice-reshare-prefix-stamp-of
+slice-reshare-prefix-stamp-of c =
+    let after-load-values = c .before .before .before .before .before .before .before .before in
+    load-values-requires (after-load-values .before) (after-load-values .load-values .lifetimes) .0 .long-moves
+
+slice-aggregate-stamp-of : tie.Need-slice-aggregate-stamp-of
+slice-aggregate-stamp-of c = sym (length-take-le _ _ (slice-reshare-prefix-stamp-of (c .before)))
 
 stamp-of-requires : tie.Need-stamp-of-requires
 stamp-of-requires c κs = search needs
@@ -108,6 +118,8 @@ load-spec =
     enum-known-found-2
     cast-n
     load-values-requires
+    slice-reshare-prefix-stamp-of
+    slice-aggregate-stamp-of
     stamp-of-requires
     same-length
     same-length-2
