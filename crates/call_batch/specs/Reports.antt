@@ -1,7 +1,7 @@
 -- What an update leaves is what the rule of the batch says. Assumes nothing.
 use mathlib.Core.Path.{_≡_, sym, ap, _∙_, subst}
 use mathlib.Core.List.{List}
-use Prim.Native.Nat.{ℕ, _≤_, _<_, _^_}
+use Prim.Native.Nat.{ℕ, _≤_, _<_, _^_, _*_}
 use native.Mathlib.Omega.{arith}
 use lib.IntN.{ℤ}
 use lib.ListN.{length}
@@ -9,6 +9,7 @@ use lib.Signed.{mag}
 use Rattle.lists.specs.Lists.{bit}
 use Rattle.lists.specs.Sums.{bit-le, sum-le, sum-ones}
 use Rattle.lists.specs.Smallest.{at}
+use Rattle.rules.specs.Limits.{most-states, most-variables}
 use Rattle.rules.specs.Moves.{stampOf}
 use Rattle.rules.specs.Model.{Model}
 use Rattle.rules.specs.Records.{Outcome, refused, accepted}
@@ -88,7 +89,7 @@ trues-few : (n : ℕ) (v : Values) → trues n v ≤ n
 trues-few n v = let a = sum-le n (λ p. bit (v p)) (λ p. 1) (λ p. bit-le (v p)) in let b = sum-ones n in omega arith
 
 -- So the change in their number is small.
-pub net-small : (m : Model) (t : Turned) (values₀ marks₀ values marks : List ℕ) (shift settle : ℕ) (net : ℤ) → pairsOf (m .sizes) ≤ 8192
+pub net-small : (m : Model) (t : Turned) (values₀ marks₀ values marks : List ℕ) (shift settle : ℕ) (net : ℤ) → pairsOf (m .sizes) ≤ most-variables * most-states
     → Leaves m t values₀ marks₀ values marks shift settle net → mag net < 2 ^ 31
 net-small m t values₀ marks₀ values marks shift settle net h f =
     let n = pairsOf (m .sizes) in
