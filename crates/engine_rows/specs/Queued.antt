@@ -163,14 +163,6 @@ take-map f zero l = refl
 take-map f (suc k) [] = refl
 take-map f (suc k) (q ∷ l) = ap (λ (m : List ℕ). f q ∷ m) (take-map f k l)
 
--- As pairs, the queue holds what it held, and then the pairs of the row that must turn.
-pub row-waits : (z : Sizes) (y : ℕ) (f g : ℕ → Bool) (n tail r : ℕ) (before queue : List ℕ) → n ≤ 1024 → ((s : ℕ) → s < n → g s ≡ f (y * z .states + s))
-    → take r queue ≡ take tail before ++ map (waitingOf y) (hits g 0 n) → take r (map (waiter z) queue) ≡ take tail (map (waiter z) before) ++ hits f (y * z .states) n
-row-waits z y f g n tail r before queue l e front =
-    take-map (waiter z) r queue ∙ ap (map (waiter z)) front ∙ map-append (waiter z) (take tail before) (map (waitingOf y) (hits g 0 n))
-    ∙ ap (λ (m : List ℕ). m ++ map (waiter z) (map (waitingOf y) (hits g 0 n))) (sym (take-map (waiter z) tail before))
-    ∙ ap (λ (m : List ℕ). take tail (map (waiter z) before) ++ m) (waiting-hits z y f g n l e)
-
 -- Each hit is a place of the row.
 hit-below : (g : ℕ → Bool) (n i : ℕ) → i < length (hits g 0 n) → getD (hits g 0 n) i 0 < n
 hit-below g zero i h = absurd (omega arith)

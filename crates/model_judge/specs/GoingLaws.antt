@@ -280,9 +280,6 @@ going-first l s (T.Go r y n) t =
     }
 
 -- What a turn hands on.
-pub going-inside : (l : Lengths) (s : List ℕ) (t : OneTurn) → Going l s t → InsideTurn s t
-going-inside l s (T.Stop a) g = tt
-going-inside l s (T.Go r x n) g = g .here
 
 pub going-ready : (l : Lengths) (s : List ℕ) (t : OneTurn) (read : Read) → Going l s t → read ≡ recordAt s (placeOf t) → Ready s read t
 going-ready l s (T.Stop a) read g e = tt

@@ -57,7 +57,6 @@ slice-write-moves c = search needs
 same-length-2 : tie.Need-same-length-2
 same-length-2 c = search needs
 
--- points: counted from c
 returns-2 : tie.Need-returns-2
 unfolding removedFrom
 returns-2 c =

@@ -1,8 +1,8 @@
--- The byte of the action is told apart first; the rest is put together from what the callees ensure. Assumes nothing.
-use mathlib.Core.Path.{_≡_}
-use Prim.Native.Nat.{suc, _+_, _%_}
+-- The bytes of the action and of the target are told apart first; the rest is put together from what the callees ensure. Assumes nothing.
+use mathlib.Core.Path.{_≡_, ap, _∙_}
+use Prim.Native.Nat.{ℕ, suc, _+_, _%_}
 use native.Mathlib.Omega.{arith}
-use Rattle.rules.specs.Moves.{action}
+use Rattle.rules.specs.Moves.{action, target}
 use Rattle.rules.specs.Records.{widths}
 use borrow.Author.Needs.{needs}
 use Rattle.bytes_write.proofs.write_move.Statement.{statement}
@@ -51,6 +51,7 @@ returns c =
     let by = m .ensures .1 .0 in
     let to = m .ensures .1 .1 in
     let third : m .result .action .0 ≡ action (a .q) % 256 = omega arith in
+    let fifth : c .before .before .before .before .byte-12 .result ≡ target (a .q) % 256 = c .before .before .before .before .byte-12 .ensures ∙ ap (λ (t : ℕ). t % 256) to in
     let e : a .at + 4 ≡ suc (suc (suc (suc (a .at)))) = omega arith in
     cc
 

@@ -1,6 +1,8 @@
 -- The kind of the record and the sign, and the operator after them. Assumes nothing.
 use mathlib.Core.Path.{_≡_}
 use Prim.Native.Nat.{suc, _+_, _%_}
+use mathlib.Core.List.{[], _∷_}
+use lib.Seq.{sets}
 use native.Mathlib.Omega.{arith}
 use Rattle.rules.specs.Records.{widths}
 use borrow.Author.Needs.{needs}
@@ -24,6 +26,8 @@ unfolding widths
 returns c =
     let a = c .before .before .before .before .before .before .before .before .before .args in
     let sign : a .e .kind % 256 ≡ a .e .kind = omega arith in
+    let front = c .before .before .before .before .before .before .put2 .ensures in
+    let put : _ ≡ sets (a .out .now) (a .at) (11 ∷ a .e .kind ∷ []) = front in
     let e : a .at + 2 ≡ suc (suc (a .at)) = omega arith in
     cc
 
