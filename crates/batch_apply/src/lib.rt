@@ -1,5 +1,7 @@
 // The changes of a batch made in the room of the moves, which stay sorted: first all deletes, then all inserts. Each finds its
 // place by halving, and shifts the moves behind it; the deletes of several changes are made in one pass over the room.
+#![tactic(auto)]
+
 ghost use Rattle.std.specs.Prelude.{◌≡◌, true, false, ◌≤◌, ◌<◌, length, drop};
 ghost use Rattle.rules.specs.Limits.{most_moves};
 ghost use Rattle.moves.specs.Ascending.{ascends};

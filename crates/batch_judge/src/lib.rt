@@ -1,4 +1,6 @@
 // The changes of a batch: judged against the moves, and carried into the stamp.
+#![tactic(auto)]
+
 ghost use Rattle.std.specs.Prelude.{◌≡◌, true, cond, [], ◌∷◌, ◌≤◌, length};
 ghost use Rattle.std.proofs.Math.Option.{some};
 ghost use Rattle.lists.specs.Lists.{bit, elem};
@@ -16,7 +18,7 @@ ghost use Rattle.batch_judge.specs.Judging.{batch_in, fault_of, verdict_says, or
 use rules::{Refusal, Session, State};
 
 // What is found of a batch: a refusal with its place, or nothing wrong.
-#[derive(Drop)]
+#[derive(Clone, Copy)]
 pub enum Verdict {
     Refused(Refusal, usize),
     Good,

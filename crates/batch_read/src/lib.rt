@@ -1,4 +1,6 @@
 // A batch on the wire, read and judged up to refusal 4.
+#![tactic(auto)]
+
 ghost use Rattle.std.specs.Prelude.{◌≡◌, true, ◌+◌, ◌≤◌, ◌<◌, length};
 ghost use Rattle.rules.specs.Limits.{most_changes};
 ghost use Rattle.batch_read.specs.Reading.{change_turn, end_turn, ReadInto};
@@ -10,7 +12,7 @@ use bytes_read::Read;
 use rules::{Move, Record, Refusal, Sizes};
 
 // What reading a batch comes to: a refusal with its place, or the stamp and the number of changes.
-#[derive(Drop)]
+#[derive(Clone, Copy)]
 pub enum ReadBatch {
     Refused(Refusal, usize),
     Good(u32, usize),
@@ -18,14 +20,14 @@ pub enum ReadBatch {
 
 // One record of a batch: the end of the reading; or the stamp, how many changes there are with this record, the change and
 // the next place.
-#[derive(Drop)]
+#[derive(Clone, Copy)]
 pub enum ChangeTurn {
     Stop(ReadBatch),
     Go(u32, usize, u32, usize),
 }
 
 // Where changes are read: how many so far, and where the next record stands.
-#[derive(Drop)]
+#[derive(Clone, Copy)]
 pub struct ChangeRun {
     pub count: usize,
     pub at: usize,

@@ -1,5 +1,7 @@
 // The four calls for other languages. A session lies in a room as eight numbers, an answer is one number, and a report is
 // three numbers in a room; what the calls leave stands in specs/Boundary.antt.
+#![tactic(auto)]
+
 ghost use Rattle.std.specs.Prelude.{◌≡◌};
 ghost use Rattle.rules.specs.Rooms.{rooms_of, rooms_with};
 ghost use Rattle.boundary.specs.Boundary.{loaded_to, batched_to, wrote_to, load_call, batch_call, write_call, ask_call};

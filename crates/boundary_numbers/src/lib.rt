@@ -1,5 +1,7 @@
 // Sessions, answers and reports as plain numbers, for callers in other languages. What they mean stands in
 // specs/Numbers.antt.
+#![tactic(auto)]
+
 ghost use Rattle.std.specs.Prelude.{◌≡◌, ◌≤◌, min, pos, length, get_or, set};
 ghost use Rattle.lists.specs.Lists.{bit, fill};
 ghost use Rattle.rules.specs.Records.{accepted};

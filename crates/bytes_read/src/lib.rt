@@ -1,6 +1,8 @@
 // The record that stands at a place of the bytes, as an enum. The bytes are read through a reader that holds them and its
 // place. The borrow checker covers no function over such a struct, so `reader_at` and `next`, and whoever keeps a reader, are
 // proved by hand; the work is left to `record_at`, which takes a plain slice and a place and is covered.
+#![tactic(auto)]
+
 ghost use Rattle.std.specs.Prelude.{◌≡◌, ◌+◌, ◌≤◌, ◌<◌, length};
 ghost use Rattle.bytes_read.specs.Places.{le16, le32, move_at, sizes_at, body_len, record_of, record_at};
 
@@ -8,14 +10,14 @@ use rules::{Action, Move, Record, Sizes, State};
 
 // What stands at a place: a record and the place after it; or the end of the bytes, an unknown kind, or a record that is cut
 // off.
-#[derive(Drop)]
+#[derive(Clone, Copy)]
 pub enum Read {
     Got(Record, usize),
     Broken,
 }
 
 // The lent bytes and the place in them from which the next record is read.
-#[derive(Drop)]
+#[derive(Clone, Copy)]
 pub struct Reader<'a> {
     pub bytes: &'a [u8],
     pub at: usize,

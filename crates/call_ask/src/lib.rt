@@ -1,4 +1,6 @@
 // The question about one pair, whole.
+#![tactic(auto)]
+
 ghost use Rattle.std.specs.Prelude.{◌≡◌};
 ghost use Rattle.rules.specs.Calls.{ask};
 ghost use Rattle.rules.specs.Answers.{asked_says};

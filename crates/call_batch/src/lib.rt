@@ -1,5 +1,7 @@
 // The update: a batch of changes, whole. The session is checked, the bytes are read and judged, and then the moves, the
 // values, the marks and the stamp follow the changes.
+#![tactic(auto)]
+
 ghost use Rattle.std.specs.Prelude.{◌≡◌, true, ◌≤◌, length};
 ghost use Rattle.rules.specs.Limits.{most_changes};
 ghost use Rattle.rules.specs.Batch.{changes_ok};

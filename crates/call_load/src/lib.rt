@@ -1,4 +1,6 @@
 // The call that loads a model: read and judged, stored in the rooms lent, and its values found.
+#![tactic(auto)]
+
 ghost use Rattle.std.specs.Prelude.{◌≡◌};
 ghost use Rattle.rules.specs.Rooms.{rooms_with};
 ghost use Rattle.rules.specs.Calls.{load, leaves};

@@ -1,4 +1,6 @@
 // The call that writes the model a session holds, whole: for any rooms, what is answered and what the output holds after.
+#![tactic(auto)]
+
 ghost use Rattle.std.specs.Prelude.{◌≡◌};
 ghost use Rattle.rules.specs.Calls.{leaves, write};
 ghost use Rattle.rules.specs.Answers.{written_says};

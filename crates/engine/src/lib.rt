@@ -1,4 +1,6 @@
 // The update of the values that follows a batch, and the values of a model that is loaded.
+#![tactic(auto)]
+
 ghost use Rattle.std.specs.Prelude.{◌≡◌, true, ℕ, ◌+◌, ◌≤◌, ◌<◌, get_or, length, take, replicate};
 ghost use Rattle.rules.specs.Limits.{most_changes};
 ghost use Rattle.rules.specs.Batch.{changes_ok};
@@ -22,7 +24,7 @@ use rules::{Sizes, Visits};
 
 // What the turns of an update count: the visits, and a level that is as many as there are pairs at first and follows the number of
 // true pairs.
-#[derive(Drop)]
+#[derive(Clone, Copy)]
 pub struct Turns {
     pub visits: Visits,
     pub level: usize,
@@ -211,7 +213,7 @@ fn move_in_rooms(
 }
 
 // What an update reports: the visits, and the change in the number of true pairs.
-#[derive(Drop)]
+#[derive(Clone, Copy)]
 pub struct Effects {
     pub visits: Visits,
     pub net: i32,

@@ -1,4 +1,6 @@
 // The indexes of an update, built once per call: the moves by action and target, and the operands by the variable that they name.
+#![tactic(auto)]
+
 ghost use Rattle.std.specs.Prelude.{◌≡◌, true, suc, ◌+◌, ◌*◌, ◌≤◌, ◌<◌, length};
 ghost use Rattle.rules.specs.Session.{unword};
 ghost use Rattle.engine_index.specs.Chains.{link, linked};

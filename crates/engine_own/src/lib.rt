@@ -1,4 +1,6 @@
 // A state's moves with an action, looked at outwards from one of them: does one of them lead to a pair with a value?
+#![tactic(auto)]
+
 ghost use Rattle.std.specs.Prelude.{◌≡◌, true, ◌≤◌, ◌<◌, length, get_or, eqb};
 ghost use Rattle.lists.specs.Lists.{any};
 ghost use Rattle.rules.specs.Moves.{source, action, target};

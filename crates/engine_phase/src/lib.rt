@@ -1,4 +1,6 @@
 // One phase of one block: all its rows are looked at, then the pairs that wait turn, first come first served.
+#![tactic(auto)]
+
 ghost use Rattle.std.specs.Prelude.{◌≡◌, true, false, not, ℕ, ◌+◌, ◌*◌, ◌/◌, ◌≤◌, ◌<◌, length, get_or, eqb};
 ghost use Rattle.lists.specs.Lists.{bit};
 ghost use Rattle.systems.specs.lists.ListMachine.{marks_in, turned};
@@ -244,7 +246,7 @@ fn turn_round(
 }
 
 // What a phase counts: the visits of its kind, and a level that follows the number of true pairs.
-#[derive(Drop)]
+#[derive(Clone, Copy)]
 pub struct Counts {
     pub visits: usize,
     pub level: usize,

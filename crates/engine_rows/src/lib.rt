@@ -1,4 +1,6 @@
 // Rows: the pairs of one variable at all states, of which `bad` says which must turn.
+#![tactic(auto)]
+
 ghost use Rattle.std.specs.Prelude.{◌≡◌, false, cond, map, ◌++◌, ℕ, ◌+◌, ◌-◌, ◌*◌, ◌≤◌, ◌<◌, length, get_or, take, drop, replicate, eqb};
 ghost use Rattle.lists.specs.Lists.{bit, listed, some_below};
 ghost use Rattle.systems.specs.machine.Machine.{next_mark};

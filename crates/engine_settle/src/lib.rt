@@ -1,4 +1,6 @@
 // The row of a variable while its block settles: at which states the equation gives what the block's own value is not.
+#![tactic(auto)]
+
 ghost use Rattle.std.specs.Prelude.{◌≡◌, ◌&&◌, ◌+◌, ◌*◌, ◌≤◌, ◌<◌, length, get_or, eqb};
 ghost use Rattle.lists.specs.Lists.{listed, some_below};
 ghost use Rattle.rules.specs.Rooms.{pairs_of};

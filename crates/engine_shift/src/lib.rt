@@ -1,5 +1,7 @@
 // Which pairs of a row seed a shift: those that a change touches, and those that lean on a pair of an earlier block that went to the
 // own value of the row's block.
+#![tactic(auto)]
+
 ghost use Rattle.std.specs.Prelude.{◌≡◌, true, not, ◌&&◌, List, ℕ, ◌+◌, ◌*◌, ◌/◌, ◌≤◌, ◌<◌, length, get_or, eqb};
 ghost use Rattle.lists.specs.Lists.{is, any, some_below};
 ghost use Rattle.rules.specs.Moves.{target};

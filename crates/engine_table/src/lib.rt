@@ -1,1 +1,2 @@
 // A model as it lies in rooms that are cut to their lengths, and what the words in them say of its pairs. Laws only: there is no code.
+#![tactic(auto)]

@@ -1,5 +1,7 @@
 // A turn: the pair in front of the queue gets its other value, and the pairs that lean on it inside its block are visited: those
 // that must turn too wait behind the others.
+#![tactic(auto)]
+
 ghost use Rattle.std.specs.Prelude.{◌≡◌, true, cond, [], ◌∷◌, ◌+◌, ◌*◌, ◌/◌, ◌%◌, ◌<◌, length, get_or};
 ghost use Rattle.systems.specs.machine.Machine.{free, next_mark};
 ghost use Rattle.rules.specs.Rooms.{pairs_of};
@@ -15,7 +17,7 @@ ghost use Rattle.engine_turn.specs.Scene.{scene_of, Standing, fails, line_at, vi
 use rules::{Sizes, State, Variable};
 
 // Where a run of visits stands: the end of the queue, and the number of visits so far.
-#[derive(Drop)]
+#[derive(Clone, Copy)]
 pub struct Spread {
     pub tail: usize,
     pub visits: usize,

@@ -1,5 +1,7 @@
 // What is done once for each update, before its first unit and after its last: values, marks and work rooms are set, and blocks and
 // true pairs are counted.
+#![tactic(auto)]
+
 ghost use Rattle.std.specs.Prelude.{◌≡◌, map, suc, ◌+◌, ◌≤◌, ◌<◌, max, pos, ◌-ℤ◌, length, get_or, replicate, eqb};
 ghost use Rattle.lists.specs.Lists.{bit, fill};
 ghost use Rattle.rules.specs.Model.{blocks_in};

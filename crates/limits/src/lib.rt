@@ -1,4 +1,6 @@
 // The most of each thing, and whether the numbers of a model lie inside their limits.
+#![tactic(auto)]
+
 ghost use Rattle.std.specs.Prelude.{◌≡◌, ◌+◌, ◌*◌, ◌<◌};
 ghost use Rattle.rules.specs.Limits.{most_moves, sizes_ok};
 ghost use Rattle.rules.specs.Load.{moving_with};
@@ -23,7 +25,7 @@ pub const MOST_MOVES: usize = 1024;
 pub const MOST_CHANGES: usize = 64;
 
 // How long the rooms are that a caller lends.
-#[derive(Drop)]
+#[derive(Clone, Copy)]
 pub struct Lent {
     pub labels: usize,
     pub equations: usize,

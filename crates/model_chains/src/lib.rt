@@ -1,6 +1,8 @@
 // Chains of variables through equations with signs: what each variable leads to, as a set of bits, round after round; the
 // components and their numbers; and the lowest equation on a closed chain that holds both signs. Equations and sets are cut to
 // their number at the doors, so that their length tells it.
+#![tactic(auto)]
+
 ghost use Rattle.std.specs.Prelude.{◌≡◌, cond, ◌&&◌, map, ◌+◌, ◌/◌, ◌%◌, ◌^◌, ◌≤◌, ◌<◌, eqb, ltb, get_or, length};
 ghost use Rattle.lists.specs.Lists.{bit, fill, mask, lowest};
 ghost use Rattle.rules.specs.Limits.{most_variables};

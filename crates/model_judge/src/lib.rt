@@ -1,4 +1,6 @@
 // A model on the wire, judged record by record.
+#![tactic(auto)]
+
 ghost use Rattle.std.specs.Prelude.{◌≡◌, true, false, ◌+◌, ◌≤◌, ◌<◌, min, length, get_or};
 ghost use Rattle.rules.specs.Load.{started, read_model, signed_of};
 ghost use Rattle.rules.specs.Limits.{most_variables, most_moves};
@@ -22,7 +24,7 @@ use rules::{Equation, Move, Record, Refusal, Sizes, State};
 
 // Of the blocks so far: how many records, the kind of the last, how many of its equations are still due, and how many
 // equations there were in all.
-#[derive(Drop)]
+#[derive(Clone, Copy)]
 pub struct BlocksRead {
     pub count: u32,
     pub kind: u32,
@@ -32,7 +34,7 @@ pub struct BlocksRead {
 
 // Of the moves so far: how many, the least number that the next may have, and how many states, from the first on, have a move
 // each.
-#[derive(Drop)]
+#[derive(Clone, Copy)]
 pub struct MovesRead {
     pub count: u32,
     pub least: u64,
@@ -40,7 +42,7 @@ pub struct MovesRead {
 }
 
 // What has been read so far, in numbers. Labels have passed the states below `labels`.
-#[derive(Drop)]
+#[derive(Clone, Copy)]
 pub struct Progress {
     pub sizes: Sizes,
     pub live: u8,
@@ -50,7 +52,7 @@ pub struct Progress {
 }
 
 // What one record does to what has been read so far.
-#[derive(Drop)]
+#[derive(Clone, Copy)]
 pub enum Judged {
     Refused(Refusal),
     Next(Progress),
@@ -346,14 +348,14 @@ pub fn judge_record(l: Lent, x: Progress, rec: Record) -> Judged
 }
 
 // What reading a model comes to: a refusal with its place, or the sizes, whether it is live, and the number of moves.
-#[derive(Drop)]
+#[derive(Clone, Copy)]
 pub enum ReadModel {
     Refused(Refusal, usize),
     Good(Sizes, u8, u32),
 }
 
 // One record read and judged: the end of the reading, or the record, what has been read with it, and the next place.
-#[derive(Drop)]
+#[derive(Clone, Copy)]
 pub enum OneTurn {
     Stop(ReadModel),
     Go(Record, Progress, usize),

@@ -1,5 +1,7 @@
 // Labels, equations of a block and moves that stand one after another in the bytes of a model, each whole, in range and in
 // order: some of them read in one go. What a run passes is good; that it passes all that are good is not promised.
+#![tactic(auto)]
+
 ghost use Rattle.std.specs.Prelude.{◌≡◌, true, ℕ, ◌+◌, ◌*◌, ◌^◌, ◌≤◌, ◌<◌, length};
 ghost use Rattle.rules.specs.Limits.{most_moves};
 ghost use Rattle.model_runs.specs.Runs.{GoodLabel, GoodEquation, GoodMove, with_label, with_equation, with_move, Labelled, Equated, Moved};
@@ -7,14 +9,14 @@ ghost use Rattle.model_runs.specs.Runs.{GoodLabel, GoodEquation, GoodMove, with_
 use rules::{Sizes, State};
 
 // Where labels are read: they have passed the states below `labels`, and the next record stands at a place.
-#[derive(Drop)]
+#[derive(Clone, Copy)]
 pub struct LabelRun {
     pub labels: u32,
     pub at: usize,
 }
 
 // Where equations of a block are read: how many are due, and where the next record stands.
-#[derive(Drop)]
+#[derive(Clone, Copy)]
 pub struct EquationRun {
     pub due: u32,
     pub at: usize,
@@ -22,7 +24,7 @@ pub struct EquationRun {
 
 // Where moves are read: how many so far, the least number that the next may have, how many states, from the first on, have a
 // move each, and where the next record stands.
-#[derive(Drop)]
+#[derive(Clone, Copy)]
 pub struct MoveRun {
     pub count: u32,
     pub least: u64,
@@ -31,7 +33,7 @@ pub struct MoveRun {
 }
 
 // Past one move or some: whether all of them are good, and where the next is read.
-#[derive(Drop)]
+#[derive(Clone, Copy)]
 struct Passed {
     good: bool,
     run: MoveRun,

@@ -1,4 +1,6 @@
 // A model written from its rooms, each as long as its use: the one spelling, record by record, into a room that holds it.
+#![tactic(auto)]
+
 ghost use Rattle.std.specs.Prelude.{◌≡◌, [], ◌∷◌, map, ◌+◌, ◌*◌, ◌≤◌, length, drop};
 ghost use Rattle.rules.specs.Limits.{most_states, most_variables};
 ghost use Rattle.rules.specs.Model.{run_of, signed};

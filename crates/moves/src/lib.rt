@@ -1,4 +1,6 @@
 // The sorted list of packed moves: its stamp, which part of it belongs to a state and an action, and what stands in it.
+#![tactic(auto)]
+
 ghost use Rattle.std.specs.Prelude.{◌≡◌, ◌+◌, ◌-◌, ◌<◌, ◌≤◌, min, true, length, drop, if◌then◌else◌, nat_lt, slice_index};
 ghost use Rattle.lists.specs.Lists.{elem};
 ghost use Rattle.rules.specs.Moves.{weight, wrap, stamp_of};
@@ -11,7 +13,7 @@ ghost use Rattle.moves.specs.Stamps.{weight_of};
 use rules::{Action, State};
 
 // A part of the list: the place of its first move, and the place past its last.
-#[derive(Drop)]
+#[derive(Clone, Copy)]
 pub struct Part {
     pub from: usize,
     pub end: usize,
@@ -81,7 +83,7 @@ pub fn stamp_of(moves: &[u32]) -> u32
 }
 
 // How far a search is: the place that it goes on from, and how many tests it took.
-#[derive(Drop)]
+#[derive(Clone, Copy)]
 struct Found {
     at: usize,
     tests: usize,

@@ -1,4 +1,6 @@
 // The program: a model and its batches read from bytes, and a line printed for each.
+#![tactic(auto)]
+
 ghost use Rattle.std.specs.Prelude.{◌≡◌, ◌+◌, ◌*◌, ◌≤◌, ◌<◌, length, drop};
 ghost use Rattle.io.specs.Counts.{IsPrefixLen};
 ghost use Rattle.lists.specs.Lists.{fill};
@@ -11,7 +13,7 @@ ghost use Rattle.program.specs.Steps.{Stepped, batches_from};
 use rules::{Loaded, Session, Updated};
 
 // What one part leaves: the session after it, how many bytes it had, and the place after its line.
-#[derive(Drop)]
+#[derive(Clone, Copy)]
 pub struct Went {
     pub session: Session,
     pub taken: usize,

@@ -1,4 +1,6 @@
 // The cut of the input into parts: by kinds and lengths, up to each end record.
+#![tactic(auto)]
+
 ghost use Rattle.std.specs.Prelude.{◌≡◌, eqb};
 ghost use Rattle.rules.specs.Records.{numbers_of};
 ghost use Rattle.program_cut.specs.Cut.{cut};

@@ -1,4 +1,6 @@
 // The lines that the program prints, written into a lent room of bytes.
+#![tactic(auto)]
+
 ghost use Rattle.std.specs.Prelude.{◌++◌, ◌+◌, ◌≤◌, ◌<◌, length};
 ghost use Rattle.model_write.specs.Spelled.{Wrote};
 ghost use Rattle.program_lines.specs.Lines.{decimal, signed, net_text, totals, loaded_line, batch_line, refused_line};

@@ -1,19 +1,21 @@
 // Standard input and standard output of the program: what is read, what of it is answered, and what is told where either fails. No
 // contract can say which bytes C's read and write move; what is said is which bytes are handed over, whatever was read.
+#![tactic(auto)]
+
 ghost use Rattle.std.specs.Prelude.{◌≡◌, ◌+◌, ◌*◌, ◌≤◌, length, take, drop};
 ghost use Rattle.lists.specs.Lists.{fill};
 ghost use Rattle.program.specs.Program.{printed};
 ghost use Rattle.program_streams.specs.Streams.{reading_of, Within, Told, Answered};
 
 // What a reading answers: that it failed, or how many bytes it has.
-#[derive(Drop)]
+#[derive(Clone, Copy)]
 pub enum Reading {
     Failed,
     Bytes(usize),
 }
 
 // How a run ends: its input could not be read, or so many bytes of its output were taken, which are fewer than all, or all.
-#[derive(Drop)]
+#[derive(Clone, Copy)]
 pub enum Ended {
     Unread,
     Unwritten(usize),

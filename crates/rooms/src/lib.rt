@@ -1,5 +1,7 @@
 // One place of a lent room, read and written. A place past the end of the room reads 0 and takes nothing, so that no caller
 // has to show that it stays inside.
+#![tactic(auto)]
+
 ghost use Rattle.std.specs.Prelude.{◌≡◌, get_or, set};
 
 pub fn byte_at(room: &[u8], at: usize) -> u8

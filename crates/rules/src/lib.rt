@@ -2,16 +2,18 @@
 // answers of the four calls. What all of it means stands in specs/.
 
 // A state, an action and a variable: three kinds of number that do not mix.
-#[derive(Drop)]
+#![tactic(auto)]
+
+#[derive(Clone, Copy)]
 pub struct State(pub u16);
 
-#[derive(Drop)]
+#[derive(Clone, Copy)]
 pub struct Action(pub u8);
 
-#[derive(Drop)]
+#[derive(Clone, Copy)]
 pub struct Variable(pub u8);
 
-#[derive(Drop)]
+#[derive(Clone, Copy)]
 pub struct Move {
     pub source: State,
     pub action: Action,
@@ -19,7 +21,7 @@ pub struct Move {
 }
 
 // An equation: its operator, what it names, its block or component, and whether that is greatest (1) or least (0).
-#[derive(Drop)]
+#[derive(Clone, Copy)]
 pub struct Equation {
     pub operator: u8,
     pub first: u8,
@@ -29,7 +31,7 @@ pub struct Equation {
 }
 
 // How many of each a model has.
-#[derive(Drop)]
+#[derive(Clone, Copy)]
 pub struct Sizes {
     pub states: u16,
     pub actions: u8,
@@ -40,7 +42,7 @@ pub struct Sizes {
 
 // The small part of a session, kept by value: whether the model is live (1) or not (0), how many moves lie in the room lent for
 // them, and their stamp.
-#[derive(Drop)]
+#[derive(Clone, Copy)]
 pub struct Session {
     pub sizes: Sizes,
     pub live: u8,
@@ -49,7 +51,7 @@ pub struct Session {
 }
 
 // Why the checker says no, in the order of the paper's numbers (specs/Answers.antt, `number_of`).
-#[derive(Drop)]
+#[derive(Clone, Copy)]
 pub enum Refusal {
     Broken,
     NotDue,
@@ -68,49 +70,49 @@ pub enum Refusal {
 }
 
 // What a load answers: a refusal with its place, or the session.
-#[derive(Drop)]
+#[derive(Clone, Copy)]
 pub enum Loaded {
     Refused(Refusal, usize),
     Accepted(Session),
 }
 
 // Leanings, inside one block, on shifted pairs and on settled pairs.
-#[derive(Drop)]
+#[derive(Clone, Copy)]
 pub struct Visits {
     pub shift: u32,
     pub settle: u32,
 }
 
 // What an accepted batch reports: the session after it, the visits, and the change in the number of true pairs.
-#[derive(Drop)]
+#[derive(Clone, Copy)]
 pub struct Report {
     pub session: Session,
     pub visits: Visits,
     pub net: i32,
 }
 
-#[derive(Drop)]
+#[derive(Clone, Copy)]
 pub enum Updated {
     Refused(Refusal, usize),
     Accepted(Report),
 }
 
 // What a writing answers: a refusal, or the number of bytes written.
-#[derive(Drop)]
+#[derive(Clone, Copy)]
 pub enum Written {
     Refused(Refusal, usize),
     Accepted(usize),
 }
 
 // What a question about one pair answers: a refusal, or its value.
-#[derive(Drop)]
+#[derive(Clone, Copy)]
 pub enum Asked {
     Refused(Refusal, usize),
     Accepted(bool),
 }
 
 // One record of the wire.
-#[derive(Drop)]
+#[derive(Clone, Copy)]
 pub enum Record {
     Sizes(Sizes),
     Label(State, u32),

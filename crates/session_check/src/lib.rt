@@ -1,5 +1,7 @@
 // The check of a whole session: its counts, and whether its rooms hold a model inside the limits. The rooms are cut to their lengths
 // once, where the rest is asked; below that each function takes a whole room.
+#![tactic(auto)]
+
 ghost use Rattle.std.specs.Prelude.{◌≡◌, map, ◌+◌, ◌≤◌, ◌<◌, length, drop, leb};
 ghost use Rattle.lists.specs.Lists.{all};
 ghost use Rattle.rules.specs.Limits.{most_variables};

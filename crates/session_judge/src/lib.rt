@@ -1,4 +1,6 @@
 // What a call asks of a session before anything else, in the paper's order.
+#![tactic(auto)]
+
 ghost use Rattle.std.specs.Prelude.{◌≡◌};
 ghost use Rattle.rules.specs.Rooms.{rooms_of};
 ghost use Rattle.session_judge.specs.Checks.{check_of, checked_says};
@@ -7,7 +9,7 @@ use limits::Lent;
 use rules::{Refusal, Session};
 
 // What is found of a session: a refusal, at place 0, or nothing wrong.
-#[derive(Drop)]
+#[derive(Clone, Copy)]
 pub enum Checked {
     Refused(Refusal),
     Good,

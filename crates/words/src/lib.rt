@@ -1,5 +1,7 @@
 // How a move, a change, an equation, a pair and a waiting pair lie in one number each. They are put together and taken apart here, and
 // nowhere else.
+#![tactic(auto)]
+
 ghost use Rattle.std.specs.Prelude.{◌≡◌, Bool, ◌+◌, ◌*◌, ◌/◌, ◌%◌, ◌≤◌, ◌<◌};
 ghost use Rattle.rules.specs.Moves.{pack, source, action, target};
 ghost use Rattle.rules.specs.Session.{word, unword};

@@ -1,7 +1,7 @@
 -- Which states have a move: what a reading counts, in one pass over the ascending moves, tells whether each state has one.
 -- Assumes nothing.
 use Rattle.std.specs.Prelude.{◌≡◌, refl, ◌≢◌, Bool, true, false, cond, List, [], ◌∷◌, ℕ, suc, ◌≤◌, ◌<◌, eqb, ltb}
-use Rattle.std.proofs.Common.{sym, ap, ◌∙◌, inl, inr, arith}
+use Rattle.std.proofs.Common.{sym, ap, ◌∙◌, subst, inl, inr, arith}
 use Rattle.std.proofs.lemmas.Bool.{false≢true}
 use Rattle.lists.specs.Ranges.{same_truth, each_in, each-out}
 use Rattle.lists.specs.Tests.{tests, tell, eqb_is, eqb_no, ltb-is, ltb_no, and_is, leb-is, or-in, or-other, or_no}
@@ -105,7 +105,8 @@ stops z (q ∷ ms) least n h =
       | inl t ↦
           let a = (eqb_is (source q) n).0 t in
           let g = grows ms (suc n) in
-          rw t ((or_no (eqb (source q) (moving_over (suc n) ms)) (has_move ms (moving_over (suc n) ms))).1 ((eqb_no (source q) _).1 (λ i. omega arith), stops z ms (suc q) (suc n) f.1))
+          let e : moving_over (suc n) ms ≡ moving_over n (q ∷ ms) = rw t refl in
+          subst (λ (s : ℕ). has_move (q ∷ ms) s ≡ false) e ((or_no (eqb (source q) (moving_over (suc n) ms)) (has_move ms (moving_over (suc n) ms))).1 ((eqb_no (source q) _).1 (λ i. omega arith), stops z ms (suc q) (suc n) f.1))
       | inr t ↦
           let d = (eqb_no (source q) n).0 t in
           let g = grows ms n in
@@ -113,7 +114,8 @@ stops z (q ∷ ms) least n h =
             | inl u ↦ λ i. (let a = (ltb-is (source q) n).0 u in omega arith)
             | inr u ↦ λ i. (let a = (ltb_no (source q) n).0 u in let b : source q ≤ source (suc q) = omega arith in let c = stays z ms (suc q) n f.1 (omega arith) in omega arith)
           ] in
-          rw t ((or_no (eqb (source q) (moving_over n ms)) (has_move ms (moving_over n ms))).1 ((eqb_no (source q) _).1 off, stops z ms (suc q) n f.1))
+          let e : moving_over n ms ≡ moving_over n (q ∷ ms) = rw t refl in
+          subst (λ (s : ℕ). has_move (q ∷ ms) s ≡ false) e ((or_no (eqb (source q) (moving_over n ms)) (has_move ms (moving_over n ms))).1 ((eqb_no (source q) _).1 off, stops z ms (suc q) n f.1))
     ]
 
 -- Counted over moves in order, it is the first state that has no move: those below it have one each.

@@ -46,7 +46,7 @@ either false true y e = inr e
 either false false y e = inl refl
 
 -- Where the operator b gives b, each operand has b.
-pub all-out : (b : Bool) (v : Values) {l : List ℕ} {q : ℕ} → q ∈ l → ev b v l ≡ b → v q ≡ b
+pub all-out : (b : Bool) (v : Values) {q : ℕ} {l : List ℕ} → q ∈ l → ev b v l ≡ b → v q ≡ b
 unfolding ev
 all-out b v (Memᴰ.head {x = x} {xs = l} e) h = ap v e ∙ both_left b (v x) (ev b v l) h
 all-out b v (Memᴰ.tail {x = x} {xs = l} m) h = all-out b v m (both_right b (v x) (ev b v l) h)
@@ -58,7 +58,7 @@ all_in b v [] f = refl
 all_in b v (q ∷ l) f = both b (v q) (ev b v l) (f q (Memᴰ.head refl)) (all_in b v l (λ r m. f r (Memᴰ.tail m)))
 
 -- Where one operand has b, the other operator gives b.
-pub one_in : (b : Bool) (v : Values) {l : List ℕ} {q : ℕ} → q ∈ l → v q ≡ b → ev (not b) v l ≡ b
+pub one_in : (b : Bool) (v : Values) {q : ℕ} {l : List ℕ} → q ∈ l → v q ≡ b → ev (not b) v l ≡ b
 unfolding ev
 one_in b v (Memᴰ.head {x = x} {xs = l} e) h = either_left b (v x) (ev (not b) v l) (ap v (sym e) ∙ h)
 one_in b v (Memᴰ.tail {x = x} {xs = l} m) h = either-right b (v x) (ev (not b) v l) (one_in b v m h)
