@@ -1,8 +1,6 @@
 -- A list from place i on: what a walk over it has still to do. Assumes nothing.
-use Rattle.std.specs.Prelude.{◌≡◌, ℕ, ◌+◌, ◌-◌, ◌<◌, ◌≤◌, min, List, [], ◌∷◌, length, drop, slice_index, refl}
-use Rattle.std.proofs.Common.{sym, ap, ◌∙◌, add-one, arith, length-take, drop_of_length-le, take_all, drop-cons, get_or-take}
-use Rattle.std.proofs.Math.Decide.{dec_le}
-use Rattle.std.proofs.Math.Seq.{take-length}
+use Rattle.std.specs.Prelude.{◌≡◌, ℕ, ◌+◌, ◌-◌, ◌<◌, ◌≤◌, List, ◌∷◌, length, drop, slice_index}
+use Rattle.std.proofs.Common.{ap, ◌∙◌, add-one, arith, drop-cons}
 
 -- What is left of a whole list: the next entry, and the rest.
 pub left-more : (l : List ℕ) (i : ℕ) → i < length l → drop i l ≡ slice_index l i ∷ drop (i + 1) l
