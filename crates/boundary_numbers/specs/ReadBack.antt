@@ -1,9 +1,8 @@
 -- A session that was kept is read back, and no number too large is taken for one inside the limits. Assumes nothing.
-use Rattle.std.specs.Prelude.{◌≡◌, refl, Bool, true, false, List, ℕ, ◌≤◌, ◌<◌, min, get_or, leb}
-use Rattle.std.proofs.Common.{sym, arith}
-use Rattle.std.proofs.lemmas.Bool.{false≢true}
+use Rattle.std.specs.Prelude.{◌≡◌, refl, true, List, ℕ, ◌≤◌, ◌<◌, min, get_or, leb}
+use Rattle.std.proofs.Common.{arith}
 use Rattle.lists.specs.Lists.{fill}
-use Rattle.lists.specs.Tests.{no_way, leb-is, tests, same_test}
+use Rattle.lists.specs.Tests.{leb-is, tests, same_test}
 use Rattle.rules.specs.Limits.{sizes_ok}
 use Rattle.rules.specs.declared.Sizes.{Sizes}
 use Rattle.rules.specs.declared.Session.{Session}

@@ -1,5 +1,5 @@
 -- The question about one pair, in the words of the code: what each of its tests comes to. Assumes nothing.
-use Rattle.std.specs.Prelude.{◌≡◌, Bool, true, false, ◌&&◌, List, ℕ, ◌≤◌, ◌<◌, length, get_or, eqb, ltb, leb}
+use Rattle.std.specs.Prelude.{◌≡◌, Bool, true, false, ◌&&◌, List, ℕ, ◌≤◌, ◌<◌, length, get_or, eqb, ltb}
 use Rattle.std.proofs.Math.Path.{refl, sym}
 use Rattle.lists.specs.Tests.{leb-is, leb_no}
 use Rattle.rules.specs.Limits.{sizes_ok}

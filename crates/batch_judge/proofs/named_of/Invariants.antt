@@ -1,0 +1,14 @@
+-- A walk from the last change to the first: found are those from here on, and the changes before get fewer. Assumes nothing.
+use mathlib.Core.Path.{◌≡◌}
+use Prim.Native.Nat.{◌+◌, ◌≤◌}
+use lib.ListN.{length}
+use Rattle.laws.specs.moves.Emptied.{moves_of}
+use Rattle.batch_judge.specs.Changes.{changes_from}
+use Rattle.batch_judge.specs.Hangs.{named_by}
+use Rattle.batch_judge.proofs.named_of.Given as goal
+
+abbrev pub invariant-loop-i : goal.invariant-loop-i
+invariant-loop-i l = (l.i ≤ length l.changes) × (l.found ≡ moves_of l.here.0 (named_by l.inserting (changes_from l.changes l.i))) × (l.found + l.i ≤ length l.changes)
+
+abbrev pub decreases-loop-i : goal.decreases-loop-i
+decreases-loop-i l = l.i
