@@ -1,12 +1,11 @@
 -- Walking along a chain meets the words that have its number, the last first, and no others. Assumes nothing.
-use Rattle.std.specs.Prelude.{◌≡◌, Bool, ◌||◌, List, [], ◌∷◌, ◌++◌, length, get_or, take, eqb}
+use Rattle.std.specs.Prelude.{◌≡◌, Bool, List, get_or, eqb}
 use Rattle.std.proofs.Math.Path.{refl}
-use Rattle.std.proofs.Common.{sym, ap, ◌∙◌, subst, take-suc}
+use Rattle.std.proofs.Common.{◌∙◌}
 use Rattle.std.proofs.Math.Bool.{true, false, cond}
 use Prim.Native.Nat.{ℕ, zero, suc, ◌+◌, ◌-◌, ◌≤◌, ◌<◌}
 use native.Mathlib.Omega.{arith}
-use Rattle.lists.specs.Lists.{any}
-use Rattle.lists.specs.Tests.{tell, clash, no_way, or-false, eqb-in, eqb-out}
+use Rattle.lists.specs.Tests.{clash, eqb-in, eqb-out}
 use Rattle.engine_index.specs.Chains.{last_to}
 use Rattle.engine_index.specs.ChainLaws.{Chained}
 

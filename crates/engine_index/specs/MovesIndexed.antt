@@ -4,7 +4,7 @@ use Rattle.std.proofs.Common.{sym, ap, ◌∙◌, subst, mul-le-mul_right, zero-
 use Rattle.rules.specs.Limits.{most_moves}
 use Rattle.rules.specs.Moves.{action, target}
 use Rattle.rules.specs.declared.Sizes.{Sizes}
-use Rattle.engine_table.specs.Table.{Table, table_in, Drawn}
+use Rattle.engine_table.specs.Table.{Table, Drawn}
 use Rattle.engine_table.specs.Limits.{limits, move-inside}
 use Rattle.engine_index.specs.Chains.{linked}
 use Rattle.engine_index.specs.ChainLaws.{chained, linked_long}

@@ -1,14 +1,13 @@
 -- Chaining the operands, slot after slot. Assumes nothing.
 use Rattle.std.specs.Prelude.{◌≡◌, Bool, not, ◌&&◌, List, length, get_or, set, eqb, ltb, leb}
 use Rattle.std.proofs.Math.Path.{refl, sym}
-use Rattle.std.proofs.Common.{ap, ◌∙◌, subst, inl, inr, not-suc-le-zero, le_of_suc-le-suc, eq-or-lt_of_le, add-one, length-set, get_or-set_same, get_or-set_other}
+use Rattle.std.proofs.Common.{ap, ◌∙◌, subst, inl, inr, not-suc-le-zero, le_of_suc-le-suc, eq-or-lt_of_le, length-set, get_or-set_same, get_or-set_other}
 use Rattle.std.proofs.Math.Bool.{true, false, cond}
 use Prim.Native.Nat.{ℕ, zero, suc, ◌+◌, ◌*◌, ◌/◌, ◌%◌, ◌≤◌, ◌<◌}
 use Rattle.std.proofs.Math.Nat.{mul-le-mul}
 use Rattle.std.proofs.Math.Decide.{ℕ_discrete}
 use native.Mathlib.Omega.{arith}
 use Rattle.lists.specs.Sums.{bit_le}
-use Rattle.lists.specs.Lists.{bit}
 use Rattle.lists.specs.TableLaws.{listed-is}
 use Rattle.lists.specs.Tests.{tell, not-not, and_is, and_left, and-true, eqb-in, eqb-out, eqb_no, ltb-is, ltb_no, leb-is}
 use Rattle.rules.specs.declared.Equation.{Equation}
@@ -19,7 +18,7 @@ use Rattle.engine_table.specs.Table.{Table, Drawn, ReadsAs}
 use Rattle.engine_table.specs.Limits.{limits}
 use Rattle.engine_table.specs.GivesWords.{join_names, step-names}
 use Rattle.engine_index.specs.Chains.{last_to}
-use Rattle.engine_index.specs.Operands.{operand_at, of_slot, is_slot, name_at, names_of, last_named, is_step, easy_bit, slot_word, link_of, word_before, put_first, Blank, NamedUpTo, Naming, Slot}
+use Rattle.engine_index.specs.Operands.{operand_at, of_slot, is_slot, name_at, names_of, last_named, is_step, slot_word, link_of, word_before, put_first, Blank, NamedUpTo, Naming, Slot}
 
 module _ (equations : List ℕ) where
   -- The name of a slot, in the list of all.

@@ -1,10 +1,10 @@
 -- What is put into the word of an operand is read from it again. Assumes nothing.
-use Rattle.std.specs.Prelude.{◌≡◌, refl, Bool, true, false, cond, ℕ, ◌+◌, ◌*◌, ◌/◌, ◌%◌, ◌≤◌, ◌<◌, eqb}
+use Rattle.std.specs.Prelude.{◌≡◌, refl, Bool, cond, ℕ, ◌+◌, ◌*◌, ◌/◌, ◌%◌, ◌≤◌, ◌<◌, eqb}
 use Rattle.std.proofs.Common.{ap, subst, mul-le-mul, arith}
 use Rattle.lists.specs.Sums.{bit_le}
 use Rattle.lists.specs.TableLaws.{bit-back}
 use Rattle.lists.specs.Lists.{bit}
-use Rattle.rules.specs.Limits.{most_states, most_variables}
+use Rattle.rules.specs.Limits.{most_states}
 use Rattle.rules.specs.declared.Equation.{Equation}
 use Rattle.rules.specs.declared.Sizes.{Sizes}
 use Rattle.engine_index.specs.Operands.{is_step, easy_bit, slot_word, link_in, step_in, easy_in, waits_in, owner_in, row_in, heads_in}

@@ -1,5 +1,5 @@
 -- A room whose places are written one after the other, from the front. Assumes nothing.
-use Rattle.std.specs.Prelude.{◌≡◌, refl, Bool, true, false, List, ℕ, zero, suc, ◌+◌, ◌≤◌, ◌<◌, length, get_or, set, replicate}
+use Rattle.std.specs.Prelude.{◌≡◌, refl, Bool, true, false, List, ℕ, ◌+◌, ◌≤◌, ◌<◌, length, get_or, set, replicate}
 use Rattle.std.proofs.Common.{sym, ap, ◌∙◌, arith, length-set, get_or-set_same, get_or-set_other, ext_get_or}
 use Rattle.std.proofs.Math.Decide.{ℕ_discrete, dec_lt}
 use Rattle.std.proofs.lemmas.List.{length-replicate, get_or-replicate}
@@ -9,7 +9,6 @@ use Rattle.lists.specs.Ranges.{some-no}
 use Rattle.words.specs.WordLaws.{byte-bit}
 use Rattle.lists.specs.Lists.{bit, listed, some_below}
 use Rattle.lists.specs.TableLaws.{listed-is, listed-length}
-use Rattle.lists.specs.Tests.{or_no}
 use Rattle.engine_rows.specs.Rooms.{Bits}
 
 -- The room l is `room` with f 0, f 1, .., f (n - 1) in its first n places.

@@ -1,5 +1,5 @@
 -- A row's pairs put at the end of the queue, and its marks put back among all marks, as the machine has them. Assumes nothing.
-use Rattle.std.specs.Prelude.{◌≡◌, refl, Bool, true, false, cond, ◌||◌, List, [], ◌∷◌, ◌++◌, map, ℕ, zero, suc, ◌+◌, ◌-◌, ◌*◌, ◌/◌, ◌%◌, ◌≤◌, ◌<◌, length, get_or, set, take, drop, eqb}
+use Rattle.std.specs.Prelude.{◌≡◌, refl, Bool, true, false, cond, ◌||◌, List, [], ◌∷◌, ◌++◌, map, ℕ, zero, suc, ◌+◌, ◌-◌, ◌*◌, ◌≤◌, ◌<◌, length, get_or, set, take, drop, eqb}
 use Rattle.std.proofs.Common.{sym, ap, ◌∙◌, subst, inl, inr, append-nil, append_assoc, add-zero, zero-add, add-one, arith, length-set, length-append, length-drop, take-suc, take-suc-set, length-take-le, drop-drop, get_or-take, get_or-drop, get_or-append-add, ext_get_or}
 use Rattle.std.proofs.Math.Decide.{dec_lt}
 use Rattle.std.proofs.lemmas.List.{length-map, take-set-le}
@@ -16,7 +16,7 @@ use Rattle.systems.specs.lists.RowLaws.{row-marks-long, row-marks-past, row-mark
 use Rattle.rules.specs.declared.Sizes.{Sizes}
 use Rattle.laws.specs.model.ModelLeaners.{map-append}
 use Rattle.words.specs.Words.{waiting_of, variable_in, state_in}
-use Rattle.engine_table.specs.Table.{pair_in, waiter}
+use Rattle.engine_table.specs.Table.{waiter}
 use Rattle.engine_table.specs.EquationWords.{waiter-at}
 use Rattle.engine_rows.specs.Rooms.{Packed}
 use Rattle.engine_rows.specs.RowLoops.{mark_at, Queued}

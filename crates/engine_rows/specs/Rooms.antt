@@ -1,5 +1,5 @@
 -- What the rooms of an update hold, as its steps need it. Definitions only.
-use Rattle.std.specs.Prelude.{◌≡◌, Bool, true, false, not, ◌&&◌, List, map, ℕ, ◌+◌, ◌/◌, ◌%◌, ◌≤◌, ◌<◌, length, get_or, eqb}
+use Rattle.std.specs.Prelude.{◌≡◌, Bool, true, false, ◌&&◌, List, map, ℕ, ◌+◌, ◌≤◌, ◌<◌, length, get_or, eqb}
 use Rattle.lists.specs.Lists.{is}
 use Rattle.systems.specs.machine.Machine.{past}
 use Rattle.systems.specs.moving.MarkTurns.{flip, odd}

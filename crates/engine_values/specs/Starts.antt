@@ -1,14 +1,12 @@
 -- Rooms filled from the front, one place after the other, what then lies in them, and true pairs counted. Assumes nothing.
-use Rattle.std.specs.Prelude.{◌≡◌, refl, Bool, true, false, List, [], ◌∷◌, ◌++◌, ℕ, zero, suc, ◌+◌, ◌-◌, ◌*◌, ◌/◌, ◌≤◌, ◌<◌, min, ℤ, pos, ◌-ℤ◌, length, get_or, set, take, drop, replicate, eqb}
-use Rattle.std.proofs.Common.{sym, ap, ◌∙◌, append_assoc, append-nil, add_assoc, add-mul, one-mul, add-zero, add-suc, suc-add, zero-add, not-suc-le-zero, le_of_suc-le-suc, add-one, arith, length-take, length-drop, take-append-drop, drop_of_length-le, drop-cons, drop-drop, take_at, drop_at}
+use Rattle.std.specs.Prelude.{◌≡◌, refl, List, [], ◌∷◌, ◌++◌, ℕ, zero, suc, ◌+◌, ◌-◌, ◌*◌, ◌/◌, ◌≤◌, ◌<◌, min, ℤ, pos, ◌-ℤ◌, length, get_or, set, take, drop, replicate, eqb}
+use Rattle.std.proofs.Common.{sym, ap, ◌∙◌, append_assoc, append-nil, add_assoc, add-mul, one-mul, add-zero, add-suc, suc-add, zero-add, add-one, arith, length-take, length-drop, drop_of_length-le, drop-cons, drop-drop, take_at, drop_at}
 use Rattle.std.proofs.Math.Decide.{dec_le}
 use Rattle.std.proofs.Math.Arith.{digits_div}
 use Rattle.std.proofs.lemmas.List.{length-replicate, set_at}
 use Rattle.std.proofs.Math.ListN.{get_or-eq_default}
-use mir.Val.{bool_byte}
 use Rattle.lists.specs.Lists.{bit, listed, fill}
-use Rattle.lists.specs.TableLaws.{listed-is, listed-length, listed_same}
-use Rattle.lists.specs.Entries.{zeros-at}
+use Rattle.lists.specs.TableLaws.{listed-length, listed_same}
 use Rattle.systems.specs.machine.Machine.{own}
 use Rattle.rules.specs.Rooms.{pairs_of}
 use Rattle.rules.specs.Calls.{bits, value_at}
@@ -18,7 +16,6 @@ use Rattle.rules.specs.Values.{Values}
 use Rattle.rules.specs.declared.Sizes.{Sizes}
 use Rattle.laws.specs.model.ModelSystem.{frame}
 use Rattle.laws.specs.session.SessionHolds.{fill-length}
-use Rattle.laws.specs.session.Accepted.{filled_at}
 use Rattle.engine_table.specs.Lent.{table_of, Drawn, kind_in, own-kind}
 
 -- A list of numbers, so many longer, and one longer.

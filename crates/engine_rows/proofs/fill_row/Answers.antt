@@ -1,0 +1,22 @@
+use mathlib.Core.Path.{refl, ◌∙◌}
+use native.Mathlib.Omega.{arith}
+use lib.ListN.{length}
+use Rattle.engine_rows.specs.Filled.{filled_none, filled_more, filled-all, listed-replicate}
+use Rattle.engine_rows.proofs.fill_row.Goals as goal
+
+pub loop-s-init : goal.loop-s-init
+loop-s-init c = (omega arith, (refl, filled_none (λ p. c.args.x) c.args.bad.now))
+
+pub loop-s-preserved : goal.loop-s-preserved
+loop-s-preserved c = let a = c.args in
+    let l = c.loop-s in
+    let t = c.loop-s-test.true in
+    let w = filled_more l.s (λ p. a.x) a.bad.now l.bad _ _ (omega arith) l.invariant.1.1 refl refl in
+    (omega arith, (w.long, w))
+
+pub returns : goal.returns
+returns c = let l = c.loop-s in
+    let a = c.args in
+    let t = c.loop-s-test.false in
+    let i = l.invariant.0 in
+    filled-all l.s (λ p. a.x) a.bad.now l.bad (omega arith) l.invariant.1.1 ∙ listed-replicate (length a.bad.now) a.x

@@ -1,0 +1,12 @@
+-- The loop keeps that the places before j are 0 and those from j on are as they were; the places left, n - j, get fewer.
+-- Assumes nothing.
+use mathlib.Core.Path.{◌≡◌}
+use Prim.Native.Nat.{◌-◌, ◌≤◌}
+use Rattle.engine_values.specs.Starts.{filled}
+use Rattle.engine_values.proofs.clear_halves.Given as goal
+
+abbrev pub invariant-loop-j : goal.invariant-loop-j
+invariant-loop-j l = (l.j ≤ l.n) × (l.room ≡ filled l.j (λ p. 0) l.initial.room)
+
+abbrev pub decreases-loop-j : goal.decreases-loop-j
+decreases-loop-j l = l.n - l.j

@@ -1,0 +1,13 @@
+-- The loop keeps that the count so far is that of the pairs before p, which are counted some at a time; past the end of the
+-- room none is true, and the pairs left, end - p, get fewer. Assumes nothing.
+use mathlib.Core.Path.{◌≡◌}
+use Prim.Native.Nat.{◌-◌, ◌≤◌}
+use Rattle.rules.specs.Update.{trues}
+use Rattle.rules.specs.Calls.{value_at}
+use Rattle.engine_values.proofs.count_true.Given as goal
+
+abbrev pub invariant-loop-p : goal.invariant-loop-p
+invariant-loop-p l = (l.p ≤ l.end) × (l.r ≤ l.p) × (l.r ≡ trues l.p (value_at l.values))
+
+abbrev pub decreases-loop-p : goal.decreases-loop-p
+decreases-loop-p l = l.end - l.p
