@@ -1,6 +1,6 @@
 -- What a move says to who looks for one of a part that leads to a pair with a value. The moves of a state with an action are a part, and
 -- its number is 64 times the state, and the action: that of each of its moves, divided by 1,024. Definitions only.
-use Rattle.std.specs.Prelude.{Bool, cond, List, ℕ, ◌-◌, ◌/◌, ◌<◌, length, get_or, eqb, ltb}
+use Rattle.std.specs.Prelude.{Bool, cond, List, ℕ, ◌-◌, ◌<◌, length, get_or, eqb, ltb}
 use Rattle.lists.specs.Lists.{any}
 use Rattle.rules.specs.Moves.{source, action, target}
 use Rattle.rules.specs.declared.Sizes.{Sizes}

@@ -1,5 +1,5 @@
 -- What a row is told from gives what its loops need, and what they leave is what the row must say. Assumes nothing.
-use Rattle.std.specs.Prelude.{◌≡◌, refl, Bool, true, false, not, List, ℕ, suc, ◌+◌, ◌-◌, ◌*◌, ◌%◌, ◌≤◌, ◌<◌, length, get_or, take, drop, replicate, eqb}
+use Rattle.std.specs.Prelude.{◌≡◌, refl, true, false, not, List, ℕ, suc, ◌+◌, ◌-◌, ◌*◌, ◌%◌, ◌≤◌, ◌<◌, length, get_or, take, drop, replicate, eqb}
 use Rattle.std.proofs.Common.{sym, ap, ◌∙◌, mul-le-mul_right, arith, length-drop, length-take-le}
 use Rattle.std.proofs.Math.Decide.{dec_lt}
 use mir.Val.{bool_byte}

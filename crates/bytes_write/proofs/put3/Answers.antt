@@ -5,9 +5,6 @@ use native.Mathlib.Omega.{arith}
 use lib.ListN.{length-set}
 use Rattle.bytes_write.proofs.put3.Goals as goal
 
--- NO GOAL same_length : tie.Need-same-length
--- same_length c = simp length-set at (put2-before-slice-known2 c).put2.auto.0
-
 pub put2-requires : goal.put2-requires
 put2-requires c = simp length-set (omega arith)
 

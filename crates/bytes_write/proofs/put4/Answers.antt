@@ -5,9 +5,6 @@ use native.Mathlib.Omega.{arith}
 use lib.ListN.{length-set}
 use Rattle.bytes_write.proofs.put4.Goals as goal
 
--- NO GOAL same_length : tie.Need-same-length
--- same_length c = simp length-set at (put3-before-slice-known2 c).put3.auto.0
-
 pub put3-requires : goal.put3-requires
 put3-requires c = simp length-set (omega arith)
 

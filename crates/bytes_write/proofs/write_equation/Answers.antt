@@ -6,9 +6,6 @@ use lib.ListN.{length-set}
 use Rattle.rules.specs.Records.{widths}
 use Rattle.bytes_write.proofs.write_equation.Goals as goal
 
--- NO GOAL same_length : tie.Need-same-length
--- same_length c = simp length-set at (put-operator-before-slice-known2 c).put-operator.auto.0
-
 pub put_operator-requires : goal.put_operator-requires
 put_operator-requires c = simp length-set (omega arith)
 

@@ -6,12 +6,6 @@ use Rattle.engine_rows.specs.RowLoops.{bad_at, Queued}
 use Rattle.engine_rows.specs.Queued.{queued-none, queued-more, hits_few}
 use Rattle.engine_rows.proofs.queue_some.Goals as goal
 
--- NO GOAL cast-top : tie.Need-overflow-cast-top invariant-loop decreases-loop
--- cast-top c =
---     let at-loop = at-loop-before-shared-slice-known2 c in
---     let b = (start-before-at-loop at-loop).pre.0 at-loop.loop.s in
---     record { fits = omega (arith, b) }
-
 pub loop-s-init : goal.loop-s-init
 loop-s-init c = let a = c.args in
     let within = c.requires.from_le_end in

@@ -3,11 +3,6 @@ use Rattle.std.proofs.Common.{sym, refl}
 use Rattle.lists.specs.Tests.{cond_yes, cond_no, ltb-in, ltb_no}
 use Rattle.moves.proofs.tested.Goals as goal
 
--- NO GOAL cast-if1 : tie.Need-overflow-cast-if1
--- cast-if1 c =
---     let at-start = c.before.before in
---     omega (arith, c.shared-slice-known.given at-start.args.middle)
-
 pub returns-then-moves-middle : goal.returns-then-moves-middle
 returns-then-moves-middle c = (sym (cond_yes _ _ (ltb-in _ _ c.if-moves-middle.true)), refl)
 
