@@ -3,7 +3,7 @@ use Rattle.std.specs.Prelude.{◌≡◌, refl, Bool, true, false, not, cond, ◌
 use Rattle.std.proofs.Common.{sym, ap, ◌∙◌, add-one, take-suc}
 use Rattle.lists.specs.Lists.{any, all}
 use Rattle.lists.specs.Tests.{and_in, and_is, and_no, or-false}
-use Rattle.rules.specs.Moves.{action, target}
+use Rattle.rules.specs.Moves.{target}
 use Rattle.rules.specs.Model.{move_ok, moves_ok}
 use Rattle.rules.specs.Batch.{changes_ok, inserts, deletes}
 use Rattle.rules.specs.Values.{own, targets}

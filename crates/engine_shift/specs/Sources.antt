@@ -1,10 +1,10 @@
 -- A walk along the chain of an action and a target adds the sources of its moves. Assumes nothing.
-use Rattle.std.specs.Prelude.{◌≡◌, refl, Bool, true, false, ◌&&◌, ◌||◌, List, ℕ, suc, ◌+◌, ◌*◌, ◌≤◌, ◌<◌, length, get_or, set, take, eqb}
-use Rattle.std.proofs.Common.{sym, ap, ◌∙◌, subst, zero-add, mul-le-mul_right, add-one, take_all}
+use Rattle.std.specs.Prelude.{◌≡◌, refl, Bool, true, false, ◌&&◌, ◌||◌, List, ℕ, suc, ◌+◌, ◌≤◌, ◌<◌, length, get_or, set, take, eqb}
+use Rattle.std.proofs.Common.{sym, ap, ◌∙◌, subst, zero-add, add-one, take_all}
 use native.Mathlib.Omega.{arith}
-use Rattle.lists.specs.Lists.{any, all}
+use Rattle.lists.specs.Lists.{any}
 use Rattle.lists.specs.Tests.{tests, eqb-in, eqb_no, or-false}
-use Rattle.rules.specs.Moves.{source, action, target}
+use Rattle.rules.specs.Moves.{source}
 use Rattle.rules.specs.Model.{move_ok}
 use Rattle.rules.specs.declared.Sizes.{Sizes}
 use Rattle.engine_table.specs.Limits.{move-at}

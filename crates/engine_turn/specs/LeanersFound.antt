@@ -18,7 +18,7 @@ use Rattle.rules.specs.declared.Equation.{Equation}
 use Rattle.rules.specs.Values.{pair, state, variable, terms, term_of, constant}
 use Rattle.rules.specs.declared.Sizes.{Sizes}
 use Rattle.laws.specs.model.ModelLeaners.{sources, leaners_via, leaners_on, leaners_to, leaners_of, map-append}
-use Rattle.words.specs.Words.{waiting_of, variable_in, state_in}
+use Rattle.words.specs.Words.{waiting_of}
 use Rattle.engine_table.specs.Table.{Table, model_of, Drawn, word_at, pair_in, waiter}
 use Rattle.engine_table.specs.EquationWords.{formula-word, variable-of, state-of, waiter-at}
 use Rattle.engine_table.specs.Limits.{limits, move-inside}

@@ -1,14 +1,13 @@
 -- What the word of an operand holds. Assumes nothing.
-use Rattle.std.specs.Prelude.{◌≡◌, Bool, not, cond, ◌&&◌, List, [], ◌∷◌, ℕ, zero, suc, ◌+◌, ◌*◌, ◌/◌, ◌%◌, ◌-◌, ◌≤◌, ◌<◌, length, get_or, eqb, ltb}
+use Rattle.std.specs.Prelude.{◌≡◌, Bool, not, cond, ◌&&◌, List, [], ◌∷◌, ℕ, zero, suc, ◌+◌, ◌*◌, ◌/◌, ◌≤◌, ◌<◌, length, get_or, eqb, ltb}
 use Rattle.std.proofs.Math.Path.{refl, ap, subst}
-use Rattle.std.proofs.Common.{sym, ◌∙◌, mul-le-mul, arith}
+use Rattle.std.proofs.Common.{sym, ◌∙◌, arith}
 use Rattle.std.proofs.Math.Bool.{true, false}
 use Rattle.std.proofs.Math.Decide.{ℕ_discrete}
 use Rattle.lists.specs.Lists.{bit}
 use Rattle.lists.specs.Tests.{not-not, ltb_no, eqb-out, eqb_no}
 use Rattle.rules.specs.Limits.{most_variables}
 use Rattle.rules.specs.declared.Equation.{Equation}
-use Rattle.rules.specs.declared.Sizes.{Sizes}
 use Rattle.words.specs.Words.{waiting_of}
 use Rattle.engine_table.specs.Table.{ReadsAs}
 use Rattle.engine_table.specs.Limits.{limits}

@@ -1,6 +1,6 @@
 -- What a turn works on, and its steps as code makes them: a pair that is visited waits where its mark leaves it free and it must turn
 -- too. Labels play no part in it. Pairs stand as numbers of the queue: 1,024 times the variable, and the state. Definitions only.
-use Rattle.std.specs.Prelude.{◌≡◌, Bool, true, not, cond, ◌&&◌, List, [], ◌∷◌, ◌++◌, ℕ, zero, suc, ◌+◌, ◌*◌, ◌/◌, ◌%◌, ◌≤◌, ◌<◌, length, get_or, set, eqb, ltb}
+use Rattle.std.specs.Prelude.{◌≡◌, Bool, true, not, cond, ◌&&◌, List, [], ◌∷◌, ◌++◌, ℕ, zero, suc, ◌+◌, ◌*◌, ◌/◌, ◌≤◌, ◌<◌, length, get_or, set, eqb, ltb}
 use Rattle.lists.specs.Lists.{any}
 use Rattle.systems.specs.machine.Machine.{free, next_mark}
 use Rattle.rules.specs.Moves.{source, action, target}

@@ -1,5 +1,5 @@
 -- What a turn visits, as the machine says it: pairs that are visited wait if they must turn too. Definitions only.
-use Rattle.std.specs.Prelude.{◌≡◌, Bool, not, cond, List, ℕ, suc, ◌+◌, ◌/◌, ◌≤◌, length, get_or, set}
+use Rattle.std.specs.Prelude.{◌≡◌, Bool, not, cond, List, ℕ, suc, ◌+◌, ◌≤◌, length, get_or, set}
 use Rattle.systems.specs.machine.Machine.{free, next_mark, asks}
 use Rattle.systems.specs.lists.ListMachine.{Pile, spread_l, turned}
 use Rattle.rules.specs.Model.{Model}
