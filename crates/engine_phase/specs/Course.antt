@@ -12,18 +12,18 @@ use Rattle.std.proofs.Math.ListN.{length}
 use Rattle.lists.specs.Tests.{tell, ltb-in, ltb-out, ltb_no, cond_yes, cond_no}
 use Rattle.systems.specs.solution.System.{Frame}
 use Rattle.systems.specs.machine.Machine.{free, next_mark, asks}
-use Rattle.systems.specs.lists.ListMachine.{val_of, marks_in, between, Pile, Job, Place, pair_from, seek, phases, moved, emptied, turned, spread_l, turn_l, seek_l, first_l}
+use Rattle.systems.specs.lists.ListMachine.{val_of, marks_in, between, Pile, Job, pair_from, seek, phases, moved, emptied, turned, spread_l, turn_l, seek_l, first_l}
 use Rattle.systems.specs.lists.ListCourse.{Underway, Turning}
 use Rattle.systems.specs.lists.ListKeeps.{way-old, way-still, way-free, way-room}
 use Rattle.systems.specs.lists.ListsMove.{way-start}
 use Rattle.systems.specs.lists.Midst.{way-odd}
 use Rattle.systems.specs.moving.MarkTurns.{flip, odd}
 use Rattle.systems.specs.lists.Places.{seek-stays, onward, next_phase}
-use Rattle.systems.specs.lists.Rows.{hits, row_marks, row_pile, look_row}
+use Rattle.systems.specs.lists.Rows.{hits, row_marks, look_row}
 use Rattle.systems.specs.lists.RowLaws.{row-marks, row_kept, row-tail, row-queue}
 use Rattle.systems.specs.lists.Loops.{loop-skip, loop-over, loop-end, loop-queue, loop-turn, loop-row}
 use Rattle.systems.specs.slices.Slices.{refilled}
-use Rattle.rules.specs.Model.{Model, blocks_of}
+use Rattle.rules.specs.Model.{blocks_of}
 use Rattle.rules.specs.Rooms.{pairs_of}
 use Rattle.rules.specs.Batch.{Change}
 use Rattle.rules.specs.Values.{block_of, leanings}
@@ -33,7 +33,7 @@ use Rattle.laws.specs.model.LookTest.{look_test}
 use Rattle.laws.specs.model.MachineRules.{Answers}
 use Rattle.rules.specs.Update.{turn_all}
 use Rattle.rules.specs.Calls.{value_at}
-use Rattle.engine_table.specs.Table.{Table, model_of, Drawn, word_at, pair_in}
+use Rattle.engine_table.specs.Table.{Table, model_of, Drawn, word_at}
 use Rattle.engine_table.specs.EquationWords.{block-word, pair_inside}
 use Rattle.engine_table.specs.Limits.{limits, pairs-few}
 use Rattle.engine_rows.specs.Rooms.{Bits, Told}

@@ -1,13 +1,12 @@
 -- A look at the row of a variable, put together from what its steps tell and leave. Assumes nothing.
-use Rattle.std.specs.Prelude.{◌≡◌, refl, Bool, true, false, not, List, map, ℕ, zero, suc, ◌+◌, ◌-◌, ◌*◌, ◌≤◌, ◌<◌, length, get_or}
+use Rattle.std.specs.Prelude.{◌≡◌, refl, Bool, true, false, not, List, ℕ, zero, suc, ◌+◌, ◌-◌, ◌*◌, ◌≤◌, ◌<◌, length, get_or}
 use Rattle.std.proofs.Math.Path.{sym, ap₂, subst}
 use Rattle.std.proofs.Common.{ap, ◌∙◌}
 use Rattle.std.proofs.Math.Bool.{◌&&◌}
 use native.Mathlib.Omega.{arith}
-use Rattle.std.proofs.lemmas.List.{length-map}
 use Rattle.std.proofs.Math.Dec.{eqb}
 use Rattle.lists.specs.Tests.{is-bit}
-use Rattle.lists.specs.Lists.{bit, is}
+use Rattle.lists.specs.Lists.{bit}
 use Rattle.systems.specs.machine.Machine.{asks}
 use Rattle.systems.specs.lists.ListMachine.{val_of, marks_in, Job}
 use Rattle.systems.specs.lists.Rows.{hits}
@@ -20,7 +19,7 @@ use Rattle.laws.specs.model.ModelSystem.{frame}
 use Rattle.laws.specs.model.LookTest.{look_test}
 use Rattle.engine_table.specs.Table.{Table, model_of, Drawn, word_at, own_in, pair_in}
 use Rattle.engine_rows.specs.Rooms.{Bits, Packed, Tells, Told}
-use Rattle.engine_phase.specs.Course.{On, on-vals, on-bits, on-marks, on-small, on-told, on-hits}
+use Rattle.engine_phase.specs.Course.{on-vals, on-bits, on-marks, on-small, on-told, on-hits}
 use Rattle.engine_phase.specs.Phase.{Somewhere, Leads, job_in, RowLeft, row-none, leads-row}
 use Rattle.engine_phase.specs.PutRow.{turns_from, turns_in, hits-same, row_same}
 

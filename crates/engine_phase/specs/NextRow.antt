@@ -1,6 +1,6 @@
 -- The next variable of a block: the rows before it are passed by. Assumes nothing.
-use Rattle.std.specs.Prelude.{◌≡◌, refl, Bool, List, ℕ, zero, suc, ◌+◌, ◌-◌, ◌*◌, ◌≤◌, ◌<◌, length, get_or}
-use Rattle.std.proofs.Common.{sym, ap, ◌∙◌, subst, inl, inr, eq-or-lt_of_le, arith}
+use Rattle.std.specs.Prelude.{◌≡◌, Bool, List, ℕ, zero, suc, ◌+◌, ◌-◌, ◌*◌, ◌≤◌, ◌<◌, length, get_or}
+use Rattle.std.proofs.Common.{subst, inl, inr, eq-or-lt_of_le, arith}
 use Rattle.rules.specs.Model.{blocks_of}
 use Rattle.rules.specs.Batch.{Change}
 use Rattle.rules.specs.Session.{unword}

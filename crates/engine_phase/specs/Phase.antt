@@ -1,9 +1,9 @@
 -- What the steps of a phase leave, as code has it: the lists that rooms and numbers stand for, and what leads from lists on a
 -- course to lists on it. Assumes nothing.
-use Rattle.std.specs.Prelude.{◌≡◌, refl, Bool, true, false, not, cond, List, [], ◌∷◌, ◌++◌, map, get_or, set, ltb}
-use Rattle.std.proofs.Common.{sym, ap, ◌∙◌, inl, inr, append-nil, add-zero, arith}
+use Rattle.std.specs.Prelude.{◌≡◌, refl, Bool, true, false, not, cond, List, [], ◌++◌, map, get_or, set, ltb}
+use Rattle.std.proofs.Common.{sym, ap, ◌∙◌, inl, inr, append-nil, arith}
 use Rattle.std.proofs.Math.Path.{subst}
-use Prim.Native.Nat.{ℕ, zero, suc, ◌+◌, ◌*◌, ◌/◌, ◌%◌, ◌≤◌, ◌<◌}
+use Prim.Native.Nat.{ℕ, zero, suc, ◌+◌, ◌*◌, ◌≤◌, ◌<◌}
 use Rattle.std.proofs.Math.ListN.{length, get_or-map}
 use Rattle.std.proofs.lemmas.List.{length-map, set-get_or}
 use Rattle.lists.specs.Lists.{bit}

@@ -1,17 +1,16 @@
 -- Which pairs of a row turn, by their values and by `bad`; and what rows leave where two tests agree. Assumes nothing.
 use Rattle.std.specs.Prelude.{◌≡◌, refl, Bool, true, false, not, cond, ◌&&◌, ℕ, zero, suc, ◌+◌, ◌-◌, ◌*◌, ◌≤◌, ◌<◌, length, get_or, set, take, drop}
-use Rattle.std.proofs.Common.{sym, ap₂, ◌∙◌, subst, zero-add, length-take-le}
+use Rattle.std.proofs.Common.{sym, ap₂, ◌∙◌, subst, zero-add}
 use Rattle.std.proofs.Math.Path.{ap}
 use mathlib.Core.List.{List, [], ◌∷◌, ◌++◌, map}
 use native.Mathlib.Omega.{arith}
 use Rattle.std.proofs.lemmas.List.{length-map}
 use Rattle.std.proofs.Math.Dec.{eqb}
-use Rattle.lists.specs.Lists.{is, bit, listed}
+use Rattle.lists.specs.Lists.{bit, listed}
 use Rattle.lists.specs.TableLaws.{listed-is, listed-length, bit-back}
 use Rattle.systems.specs.machine.Machine.{next_mark}
 use Rattle.systems.specs.lists.ListMachine.{between}
 use Rattle.systems.specs.lists.Rows.{hits, row_marks}
-use Rattle.rules.specs.Calls.{value_at}
 use Rattle.rules.specs.declared.Sizes.{Sizes}
 use Rattle.laws.specs.model.ModelLeaners.{map-append}
 use Rattle.words.specs.Words.{waiting_of}

@@ -1,6 +1,6 @@
 -- The update that changes start, from values in a list: the machine's words for it, what its test says, and its end.
 -- Assumes nothing.
-use Rattle.std.specs.Prelude.{◌≡◌, List, ℕ, ◌+◌, ◌*◌, ◌≤◌, ◌<◌, length, get_or}
+use Rattle.std.specs.Prelude.{◌≡◌, List, ℕ, ◌*◌, ◌≤◌, length, get_or}
 use Rattle.std.proofs.Common.{sym, ap}
 use Rattle.std.proofs.Math.Path.{subst}
 use native.Mathlib.Omega.{arith}
@@ -9,7 +9,7 @@ use Rattle.systems.specs.solution.System.{Fits}
 use Rattle.systems.specs.moving.Marks.{shift_of, settle_of}
 use Rattle.systems.specs.machine.Machine.{Finds}
 use Rattle.systems.specs.machine.Phases.{Update}
-use Rattle.systems.specs.machine.MachineMoves.{unit_count, unit-count}
+use Rattle.systems.specs.machine.MachineMoves.{unit-count}
 use Rattle.systems.specs.lists.ListMachine.{val_of, Job, Agrees}
 use Rattle.systems.specs.lists.ListCourse.{Underway}
 use Rattle.systems.specs.lists.ListsMove.{MovesL, way-most, way-moves}
