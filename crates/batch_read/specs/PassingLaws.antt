@@ -53,9 +53,9 @@ module _ (z : Sizes) (s : List ℕ) (p : ℕ) where
       ]
 
   -- All of them.
-  changes-onward : (t : List ℕ) (x y : ChangeRun) (had room : List ℕ) → Onward z s t p x.count x.at had → ChangesPut s z x had y room → Onward z s t p y.count y.at room
-  changes-onward t x y had room g none = g
-  changes-onward t x y had room g (more w mid h c) = follows_on z s t p w.count 0 w.at mid (turn_at w) (changes-onward t x w had mid g h) (change-turned w c)
+  changes-onward : (t : List ℕ) (x : ChangeRun) (had : List ℕ) (y : ChangeRun) (room : List ℕ) → Onward z s t p x.count x.at had → ChangesPut s z x had y room → Onward z s t p y.count y.at room
+  changes-onward t x had y room g none = g
+  changes-onward t x had y room g (more w mid h c) = follows_on z s t p w.count 0 w.at mid (turn_at w) (changes-onward t x had w mid g h) (change-turned w c)
 
 -- A turn that goes on stands inside the bytes.
 pub going-within : (z : Sizes) (s t : List ℕ) (x : ChangeTurn) (room : List ℕ) → Going z s t x room → Within s x
@@ -65,4 +65,4 @@ going-within z s t (T.Go p n c k) room g = g.inside
 -- A turn moved on keeps the whole batch's answer and its changes.
 pub going-forward : (z : Sizes) (s t : List ℕ) (x u : ChangeTurn) (had room : List ℕ) → Going z s t x had → Forwarded z s x had u room → Going z s t u room
 going-forward z s t (T.Stop a) u had room g f = rw (f.0, f.1) g
-going-forward z s t (T.Go p n c k) u had room g f = rw f.1 (changes-onward z s p t (record { count = n; at = k }) f.0 had room g f.2)
+going-forward z s t (T.Go p n c k) u had room g f = rw f.1 (changes-onward z s p t (record { count = n; at = k }) had f.0 room g f.2)

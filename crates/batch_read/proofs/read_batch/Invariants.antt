@@ -1,0 +1,11 @@
+-- The reader keeps the bytes. From turn to turn the batch keeps its answer and its changes, and each turn is nearer to the end.
+-- Assumes nothing.
+use Rattle.std.proofs.Common.{◌≡◌}
+use Rattle.batch_read.specs.Going.{Going, left}
+use Rattle.batch_read.proofs.read_batch.Given as goal
+
+abbrev pub invariant-loop-r : goal.invariant-loop-r
+invariant-loop-r l = (l.r.bytes.now ≡ l.bytes) × Going l.z l.bytes l.fn.changes l.t l.changes
+
+abbrev pub decreases-loop-r : goal.decreases-loop-r
+decreases-loop-r l = left l.bytes l.t
