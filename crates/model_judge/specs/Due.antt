@@ -8,7 +8,6 @@ use Rattle.rules.specs.Records.{no, numbers_of, Rec, field}
 use Rattle.rules.specs.Rooms.{Lengths}
 use Rattle.rules.specs.declared.Record.{Record}
 use Rattle.rules.specs.declared.Sizes.{Sizes}
-use Rattle.rules.specs.declared.Record.TheVariants as R
 use Rattle.model_judge.specs.Demands.{fails}
 use Rattle.model_judge.specs.Plain.{plain}
 use Rattle.model_judge.specs.Progress.{sofar_of, Kept, KeptIn, LabelsDue, BlockDue, MovesDue}

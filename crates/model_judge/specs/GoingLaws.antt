@@ -217,20 +217,20 @@ module _ (l : Lengths) (s : List ℕ) (x : Progress) (n : ℕ) (q : Record) (y :
     other-going f = rw (other-asks f) at asked-going
 
 -- Records passed in one go keep the answer, and bring it no further from the end.
-passed-going : (l : Lengths) (s : List ℕ) (x y : Progress) (n k : ℕ) → Onward l s x n → Passed l s x n y k → Onward l s y k
-passed-going l s x y n k g here = g
-passed-going l s x y n k g (on z w i j r p f t) = other-going l s z i r w j t (passed-going l s x z n i g p) f
+passed-going : (l : Lengths) (s : List ℕ) (x : Progress) (n : ℕ) (y : Progress) (k : ℕ) → Onward l s x n → Passed l s x n y k → Onward l s y k
+passed-going l s x n y k g here = g
+passed-going l s x n y k g (on z w i j r p f t) = other-going l s z i r w j t (passed-going l s x n z i g p) f
 
-passed-nearer : (l : Lengths) (s : List ℕ) (x y : Progress) (n k : ℕ) → n ≤ length s → Passed l s x n y k → (n ≤ k) × (k ≤ length s)
-passed-nearer l s x y n k h here = (omega arith, h)
-passed-nearer l s x y n k h (on z w i j r p f t) = let b = passed-nearer l s x z n i h p in let o = t.on in (omega arith, t.inside_bytes)
+passed-nearer : (l : Lengths) (s : List ℕ) (x : Progress) (n : ℕ) (y : Progress) (k : ℕ) → n ≤ length s → Passed l s x n y k → (n ≤ k) × (k ≤ length s)
+passed-nearer l s x n y k h here = (omega arith, h)
+passed-nearer l s x n y k h (on z w i j r p f t) = let b = passed-nearer l s x n z i h p in let o = t.on in (omega arith, t.inside_bytes)
 
 forwarded-going : (l : Lengths) (s : List ℕ) (t u : OneTurn) (m : ℕ) → Going l s t → left s t < m → Forwarded l s t u → Going l s u × (left s u < m)
 forwarded-going l s (T.Stop a) u m g h f = rw f (g, h)
 forwarded-going l s (T.Go r x n) u m g h f =
     let p = f.3 in
-    let b = passed-nearer l s x f.0 n f.1 g.here.inside_bytes p in
-    rw f.2 (passed-going l s x f.0 n f.1 g p, omega arith)
+    let b = passed-nearer l s x n f.0 f.1 g.here.inside_bytes p in
+    rw f.2 (passed-going l s x n f.0 f.1 g p, omega arith)
 
 -- A turn that follows one that goes on.
 follows_on : (l : Lengths) (s : List ℕ) (x : Progress) (n : ℕ) (u : OneTurn) → Onward l s x n → Turned l s (inside (sofar_of x)) n u → Going l s (asked_turn s u)

@@ -4,7 +4,6 @@ use Rattle.std.proofs.Common.{sym, ap, ◌∙◌, arith}
 use Rattle.lists.specs.Tests.{and_in, leb-is, ltb-is}
 use Rattle.rules.specs.Limits.{most_moves}
 use Rattle.rules.specs.Load.{State, inside, label_demands, equation_demands, move_demands, moving_with, after_label, after_equation, after_move}
-use Rattle.rules.specs.Moves.{source}
 use Rattle.rules.specs.Records.{Turn, next, numbers_of, widths}
 use Rattle.rules.specs.Rooms.{Lengths}
 use Rattle.rules.specs.declared.Record.{Record}
@@ -160,10 +159,10 @@ moves-passed l s x n y k due (Run.more z h g) =
     (w.kept, on (with_moves x z) (with_moves x (with_move s z)) z.at (z.at + 6) (R.Move (move_at s (z.at + 1))) p.1 (λ e. omega arith) w)
 
 -- Records passed after others are passed with them.
-passed-more : (l : Lengths) (s : List ℕ) (x y z : Progress) (n k j : ℕ) → Passed l s x n y k → Passed l s y k z j → Passed l s x n z j
-passed-more l s x y z n k j p here = p
-passed-more l s x y z n k j p (on v w i m r q f g) = on v w i m r (passed-more l s x y v n k i p q) f g
+passed-more : (l : Lengths) (s : List ℕ) (x y : Progress) (n k : ℕ) (z : Progress) (j : ℕ) → Passed l s x n y k → Passed l s y k z j → Passed l s x n z j
+passed-more l s x y n k z j p here = p
+passed-more l s x y n k z j p (on v w i m r q f g) = on v w i m r (passed-more l s x y n k v i p q) f g
 
 -- A turn moved on from where records were passed is moved on past both.
 pub forwarded-more : (l : Lengths) (s : List ℕ) (r : Record) (x y : Progress) (n k : ℕ) (u : OneTurn) → Passed l s x n y k → Forwarded l s (T.Go r y k) u → Forwarded l s (T.Go r x n) u
-forwarded-more l s r x y n k u p f = (f.0, f.1, f.2, passed-more l s x y f.0 n k f.1 p f.3)
+forwarded-more l s r x y n k u p f = (f.0, f.1, f.2, passed-more l s x y n k f.0 f.1 p f.3)

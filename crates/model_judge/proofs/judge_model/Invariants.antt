@@ -1,0 +1,11 @@
+-- The reader keeps the bytes. From turn to turn the model keeps its answer, and each turn is nearer to the end. Assumes nothing.
+use Rattle.std.proofs.Common.{◌≡◌}
+use Rattle.limits.specs.Lent.{lengths_by}
+use Rattle.model_judge.specs.Going.{Going, left}
+use Rattle.model_judge.proofs.judge_model.Given as goal
+
+abbrev pub invariant-loop-r : goal.invariant-loop-r
+invariant-loop-r l = (l.r.bytes.now ≡ l.bytes) × Going (lengths_by l.l) l.bytes l.t
+
+abbrev pub decreases-loop-r : goal.decreases-loop-r
+decreases-loop-r l = left l.bytes l.t
