@@ -2,15 +2,14 @@
 use Rattle.std.specs.Prelude.{◌≡◌, Bool, List, ℕ, length}
 use Rattle.std.proofs.Math.Path.{sym}
 use Rattle.std.proofs.Common.{ap, ◌∙◌}
-use Rattle.rules.specs.Records.{Outcome, refused}
+use Rattle.rules.specs.Records.{refused}
 use Rattle.rules.specs.Rooms.{Rooms, rooms_of, lengths_of, rooms_ok, work_ok, lent_ok}
 use Rattle.rules.specs.Batch.{read_batch, judge}
 use Rattle.rules.specs.Session.{held, counts_ok, rest_ok}
-use Rattle.rules.specs.Calls.{Left, and_then, judged, batch_by, batch, leaves}
+use Rattle.rules.specs.Calls.{and_then, judged, batch_by, batch, leaves}
 use Rattle.rules.specs.Answers.{number_of}
 use Rattle.rules.specs.declared.Refusal.{Refusal}
 use Rattle.rules.specs.declared.Session.{Session}
-use Rattle.rules.specs.declared.Report.{Report}
 use Rattle.session_judge.specs.Checks.{check_of, checked_says, checked-stops, checked-goes}
 use Rattle.session_judge.specs.declared.Checked.{Checked}
 use Rattle.session_judge.specs.declared.Checked.TheVariants as Found
