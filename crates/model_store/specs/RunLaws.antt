@@ -14,9 +14,8 @@ use Rattle.rules.specs.Load.{Sofar, State, inside, moves_due, put, last, after_m
 use Rattle.rules.specs.Model.{Model, move_ok}
 use Rattle.rules.specs.Moves.{wrap}
 use Rattle.words.specs.Words.{pack_of}
-use Rattle.rules.specs.Records.{Turn, next, accepted, on_turn, at_end, run, numbers_of, widths}
+use Rattle.rules.specs.Records.{Turn, accepted, on_turn, at_end, run, numbers_of, widths}
 use Rattle.rules.specs.Rooms.{Lengths}
-use Rattle.rules.specs.declared.Move.{Move}
 use Rattle.rules.specs.declared.Record.{Record}
 use Rattle.rules.specs.declared.Record.TheVariants as R
 use Rattle.rules.specs.declared.Sizes.{Sizes}

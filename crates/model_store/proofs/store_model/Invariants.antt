@@ -1,0 +1,13 @@
+-- The reader keeps the bytes. From turn to turn the rooms hold what has been read, and storing the rest gives the whole; each turn
+-- is nearer to the end. Assumes nothing.
+use Rattle.std.proofs.Common.{◌≡◌}
+use Rattle.limits.specs.Lent.{lengths_by}
+use Rattle.model_judge.specs.Going.{left}
+use Rattle.model_store.specs.Stored.{Storing, three}
+use Rattle.model_store.proofs.store_model.Given as goal
+
+abbrev pub invariant-loop-r : goal.invariant-loop-r
+invariant-loop-r l = (l.r.bytes.now ≡ l.bytes) × Storing (lengths_by l.l) l.bytes (three l.fn.labels l.fn.equations l.fn.moves) l.t (three l.labels l.equations l.moves)
+
+abbrev pub decreases-loop-r : goal.decreases-loop-r
+decreases-loop-r l = left l.bytes l.t
