@@ -14,10 +14,9 @@ use Rattle.rules.specs.Moves.{stamp_of}
 use Rattle.rules.specs.Load.{read_model}
 use Rattle.rules.specs.Values.{solve}
 use Rattle.rules.specs.Session.{session_of}
-use Rattle.rules.specs.Calls.{Left, bits, load_by, load, leaves}
+use Rattle.rules.specs.Calls.{bits, load_by, load, leaves}
 use Rattle.rules.specs.Answers.{number_of}
 use Rattle.rules.specs.declared.Refusal.{Refusal}
-use Rattle.rules.specs.declared.Session.{Session}
 use Rattle.rules.specs.declared.Sizes.{Sizes}
 use Rattle.laws.specs.bytes.RecordLaws.{AreBytes, never}
 use Rattle.laws.specs.bytes.ReadSpells.{read-spelling}

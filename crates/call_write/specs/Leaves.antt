@@ -1,5 +1,5 @@
 -- The writing of a session that was found good, in the words of the writer's functions. Assumes nothing.
-use Rattle.std.specs.Prelude.{◌≡◌, true, List, ◌++◌, ℕ, ◌+◌, ◌≤◌, ◌<◌, length, take, drop}
+use Rattle.std.specs.Prelude.{◌≡◌, true, List, ◌++◌, ℕ, ◌≤◌, ◌<◌, length, take, drop}
 use Rattle.std.proofs.Common.{sym, ap, ◌∙◌, append-nil, arith, length-take-le}
 use Rattle.std.proofs.Math.Seq.{drop-length}
 use Rattle.lists.specs.Lists.{fill}

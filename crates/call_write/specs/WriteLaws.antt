@@ -6,11 +6,11 @@ use Rattle.std.proofs.Math.Bool.{true}
 use Rattle.std.proofs.Math.ListN.{length}
 use Rattle.lists.specs.Lists.{fill}
 use Rattle.lists.specs.Tests.{leb-is, leb_no, cond_yes, cond_no}
-use Rattle.rules.specs.Records.{Outcome, refused, accepted}
+use Rattle.rules.specs.Records.{refused, accepted}
 use Rattle.rules.specs.Rooms.{Rooms}
 use Rattle.rules.specs.Spelling.{encode}
 use Rattle.rules.specs.Session.{held}
-use Rattle.rules.specs.Calls.{Left, write_by, writable, write, leaves}
+use Rattle.rules.specs.Calls.{write_by, writable, write, leaves}
 use Rattle.rules.specs.Answers.{number_of}
 use Rattle.rules.specs.declared.Refusal.{Refusal}
 use Rattle.rules.specs.declared.Session.{Session}
