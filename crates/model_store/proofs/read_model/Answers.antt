@@ -11,10 +11,10 @@ returns-in_default c = let a = c.args in
 
 pub put_components-requires : goal.put_components-requires
 put_components-requires c = let a = c.args in
-    let f = read_fits a.bytes.now _ (three a.labels.now a.equations.now a.moves.now) _ _ _ _ (are-bytes a.bytes.now (λ i. omega (arith, c.shared_slice_known-1.given i))) c.requires c.in-Good.is c.judge_model-answer.ensures in
+    let f = read_fits a.bytes.now _ (three a.labels.now a.equations.now a.moves.now) _ _ _ _ (are-bytes a.bytes.now (λ i. omega (arith, c.type_inv.bytes i))) c.requires c.in-Good.is c.judge_model-answer.ensures in
     let r = f.room in
     (f.few, omega arith)
 
 pub returns : goal.returns
 returns c = let a = c.args in
-    read-good a.bytes.now _ (three a.labels.now a.equations.now a.moves.now) _ _ _ _ _ _ (are-bytes a.bytes.now (λ i. omega (arith, c.shared_slice_known-1.given i))) c.requires c.in-Good.is c.judge_model-answer.ensures c.store_model.ensures c.put_components.ensures
+    read-good a.bytes.now _ (three a.labels.now a.equations.now a.moves.now) _ _ _ _ _ _ (are-bytes a.bytes.now (λ i. omega (arith, c.type_inv.bytes i))) c.requires c.in-Good.is c.judge_model-answer.ensures c.store_model.ensures c.put_components.ensures
