@@ -1,6 +1,5 @@
 // The record that stands at a place of the bytes, as an enum. The bytes are read through a reader that holds them and its
-// place. The borrow checker covers no function over such a struct, so `reader_at` and `next`, and whoever keeps a reader, are
-// proved by hand; the work is left to `record_at`, which takes a plain slice and a place and is covered.
+// place; the work is left to `record_at`, which takes a plain slice and a place.
 #![tactic(auto)]
 
 ghost use Rattle.std.specs.Prelude.{◌≡◌, ◌+◌, ◌≤◌, ◌<◌, length};

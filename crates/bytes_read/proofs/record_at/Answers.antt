@@ -18,18 +18,18 @@ returns-then-n-gt254 c = simp (lt-ltb _ _ c.if-bytes-at.false, lt-leb _ _ (rw c.
 pub returns-then-bytes-b : goal.returns-then-bytes-b
 unfolding record_at
 returns-then-bytes-b c = simp (
-      lt-ltb _ _ c.if-bytes-at.false,
-      le-leb _ _ (rw c.body_len-n.ensures at c.if-n-gt254.false),
-      lt-leb _ _ (rw c.body_len-n.ensures at c.if-bytes-b.true),
-    )
+  lt-ltb _ _ c.if-bytes-at.false,
+  le-leb _ _ (rw c.body_len-n.ensures at c.if-n-gt254.false),
+  lt-leb _ _ (rw c.body_len-n.ensures at c.if-bytes-b.true),
+)
 
 pub returns : goal.returns
 unfolding record_at
 returns c = simp (
-      lt-ltb _ _ c.if-bytes-at.false,
-      le-leb _ _ (rw c.body_len-n.ensures at c.if-n-gt254.false),
-      le-leb _ _ (rw c.body_len-n.ensures at c.if-bytes-b.false),
-    )
+  lt-ltb _ _ c.if-bytes-at.false,
+  le-leb _ _ (rw c.body_len-n.ensures at c.if-n-gt254.false),
+  le-leb _ _ (rw c.body_len-n.ensures at c.if-bytes-b.false),
+)
     (
     let s = c.args in
     ap₂ (λ (r : Record) (n : ℕ). Got r n) c.body_at.ensures (ap (λ (n : ℕ). s.at + 1 + n) c.body_len-n.ensures))

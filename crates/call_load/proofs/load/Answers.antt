@@ -26,7 +26,7 @@ load_values-requires c = let a = c.args in
     }
 
 pub slice_bounds-stamp_of-end : goal.slice_bounds-stamp_of-end
-slice_bounds-stamp_of-end c = 
+slice_bounds-stamp_of-end c =
     let a = c.args in
     let rooms = rooms_with a.labels.now a.equations.now a.values.now a.marks.now a.moves.now a.index.now a.queue.now in
     (found rooms _ (model-bytes (goal.at.slice_bounds-stamp_of-end c).After-read_model-found) _ _ c.read_model-found.ensures c.in-Good.sizes c.in-Good.live c.in-Good.count c.in-Good.is).drawn.long_moves

@@ -58,9 +58,9 @@ index_and_turn-requires c = let a = c.args in
       drawn = drawn-cut a.sizes a.labels.now a.equations.now a.moves.now a.n d;
       changes_value = c.requires.changes_value;
       started = (
-            subst (λ (q : ℕ). Started m cs (take q a.values.now)) (sym is-pairs) c.requires.started,
-            cleared-part c.pairs_of-p.result a.marks.now _ c.clear.ensures ∙ ap (λ (q : ℕ). replicate q 0) is-pairs,
-          );
+        subst (λ (q : ℕ). Started m cs (take q a.values.now)) (sym is-pairs) c.requires.started,
+        cleared-part c.pairs_of-p.result a.marks.now _ c.clear.ensures ∙ ap (λ (q : ℕ). replicate q 0) is-pairs,
+      );
       moves_in_bounds = ((omega (arith, c.requires.n_in_bounds.0.0), c.requires.n_in_bounds.0.1), c.requires.n_in_bounds.1);
     }
 

@@ -48,7 +48,7 @@ phase-settled-requires c = let l = c.loop-i in
       block_bound = (omega arith, (c.phase-shifted.auto.bad ∙ inv.0.1.1.1.1 ∙ c.requires.bad_len.0, omega (arith, c.phase-shifted.auto.queue, inv.0.1.1.1.0, c.requires.bad_len.1)));
       somewhere = record { start = c.args.values.now; index = c.phase-shifted.result.visits; on = c.phase-shifted.ensures.0 c.args.values.now l.settles inv.1.0 };
       level = level-of c.args.sizes c.phase-shifted.result.level c.args.values.now c.phase-shifted.new.values
-                (levelled-on c.args.sizes (pairs_of c.args.sizes) l.level c.phase-shifted.result.level c.args.values.now l.values c.phase-shifted.new.values inv.1.1 c.phase-shifted.ensures.1);
+          (levelled-on c.args.sizes (pairs_of c.args.sizes) l.level c.phase-shifted.result.level c.args.values.now l.values c.phase-shifted.new.values inv.1.1 c.phase-shifted.ensures.1);
     }
 
 pub overflow_add-i : goal.overflow_add-i

@@ -43,16 +43,16 @@ tell_row-requires c = let a = c.args in
       indexed = c.requires.indexed.0;
       changes_value = c.requires.indexed.1;
       y_lt_variables = (
-              lt,
-              (
-                look-vals c.requires.drawn cs a.block a.settling low a.y.0 lt own look a.marks.now a.queue.now a.tail room c.requires.somewhere,
-                (look-marks c.requires.drawn cs a.block a.settling low a.y.0 lt own look a.marks.now a.queue.now a.tail room c.requires.somewhere, c.requires.y_lt_variables.1.1.0),
-              ),
-            );
+        lt,
+        (
+          look-vals c.requires.drawn cs a.block a.settling low a.y.0 lt own look a.marks.now a.queue.now a.tail room c.requires.somewhere,
+          (look-marks c.requires.drawn cs a.block a.settling low a.y.0 lt own look a.marks.now a.queue.now a.tail room c.requires.somewhere, c.requires.y_lt_variables.1.1.0),
+        ),
+      );
       bits = (
-                look-bits c.requires.drawn cs a.block a.settling low a.y.0 lt own look a.marks.now a.queue.now a.tail room c.requires.somewhere,
-                look-small c.requires.drawn cs a.block a.settling low a.y.0 lt own look a.marks.now a.queue.now a.tail room c.requires.somewhere,
-              );
+        look-bits c.requires.drawn cs a.block a.settling low a.y.0 lt own look a.marks.now a.queue.now a.tail room c.requires.somewhere,
+        look-small c.requires.drawn cs a.block a.settling low a.y.0 lt own look a.marks.now a.queue.now a.tail room c.requires.somewhere,
+      );
       told = look-told c.requires.drawn cs a.block a.settling low a.y.0 lt own look a.marks.now a.queue.now a.tail room c.requires.somewhere;
     }
 
@@ -81,9 +81,9 @@ put_row-requires c = let a = c.args in
     record {
       y_lt_variables = (lt, (l.1.1.0, l.0.1));
       values_len = (
-          look-vals c.requires.drawn cs a.block a.settling low a.y.0 lt own a.values.now a.marks.now a.queue.now a.tail room c.requires.somewhere,
-          (look-marks c.requires.drawn cs a.block a.settling low a.y.0 lt own a.values.now a.marks.now a.queue.now a.tail room c.requires.somewhere, told.long),
-        );
+        look-vals c.requires.drawn cs a.block a.settling low a.y.0 lt own a.values.now a.marks.now a.queue.now a.tail room c.requires.somewhere,
+        (look-marks c.requires.drawn cs a.block a.settling low a.y.0 lt own a.values.now a.marks.now a.queue.now a.tail room c.requires.somewhere, told.long),
+      );
       packed = (c.requires.packed.0, look-room c.requires.drawn cs a.block a.settling low a.y.0 lt own a.values.now a.marks.now a.queue.now a.tail room c.requires.somewhere _ _ told _ (is-from (goal.at.put_row-requires c).After-turns_from-from) (tells (goal.at.put_row-requires c).After-turns_from-from));
     }
 

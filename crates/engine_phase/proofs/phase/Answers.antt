@@ -38,7 +38,7 @@ waits-here : (c : At-loop-front) →
     Waiting a.sizes a.equations.now a.moves.now a.settling c.first_value-from.result l.front (round_of l.values l.marks l.queue l.at.tail l.at.visits)
 waits-here c =
     let l = c.loop-front in
-    waiting-on (let a = c.args in let some = c.requires.somewhere in let made = c.look_rows-tail.ensures in record { labels = a.labels.now; changes = changes_of a.changes.now; block = a.block; drawn = c.requires.drawn; low = c.requires.block_bound.0; on = record { start = some.start; index = some.index; on = made.1 some.start (a.visits, some.index) some.on }; before = omega arith; packed = made.0; value = λ waits. c.first_value-from.ensures; }) l.front (round_of l.values l.marks l.queue l.at.tail l.at.visits) l.invariant.1
+    waiting-on (let a = c.args in let some = c.requires.somewhere in let made = c.look_rows-tail.ensures in record { labels = a.labels.now; changes = changes_of a.changes.now; block = a.block; drawn = c.requires.drawn; low = c.requires.block_bound.0; on = record { start = some.start; index = some.index; on = made.1 some.start (a.visits, some.index) some.on }; before = omega arith; packed = made.0; value = λ waits. c.first_value-from.ensures }) l.front (round_of l.values l.marks l.queue l.at.tail l.at.visits) l.invariant.1
 
 pub look_rows-tail-requires : goal.look_rows-tail-requires
 look_rows-tail-requires c = let sw = c.requires.somewhere in

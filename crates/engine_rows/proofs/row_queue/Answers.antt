@@ -21,7 +21,7 @@ queue_part-top-requires c = let a = c.args in
       y_lt_most_variables = c.requires.y_lt_most_variables;
       from_le_end = (omega arith, omega arith);
       from_in_bounds = queued-room a.y.0 (bad_at a.bad.now) a.queue.now a.tail 0 l.s l.s (l.s + r - l.s) (length a.bad.now) l.top l.queue
-              (omega arith) (omega arith) l.invariant.1.1 c.requires.bad_in_bounds;
+          (omega arith) (omega arith) l.invariant.1.1 c.requires.bad_in_bounds;
     }
 
 pub loop-s-preserved : goal.loop-s-preserved
