@@ -1,6 +1,6 @@
 // The program, on the example that document 01 prints.
 #![tactic(auto)]
 
-fn main() {
-    program_streams::check_input();
+fn main(rt: HostRuntime) {
+    program_streams::check_input(&rt);
 }

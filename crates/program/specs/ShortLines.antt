@@ -5,7 +5,7 @@ use Rattle.std.proofs.Common.{ap, inl, inr, arith}
 use Rattle.lists.specs.Tests.{tell, and_left}
 use Rattle.rules.specs.Limits.{sizes_ok}
 use Rattle.rules.specs.Model.{Model}
-use Rattle.rules.specs.Records.{Rec, widths, known, body_of, bytes, bytes_of, Parts, ends, broken, part, parts_from, parts, Outcome, refused, accepted, Turn, no, back, next, over, onto, at_end, on_turn, run}
+use Rattle.rules.specs.Records.{Rec, widths, known, body_of, bytes_of, Parts, ends, broken, part, parts_from, parts, Outcome, refused, accepted, Turn, no, back, next, over, onto, at_end, on_turn, run}
 use Rattle.rules.specs.Spelling.{records, encode}
 use Rattle.rules.specs.Rooms.{Rooms, Lengths, lengths_of, lent_ok}
 use Rattle.rules.specs.Load.{read_model, step, put, last, before, settle_style}

@@ -1,5 +1,5 @@
 -- A number that may lie below zero, widened, turned round where it does, and written without its sign. Assumes nothing.
-use Rattle.std.specs.Prelude.{◌≡◌, refl, true, false, ◌∷◌, zero, suc, ◌<◌, T, ltb, ℤ, pos, negsuc, ◌-ℤ◌, nat_abs}
+use Rattle.std.specs.Prelude.{◌≡◌, refl, true, false, ◌∷◌, suc, ◌<◌, T, ltb, ℤ, pos, negsuc, ◌-ℤ◌, nat_abs}
 use Rattle.std.proofs.Common.{sym, ◌∙◌, zero-add, arith, of_z, to_z, SFits, Fits}
 use Rattle.std.proofs.lemmas.Bool.{false≢true}
 use Rattle.std.specs.Int.{w32, w64}

@@ -1,11 +1,16 @@
 -- Standard input and standard output: what a reading says, and how a run ends. Definitions only.
-use Rattle.std.specs.Prelude.{◌≡◌, List, ℕ, ◌+◌, ◌≤◌, ◌<◌, min, ℤ, pos, negsuc, length, take}
+use Rattle.std.specs.Prelude.{◌≡◌, List, ℕ, ◌+◌, ◌≤◌, ◌<◌, min, ℤ, pos, negsuc, length, take, Result, Ok, Err}
 use Rattle.lists.specs.Lists.{fill}
 use Rattle.program.specs.Program.{printed}
 use Rattle.program_streams.specs.declared.Reading.{Reading}
 use Rattle.program_streams.specs.declared.Reading.TheVariants as R
 use Rattle.program_streams.specs.declared.Ended.{Ended}
 use Rattle.program_streams.specs.declared.Ended.TheVariants as E
+
+-- The answer of a read as C's read gives it: how many bytes, or a negative number where it failed.
+abbrev pub answer_of : {E : Type 0} → Result ℕ E → ℤ
+answer_of (Ok k) = pos k
+answer_of (Err e) = negsuc 0
 
 -- What C's read says by its answer, in a room for n bytes: it failed where that is negative, and else it is a count of bytes.
 abbrev pub reading_of : ℤ → ℕ → Reading

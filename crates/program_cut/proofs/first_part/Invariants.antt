@@ -1,0 +1,11 @@
+-- `program_cut::first_part` meets its contract. The loop's invariant: the reader holds the bytes that were lent, and its place stands in
+-- the part that is being cut; the measure: the bytes left. Assumes nothing.
+use Rattle.std.proofs.Common.{◌≡◌, ◌-◌, length}
+use Rattle.program_cut.specs.CutLaws.{Along}
+use Rattle.program_cut.proofs.first_part.Given as goal
+
+abbrev pub invariant-loop-at : goal.invariant-loop-at
+invariant-loop-at l = (l.r.bytes.now ≡ l.bytes) × Along l.bytes l.r.at
+
+abbrev pub decreases-loop-at : goal.decreases-loop-at
+decreases-loop-at l = length l.bytes - l.r.at
