@@ -40,7 +40,7 @@ slice_bounds-changes-end c = let w = was_read (goal.at.slice_bounds-changes-end 
 pub slice_bounds-judge_on-end : goal.slice_bounds-judge_on-end
 slice_bounds-judge_on-end c = let w = was_read (goal.at.slice_bounds-judge_on-end c).In-Good in
     let k = long (goal.at.slice_bounds-judge_on-end c).After-read_batch-read in
-    sym (length-take-le _ _ (omega (arith, w.few, k)))
+    sym (length-take-le c.in-Good.count c.read_batch-read.new.changes (omega (arith, w.few, k)))
 
 pub judge_on-requires : goal.judge_on-requires
 judge_on-requires c = let w = was_read (goal.at.judge_on-requires c).In-Good in
