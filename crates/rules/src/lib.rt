@@ -1,9 +1,8 @@
 // What every layer speaks of: the numbers of states, actions and variables, moves, sizes, sessions, refusals, and the
 // answers of the four calls. What all of it means stands in specs/.
-
-// A state, an action and a variable: three kinds of number that do not mix.
 #![tactic(auto)]
 
+// A state, an action and a variable: three kinds of number that do not mix.
 #[derive(Clone, Copy)]
 pub struct State(pub u16);
 

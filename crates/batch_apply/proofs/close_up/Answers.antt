@@ -15,18 +15,6 @@ loop-i-init c = let a = c.args in
     let e : a.n - 0 ≡ a.n = omega arith in
     (refl, omega arith, ap (λ (m : ℕ). closing m 0 0 a.moves.now) e)
 
-pub offset_bounds-moves-i : goal.offset_bounds-moves-i
-offset_bounds-moves-i c = omega arith
-
-pub bounds-moves-i : goal.bounds-moves-i
-bounds-moves-i c = omega arith
-
-pub offset_bounds-moves-to : goal.offset_bounds-moves-to
-offset_bounds-moves-to c = omega arith
-
-pub bounds-moves-to : goal.bounds-moves-to
-bounds-moves-to c = omega arith
-
 pub overflow_cast-to : goal.overflow_cast-to
 overflow_cast-to c = tt
 
