@@ -28,9 +28,9 @@ was_read : (c : In-Good) → let a = c.args in
     WasRead a.session.sizes a.bytes.now c.in-Good.stamp c.in-Good.count c.read_batch-read.new.changes
 was_read c =
     let a = c.args in
-    good-read a.session.sizes a.bytes.now (sane-sizes a.session (lent c.before.before.before.before.before.before.before.before.before.before.before.before.before.before) c.requires)
+    good-read a.session.sizes a.bytes.now (sane-sizes a.session (rooms_with a.labels.now a.equations.now a.values.now a.marks.now a.moves.now a.index.now a.queue.now) c.requires)
     (are-bytes a.bytes.now (λ i. omega (arith, c.type_inv.bytes i)))
-    _ _ _ _ _ c.read_batch-read.ensures (let k = simp length-replicate at c.read_batch-read.auto.changes in omega (arith, k)) c.in-Good.is
+    _ _ _ _ _ c.read_batch-read.ensures (long (goal.at.slice_bounds-changes-end c).After-read_batch-read) c.in-Good.is
 
 pub slice_bounds-changes-end : goal.slice_bounds-changes-end
 slice_bounds-changes-end c = let w = was_read (goal.at.slice_bounds-changes-end c).In-Good in

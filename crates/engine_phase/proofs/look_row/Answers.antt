@@ -6,7 +6,7 @@ use lib.Dec.{eqb}
 use Rattle.words.specs.WordLaws.{kind-small}
 use Rattle.rules.specs.declared.Equation.{Equation}
 use Rattle.lists.specs.Lists.{bit}
-use Rattle.lists.specs.Tests.{not-out, not-not}
+use Rattle.lists.specs.Tests.{not-out}
 use Rattle.rules.specs.Session.{unword}
 use Rattle.words.specs.Words.{changes_of}
 use Rattle.engine_table.specs.Table.{table_in, own_in}
@@ -18,9 +18,7 @@ use Rattle.engine_phase.proofs.look_row.Goals as goal
 
 -- Pairs of the row may have to turn, and the byte is that of the value that they turn from.
 tells : (c : After-turns_from-from) → c.tell_row.result ≡ true
-tells c =
-    let r = c.tell_row.result in
-    sym (not-not r) ∙ ap not (ap not c.if-not-tell_row.false)
+tells c = c.if-not-tell_row.false
 
 is-from : (c : After-turns_from-from) →
     let a = c.args in

@@ -5,7 +5,7 @@ use Prim.Native.Nat.{ℕ, ◌≤◌, ◌<◌}
 use native.Mathlib.Omega.{arith}
 use Rattle.engine_table.specs.Table.{reads_as}
 use Rattle.lists.specs.Lists.{any}
-use Rattle.lists.specs.Tests.{not-out, not-not}
+use Rattle.lists.specs.Tests.{not-out}
 use Rattle.rules.specs.Moves.{target}
 use Rattle.moves.specs.Ascending.{moves-ascend}
 use Rattle.engine_table.specs.EquationWords.{drawn-sound}
@@ -64,7 +64,7 @@ leads_from-requires c = let a = c.args in
     let l = c.requires.leaner in
     let e = c.equation_in-e.result in
     let r = reads_as c.equation_in-e.ensures in
-    let yes = sym (not-not a.step) ∙ ap not (ap not c.if-not-step.false) in
+    let yes = c.if-not-step.false in
     let six = along-step g c.requires.along yes in
     let o : 6 ≤ e.operator = let k = r.is_operator in omega arith in
     let own = c.requires.along.own yes in
@@ -81,7 +81,7 @@ returns c = let a = c.args in
     let l = c.requires.leaner in
     let e = c.equation_in-e.result in
     let r = reads_as c.equation_in-e.ensures in
-    let yes = sym (not-not a.step) ∙ ap not (ap not c.if-not-step.false) in
+    let yes = c.if-not-step.false in
     let six = along-step g c.requires.along yes in
     let o : 6 ≤ e.operator = let k = r.is_operator in omega arith in
     let own = c.requires.along.own yes in

@@ -1,11 +1,10 @@
 -- A join visits one pair, a step those of a chain. Assumes nothing.
 use mathlib.Core.Path.{◌≡◌, sym, ap, ◌∙◌, subst}
-use mathlib.Core.Bool.{Bool, not, ◌&&◌}
+use mathlib.Core.Bool.{Bool, ◌&&◌}
 use mathlib.Core.List.{List}
 use Prim.Native.Nat.{ℕ}
 use native.Mathlib.Omega.{arith}
 use lib.ListN.{length}
-use Rattle.lists.specs.Tests.{not-not}
 use Rattle.engine_index.specs.Operands.{easy_in}
 use Rattle.engine_turn.specs.Scene.{scene_of, line_of, visit_all, Leans, Bounded, Room}
 use Rattle.engine_turn.specs.OperandWords.{operand-leans, pairs-join, pairs-step, join-along, step-head, head-inside}
@@ -26,7 +25,7 @@ visit-requires c = let a = c.args in
     let v = line_of a.marks.now a.queue.now a.at.tail a.at.visits in
     let o = c.requires.operand_of in
     let q = c.requires.s_lt_states in
-    let join = sym c.step_in.ensures ∙ sym (not-not c.step_in.result) ∙ ap not (ap not c.if-not-step_in.true) in
+    let join = sym c.step_in.ensures ∙ c.if-not-step_in.true in
     let f = pairs-join c.requires.standing o a.s.0 join in
     let e = ap length f in
     let room = subst (λ (l : List ℕ). Room scene a.settling l v) f c.requires.room in
@@ -44,7 +43,7 @@ returns-then-not-step_in c = let a = c.args in
     let v = line_of a.marks.now a.queue.now a.at.tail a.at.visits in
     let o = c.requires.operand_of in
     let q = c.requires.s_lt_states in
-    let join = sym c.step_in.ensures ∙ sym (not-not c.step_in.result) ∙ ap not (ap not c.if-not-step_in.true) in
+    let join = sym c.step_in.ensures ∙ c.if-not-step_in.true in
     c.visit.ensures ∙ ap (λ (l : List ℕ). visit_all scene a.settling l v) (sym (pairs-join c.requires.standing o a.s.0 join))
 
 pub visit_sources-requires : goal.visit_sources-requires
@@ -53,7 +52,7 @@ visit_sources-requires c = let a = c.args in
     let v = line_of a.marks.now a.queue.now a.at.tail a.at.visits in
     let o = c.requires.operand_of in
     let q = c.requires.s_lt_states in
-    let step = sym c.step_in.ensures ∙ sym (not-not c.step_in.result) ∙ ap not (ap not c.if-not-step_in.false) in
+    let step = sym c.step_in.ensures ∙ c.if-not-step_in.false in
     let e = c.head_in-head.ensures in
     let f = pairs-step c.requires.standing o a.s.0 c.head_in-head.result step e in
     let room = subst (λ (l : List ℕ). Room scene a.settling l v) f c.requires.room in
@@ -71,5 +70,5 @@ returns c = let a = c.args in
     let v = line_of a.marks.now a.queue.now a.at.tail a.at.visits in
     let o = c.requires.operand_of in
     let q = c.requires.s_lt_states in
-    let step = sym c.step_in.ensures ∙ sym (not-not c.step_in.result) ∙ ap not (ap not c.if-not-step_in.false) in
+    let step = sym c.step_in.ensures ∙ c.if-not-step_in.false in
     c.visit_sources.ensures ∙ ap (λ (l : List ℕ). visit_all scene a.settling l v) (sym (pairs-step c.requires.standing o a.s.0 c.head_in-head.result step c.head_in-head.ensures))
