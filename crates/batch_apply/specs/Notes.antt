@@ -5,11 +5,7 @@ use Rattle.std.proofs.Math.Seq.{drop-length}
 use Rattle.lists.specs.Tests.{tell}
 use Rattle.rules.specs.Batch.{Change, deletes}
 use Rattle.moves.specs.Ascending.{below}
-use Rattle.batch_apply.specs.Striking.{Noted, noted, noted_by, noted_all, places_in}
-
--- A change adds one note at most.
-pub noted-near : (ms : List ℕ) (c : Change) (k : Noted) → (k.top ≤ (noted_by ms c k).top + 1) × ((noted_by ms c k).top ≤ k.top)
-noted-near ms c k = elim (tell true c.insert) [ inl t ↦ rw t (omega arith, omega arith) | inr t ↦ rw t (omega arith, omega arith) ]
+use Rattle.batch_apply.specs.Striking.{Noted, noted, noted_all, places_in}
 
 -- What the notes of some changes are, in front of those that were there.
 record Notes (ms : List ℕ) (cs : List Change) (k l : Noted) : Type 0 where

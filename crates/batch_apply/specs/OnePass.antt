@@ -16,18 +16,6 @@ use Rattle.batch_apply.specs.Struck.{struck, struck-all, struck-out}
 use Rattle.batch_apply.specs.Applied.{tail_of, apart, all-out}
 use Rattle.batch_apply.specs.Orders.{as-apart}
 
--- One word becomes 0, and the clearing goes on behind it.
-pub clear-on : (l : List ℕ) (i end : ℕ) → i < end → end ≤ length l → cleared_in (i + 1) end (set l i 0) ≡ cleared_in i end l
-unfolding cleared_in
-clear-on l i end h k =
-    let m : end - i ≡ suc (end - suc i) = omega arith in
-    rw (add-one i, take-suc-set l i 0 (omega arith), drop-set-lt end l i 0 h, m, append_assoc) refl
-
--- At the end the clearing is done.
-pub clear-over : (l : List ℕ) (end : ℕ) → cleared_in end end l ≡ l
-unfolding cleared_in
-clear-over l end = let m : end - end ≡ 0 = omega arith in rw m (take-append-drop end l)
-
 -- One word is copied, and the closing goes on behind it.
 pub closing-on : (n to i : ℕ) (l : List ℕ) → i < n
     → closing (n - (i + 1)) (to + bit (not (eqb (get_or l i 0) mark))) (i + 1) (set l to (get_or l i 0)) ≡ closing (n - i) to i l

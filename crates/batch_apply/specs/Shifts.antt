@@ -1,48 +1,44 @@
 -- A shift entry by entry. Assumes nothing.
-use Rattle.std.specs.Prelude.{◌≡◌, refl, List, [], ◌∷◌, ℕ, zero, suc, ◌+◌, ◌-◌, ◌≤◌, ◌<◌, length, get_or, drop, set}
-use Rattle.std.proofs.Common.{sym, ap, ◌∙◌, append_assoc, add-zero, add-one, arith, length-drop, take-append-drop, drop-cons, take-suc-set, drop-set-lt, get_or-drop}
-use Rattle.std.proofs.lemmas.List.{set_split, take-set-le, drop-set-add}
-use Rattle.batch_apply.specs.Kept.{pushed, pulled_in, pushed_in}
+use Rattle.std.specs.Prelude.{◌≡◌, refl, List, [], ◌∷◌, ℕ, zero, suc, ◌+◌, ◌-◌, ◌≤◌, ◌<◌, length, take, drop, set, ◌++◌}
+use Rattle.std.proofs.Common.{sym, ap, add-one, arith}
+use Rattle.std.proofs.lemmas.List.{drop-drop}
+use Rattle.std.specs.List.{copy_within}
+use Rattle.batch_apply.specs.Kept.{pulled, pushed, pulled_in, pushed_in}
 
--- One entry takes the value of the next, and the shift goes on behind it.
-pub pull-on : (l : List ℕ) (i end : ℕ) → i < length l → i < end → pulled_in (i + 1) end (set l i (get_or l (i + 1) 0)) ≡ pulled_in i end l
+-- The first m entries shifted by one place to the front, as one copy of those behind the first.
+pulled-tail : (m q : ℕ) (l : List ℕ) → m ≤ length l → pulled m (q ∷ l) ≡ take m l ++ drop m (q ∷ l)
+pulled-tail zero q l h = refl
+pulled-tail (suc m) q [] h = absurd (omega arith)
+pulled-tail (suc m) q (r ∷ l) h = ap (λ (t : List ℕ). r ∷ t) (pulled-tail m r l (omega arith))
+
+pull-copied : (at m : ℕ) (l : List ℕ) → at + m < length l → take at l ++ take m (drop (suc at) l) ++ drop m (drop at l) ≡ take at l ++ pulled m (drop at l)
+pull-copied at m [] h = absurd (omega arith)
+pull-copied zero m (q ∷ l) h = sym (pulled-tail m q l (omega arith))
+pull-copied (suc at) m (q ∷ l) h = ap (λ (t : List ℕ). q ∷ t) (pull-copied at m l (omega arith))
+
+-- A copy of the entries behind place `at` to that place is the shift.
+pub pulled-copy : (l : List ℕ) (at n : ℕ) → at < n → n ≤ length l → copy_within l (at + 1) n at ≡ pulled_in at (n - 1) l
 unfolding pulled_in
-pull-on l i end h k =
-    let x = get_or l (suc i) 0 in
-    let m : end - i ≡ suc (end - suc i) = omega arith in
-    let d : i < suc i = omega arith in
-    let g : get_or (drop (suc i) l) 0 0 ≡ x = get_or-drop (suc i) l 0 0 ∙ ap (λ (j : ℕ). get_or l j 0) (add-zero (suc i)) in
-    rw (add-one i, take-suc-set l i x h, drop-set-lt (suc i) l i x d, drop-cons l i 0 h, m, g, append_assoc) refl
+pulled-copy l at n h k =
+    let m = n - (at + 1) in
+    let e : n - 1 - at ≡ m = omega arith in
+    rw (e, ← drop-drop m at l, add-one at) (pull-copied at (n - suc at) l (omega arith))
 
--- At the end the shift is done.
-pub pull-over : (l : List ℕ) (i end : ℕ) → end ≤ i → pulled_in i end l ≡ l
-unfolding pulled_in
-pull-over l i end h = let m : end - i ≡ 0 = omega arith in rw m (take-append-drop i l)
+-- The first m entries shifted by one place to the end, behind a new one.
+pushed-tail : (m x : ℕ) (l : List ℕ) → m < length l → pushed (suc m) x l ≡ x ∷ (take m l ++ drop (suc m) l)
+pushed-tail m x [] h = absurd (omega arith)
+pushed-tail zero x (q ∷ l) h = refl
+pushed-tail (suc m) x (q ∷ l) h = ap (λ (t : List ℕ). x ∷ t) (pushed-tail m q l (omega arith))
 
--- The last entry to be shifted takes the value of the one before it, and the shift goes on in front of it.
-pushed-last : (m x : ℕ) (l : List ℕ) → suc m < length l → pushed (suc (suc m)) x l ≡ pushed (suc m) x (set l (suc m) (get_or l m 0))
-pushed-last zero x (q ∷ r ∷ l) h = refl
-pushed-last zero x (q ∷ []) h = absurd (omega arith)
-pushed-last zero x [] h = absurd (omega arith)
-pushed-last (suc m) x [] h = absurd (omega arith)
-pushed-last (suc m) x (q ∷ l) h = ap (λ (t : List ℕ). x ∷ t) (pushed-last m q l (omega arith))
+push-copied : (at m x : ℕ) (l : List ℕ) → at + m < length l
+    → set (take (suc at) l ++ take m (drop at l) ++ drop m (drop (suc at) l)) at x ≡ take at l ++ pushed (suc m) x (drop at l)
+push-copied at m x [] h = absurd (omega arith)
+push-copied zero m x (q ∷ l) h = sym (pushed-tail m x (q ∷ l) (omega arith))
+push-copied (suc at) m x (q ∷ l) h = ap (λ (t : List ℕ). q ∷ t) (push-copied at m x l (omega arith))
 
-pub push-on : (l : List ℕ) (from i x : ℕ) → from < i → i < length l → pushed_in from i x (set l i (get_or l (i - 1) 0)) ≡ pushed_in from (i + 1) x l
+-- A copy of the entries from place `at` on to the next place, and the new one stored there, is the shift.
+pub pushed-copy : (l : List ℕ) (at n x : ℕ) → at ≤ n → n < length l → set (copy_within l at n (at + 1)) at x ≡ pushed_in at (n + 1) x l
 unfolding pushed_in
-push-on l from i x h k =
-    let m = i - suc from in
-    let e : i ≡ from + suc m = omega arith in
-    let f : i + 1 - from ≡ suc (suc m) = omega arith in
-    let g : i - from ≡ suc m = omega arith in
-    let d = length-drop from l in
-    let before : i - 1 ≡ from + m = omega arith in
-    let v : get_or (drop from l) m 0 ≡ get_or l (i - 1) 0 = get_or-drop from l m 0 ∙ ap (λ (j : ℕ). get_or l j 0) (sym before) in
-    let s : drop from (set l i (get_or l (i - 1) 0)) ≡ set (drop from l) (suc m) (get_or l (i - 1) 0) = ap (λ (j : ℕ). drop from (set l j (get_or l (i - 1) 0))) e ∙ drop-set-add from l (suc m) (get_or l (i - 1) 0) in
-    rw (take-set-le from l i (get_or l (i - 1) 0) (omega arith), s, f, g, ← v, pushed-last m x (drop from l) (omega arith)) refl
-
--- At the front the new one is stored.
-pub push-first : (l : List ℕ) (from x : ℕ) → from < length l → pushed_in from (from + 1) x l ≡ set l from x
-unfolding pushed_in
-push-first l from x h =
-    let m : from + 1 - from ≡ 1 = omega arith in
-    rw (m, drop-cons l from 0 h) (sym (set_split l from x h))
+pushed-copy l at n x h k =
+    let e : n + 1 - at ≡ suc (n - at) = omega arith in
+    rw (e, ← drop-drop (n - at) (at + 1) l, add-one at) (push-copied at (n - at) x l (omega arith))

@@ -1,5 +1,5 @@
 -- Moves struck in an ascending list, and the list without them. Assumes nothing.
-use Rattle.std.specs.Prelude.{◌≡◌, refl, true, cond, List, [], ◌∷◌, ◌++◌, map, ℕ, suc, ◌+◌, ◌<◌, set, eqb, ltb}
+use Rattle.std.specs.Prelude.{◌≡◌, refl, true, cond, List, [], ◌∷◌, ◌++◌, map, ℕ, suc, ◌+◌, ◌<◌, length, get_or, drop, set, eqb, ltb, zero}
 use Rattle.std.proofs.Common.{sym, ap, ◌∙◌, inl, inr, arith}
 use Rattle.std.proofs.lemmas.Bool.{false≢true}
 use Rattle.lists.specs.Lists.{elem, all}
@@ -10,6 +10,7 @@ use Rattle.rules.specs.declared.Sizes.{Sizes}
 use Rattle.rules.specs.Batch.{remove, remove_all}
 use Rattle.laws.specs.moves.Edits.{AllAre}
 use Rattle.moves.specs.Ascending.{ascends, below, none_below}
+use Rattle.moves.specs.Fronts.{left-more}
 use Rattle.batch_apply.specs.Kept.{mark}
 use Rattle.batch_apply.specs.Striking.{places_in, struck_at}
 use Rattle.batch_apply.specs.OneMove.{above}
@@ -28,6 +29,22 @@ below-mark z n (q ∷ l) s h =
 -- Each move that stands in ds replaced by the mark.
 abbrev pub struck : List ℕ → List ℕ → List ℕ
 struck ds ms = map (λ q. cond (elem q ds) mark q) ms
+
+-- The mark written at two places, in either order.
+mark-turns : (i j : ℕ) (l : List ℕ) → set (set l i mark) j mark ≡ set (set l j mark) i mark
+mark-turns i j [] = refl
+mark-turns zero zero (q ∷ l) = refl
+mark-turns zero (suc j) (q ∷ l) = refl
+mark-turns (suc i) zero (q ∷ l) = refl
+mark-turns (suc i) (suc j) (q ∷ l) = ap (λ (x : List ℕ). q ∷ x) (mark-turns i j l)
+
+mark-first : (at : ℕ) (ps l : List ℕ) → struck_at ps (set l at mark) ≡ set (struck_at ps l) at mark
+mark-first at [] l = refl
+mark-first at (p ∷ ps) l = ap (λ (x : List ℕ). set x p mark) (mark-first at ps l) ∙ mark-turns at p (struck_at ps l)
+
+-- One place is struck, and the striking goes on with those after it.
+pub strike-on : (ps l : List ℕ) (i : ℕ) → i < length ps → struck_at (drop (i + 1) ps) (set l (get_or ps i 0) mark) ≡ struck_at (drop i ps) l
+strike-on ps l i h = mark-first (get_or ps i 0) (drop (i + 1) ps) l ∙ sym (ap (λ (x : List ℕ). struck_at x l) (left-more ps i h))
 
 -- Where none is struck, the list stays.
 none-struck : (ms : List ℕ) → struck [] ms ≡ ms

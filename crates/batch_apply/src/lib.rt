@@ -2,37 +2,12 @@
 // place by halving, and shifts the moves behind it; the deletes of several changes are made in one pass over the room.
 #![tactic(auto)]
 
-ghost use Rattle.std.specs.Prelude.{◌≡◌, true, false, ◌≤◌, ◌<◌, length, drop};
+ghost use Rattle.std.specs.Prelude.{◌≡◌, true, false, ◌≤◌, ◌<◌, length};
 ghost use Rattle.rules.specs.Limits.{most_moves};
 ghost use Rattle.moves.specs.Ascending.{ascends};
 ghost use Rattle.words.specs.Words.{change_of, changes_of};
-ghost use Rattle.batch_apply.specs.Kept.{kept, pulled_in, pushed_in, removed_from, inserted_into, deleted_by, inserted_by, changed_by, changed_all, applied_to, Orderly, AllOrderly, Ready};
-ghost use Rattle.batch_apply.specs.Striking.{noted, noted_by, noted_all, struck_at, closing, cleared_in};
-
-// The places from `from` to `end` each take the value of the next one.
-fn pull(moves: &mut [u32], from: usize, end: usize)
-    requires { end < length moves.old }
-    ensures { moves.new ≡ pulled_in from end moves.old }
-{
-    let mut i = from;
-    while i < end {
-        moves[i] = moves[i + 1];
-        i = i + 1;
-    }
-}
-
-// p takes the place `from`, and what stood there to `end` moves on by one place, the last first.
-fn push(moves: &mut [u32], from: usize, end: usize, p: u32)
-    requires { (from < end) × (end ≤ length moves.old) }
-    ensures { moves.new ≡ pushed_in from end p moves.old }
-{
-    let mut i = end - 1;
-    while from < i {
-        moves[i] = moves[i - 1];
-        i = i - 1;
-    }
-    moves[from] = p;
-}
+ghost use Rattle.batch_apply.specs.Kept.{kept, removed_from, inserted_into, deleted_by, inserted_by, changed_all, applied_to, Orderly, AllOrderly, Ready};
+ghost use Rattle.batch_apply.specs.Striking.{noted, noted_by, noted_all, struck_at, closing};
 
 // The move p taken out of the first n; the place that is freed becomes 0. What is left is the number of moves.
 fn remove_move(moves: &mut [u32], n: usize, p: u32) -> usize
@@ -44,7 +19,7 @@ fn remove_move(moves: &mut [u32], n: usize, p: u32) -> usize
         return n;
     }
     let last = n - 1;
-    pull(moves, at, last);
+    moves.copy_within(at + 1..n, at);
     moves[last] = 0;
     last
 }
@@ -58,7 +33,8 @@ fn insert_move(moves: &mut [u32], n: usize, p: u32) -> usize
         return n;
     }
     let at = moves::place_of(&moves[..n], p);
-    push(moves, at, n + 1, p);
+    moves.copy_within(at..n, at + 1);
+    moves[at] = p;
     n + 1
 }
 
@@ -84,27 +60,27 @@ fn insert_one(w: u32, moves: &mut [u32], n: usize) -> usize
     n
 }
 
-// One change, where it is of the kind asked for: an insert or a delete.
-fn change_one(w: u32, inserting: bool, moves: &mut [u32], n: usize) -> usize
-    requires { Orderly (kept moves.old n) }
-    ensures { kept moves.new result ≡ changed_by inserting (change_of w) (kept moves.old n) }
+// All deletes one by one, from the last change to the first.
+fn delete_each(changes: &[u32], moves: &mut [u32], n: usize) -> usize
+    requires { AllOrderly false (changes_of changes.now) (kept moves.old n) }
+    ensures { kept moves.new result ≡ changed_all false (changes_of changes.now) (kept moves.old n) }
 {
-    if inserting {
-        return insert_one(w, moves, n);
+    let mut held = n;
+    for w in changes.iter().rev() {
+        held = delete_one(*w, moves, held);
     }
-    delete_one(w, moves, n)
+    held
 }
 
-// All changes of a kind, from the last to the first.
-fn change_all(changes: &[u32], inserting: bool, moves: &mut [u32], n: usize) -> usize
-    requires { AllOrderly inserting (changes_of changes.now) (kept moves.old n) }
-    ensures { kept moves.new result ≡ changed_all inserting (changes_of changes.now) (kept moves.old n) }
+// All inserts, from the last change to the first.
+// A loop of its own: of what a closure changes a proof knows nothing after a fold, so the step cannot be handed in.
+fn insert_each(changes: &[u32], moves: &mut [u32], n: usize) -> usize
+    requires { AllOrderly true (changes_of changes.now) (kept moves.old n) }
+    ensures { kept moves.new result ≡ changed_all true (changes_of changes.now) (kept moves.old n) }
 {
-    let mut i = changes.len();
     let mut held = n;
-    while 0 < i {
-        i = i - 1;
-        held = change_one(changes[i], inserting, moves, held);
+    for w in changes.iter().rev() {
+        held = insert_one(*w, moves, held);
     }
     held
 }
@@ -133,55 +109,38 @@ fn note_one(w: u32, moves: &[u32], places: &mut [u16], top: usize) -> usize
 fn note_all(changes: &[u32], moves: &[u32], places: &mut [u16]) -> usize
     requires moves_value { (ascends 0 moves.now ≡ true) × (length moves.now ≤ most_moves) }
     requires changes_in_bounds { length changes.now ≤ length places.old }
-    ensures { noted places.new result ≡ noted_all moves.now (changes_of changes.now) (noted places.old (length places.old)) }
+    ensures notes { noted places.new result ≡ noted_all moves.now (changes_of changes.now) (noted places.old (length places.old)) }
+    ensures inside { result ≤ length places.old }
 {
-    let mut i = changes.len();
     let mut top = places.len();
-    while 0 < i {
-        i = i - 1;
-        top = note_one(changes[i], moves, places, top);
+    for w in changes.iter().rev() {
+        top = note_one(*w, moves, places, top);
     }
     top
 }
 
-// The moves at the places from `from` on are struck.
-fn strike(moves: &mut [u32], places: &[u16], from: usize)
-    requires { from ≤ length places.now }
-    ensures { moves.new ≡ struck_at (drop from places.now) moves.old }
+// The moves at the places are struck.
+fn strike(moves: &mut [u32], places: &[u16])
+    ensures { moves.new ≡ struck_at places.now moves.old }
 {
-    let mut i = places.len();
-    while from < i {
-        i = i - 1;
-        rooms::set_word(moves, places[i] as usize, MARK);
+    for at in places {
+        rooms::put(moves, usize::from(*at), MARK);
     }
 }
 
 // The first n words without those that are struck, closed up to the front. Answers how many stay.
 fn close_up(moves: &mut [u32], n: usize) -> usize
     requires { n ≤ length moves.old }
-    ensures { kept moves.new result ≡ closing n 0 0 moves.old }
+    ensures closed { kept moves.new result ≡ closing n 0 0 moves.old }
+    ensures few { result ≤ n }
 {
-    let mut to: usize = 0;
-    let mut i: usize = 0;
-    while i < n {
+    let mut to = 0;
+    for i in 0..n {
         let w = moves[i];
         moves[to] = w;
-        to = to + (w != MARK) as usize;
-        i = i + 1;
+        to += usize::from(w != MARK);
     }
     to
-}
-
-// The places from `from` to `end` become 0.
-fn clear(moves: &mut [u32], from: usize, end: usize)
-    requires { (from ≤ end) × (end ≤ length moves.old) }
-    ensures { moves.new ≡ cleared_in from end moves.old }
-{
-    let mut i = from;
-    while i < end {
-        moves[i] = 0;
-        i = i + 1;
-    }
 }
 
 // All deletes in one pass: the places of their moves are noted while the table is whole, these moves are struck, the others
@@ -192,9 +151,9 @@ fn delete_at_once(changes: &[u32], moves: &mut [u32], n: usize) -> usize
 {
     let mut places = [0u16; limits::MOST_CHANGES];
     let from = note_all(changes, &moves[..n], &mut places);
-    strike(moves, &places, from);
+    strike(moves, &places[from..]);
     let left = close_up(moves, n);
-    clear(moves, left, n);
+    moves[left..n].fill(0);
     left
 }
 
@@ -206,14 +165,15 @@ fn delete_all(changes: &[u32], moves: &mut [u32], n: usize) -> usize
     if SEVERAL <= changes.len() {
         return delete_at_once(changes, moves, n);
     }
-    change_all(changes, false, moves, n)
+    delete_each(changes, moves, n)
 }
 
-// The changes made in the room: the moves become old less deletes plus inserts. What comes back is their number.
+// The changes made in the room: the moves become old less deletes plus inserts. What comes back is their number. The room is longer than
+// the n moves in it, since inserts take its next places: memory is fixed.
 pub fn apply(changes: &[u32], moves: &mut [u32], n: usize) -> usize
     requires { Ready (changes_of changes.now) (kept moves.old n) }
     ensures { kept moves.new result ≡ applied_to (changes_of changes.now) (kept moves.old n) }
 {
     let left = delete_all(changes, moves, n);
-    change_all(changes, true, moves, left)
+    insert_each(changes, moves, left)
 }

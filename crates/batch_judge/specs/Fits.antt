@@ -14,8 +14,9 @@ use Rattle.laws.specs.moves.Edits.{Judged, edited-sum, wrong-in, repeated-in}
 use Rattle.laws.specs.moves.Emptied.{lives_by, lives-edited}
 use Rattle.moves.specs.Ascending.{ascends, some-sizes, moves-ascend}
 use Rattle.batch_judge.specs.Judging.{fault_of, verdict_says, or_else}
-use Rattle.batch_judge.specs.declared.Verdict.{Verdict}
-use Rattle.batch_judge.specs.declared.Verdict.TheVariants as Found
+use Rattle.rules.specs.declared.Refused.{Refused}
+use Rattle.std.specs.Prelude.{Result, Ok, Err}
+use Rattle.std.specs.Result.{result_and}
 
 -- A list has as many entries as ones.
 ones : (l : List ℕ) → sum_of (λ q. 1) l ≡ length l
@@ -45,9 +46,18 @@ abbrev pub fits_by : ℕ → ℕ → List Change → Bool
 fits_by room n cs = leb (n + length (inserts cs)) (min most_moves room + length (deletes cs))
 
 -- A verdict says what its fault says.
-first_one : (b : Batch) (v : Verdict) → verdict_says b v ≡ first_of (fault_of v ∷ []) b
-first_one b (Found.Refused r p) = refl
-first_one b Found.Good = refl
+first_one : (b : Batch) (v : Result (Unit {0}) Refused) → verdict_says b v ≡ first_of (fault_of v ∷ []) b
+first_one b (Err r) = refl
+first_one b (Ok u) = refl
+
+-- The first of five verdicts that refuses decides.
+pub first-five : (d n p s l : Result (Unit {0}) Refused)
+    → fault_of (result_and (result_and (result_and (result_and d n) p) s) l) ≡ or_else (fault_of d) (or_else (fault_of n) (or_else (fault_of p) (or_else (fault_of s) (fault_of l))))
+first-five (Err r) n p s l = refl
+first-five (Ok u) (Err r) p s l = refl
+first-five (Ok u) (Ok v) (Err r) s l = refl
+first-five (Ok u) (Ok v) (Ok w) (Err r) l = refl
+first-five (Ok u) (Ok v) (Ok w) (Ok x) l = refl
 
 -- The first of two faults decides.
 first_two : (b : Batch) (x o : Option (ℕ × ℕ)) → first_of (or_else x o ∷ []) b ≡ first_of (x ∷ o ∷ []) b
@@ -70,7 +80,7 @@ pub held-ascends : (s : Session) (ms : List ℕ) → Held s ms → ascends 0 ms 
 held-ascends s ms h = moves-ascend s.sizes 0 ms h.in_range
 
 -- What the code finds is what the judgement says.
-pub verdict-judges : (s : Session) (room : ℕ) (ms : List ℕ) (b : Batch) (v : Verdict) → Held s ms → fault_of v
+pub verdict-judges : (s : Session) (room : ℕ) (ms : List ℕ) (b : Batch) (v : Result (Unit {0}) Refused) → Held s ms → fault_of v
     ≡ or_else (unless 11 (eqb b.stamp s.stamp)) (or_else (repeated [] 5 b.changes) (or_else (misplaced ms 5 b.changes)
     (or_else (unless 10 (fits_by room (length ms) b.changes)) (unless 16 (lives_by s.live ms b.changes)))))
     → verdict_says b v ≡ judge s room ms b

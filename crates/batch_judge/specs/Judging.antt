@@ -1,6 +1,7 @@
 -- A batch judged in the order of the code: what is found wrong, and where. Assumes nothing.
-use Rattle.std.specs.Prelude.{◌≡◌, refl, Bool, true, false, not, cond, ◌&&◌, ◌||◌, List, [], ◌∷◌, ℕ, zero, suc, ◌+◌, ◌≤◌, ◌<◌, length, get_or}
+use Rattle.std.specs.Prelude.{◌≡◌, refl, Bool, true, false, cond, List, [], ◌∷◌, ℕ, zero, suc, ◌+◌, ◌≤◌, ◌<◌, length, get_or}
 use Rattle.std.proofs.Math.Option.{Option, none, some}
+use Rattle.std.specs.Prelude.{Result, Ok, Err}
 use Rattle.std.proofs.Common.{add-one}
 use Rattle.lists.specs.Lists.{is, elem}
 use Rattle.rules.specs.Records.{Outcome, refused, accepted}
@@ -8,22 +9,21 @@ use Rattle.rules.specs.Batch.{Change, Batch, repeated, misplaced}
 use Rattle.rules.specs.Answers.{number_of}
 use Rattle.words.specs.Words.{change_of, changes_of}
 use Rattle.batch_judge.specs.Changes.{changes_from, changes-more, changes-over}
-use Rattle.batch_judge.specs.declared.Verdict.{Verdict}
-use Rattle.batch_judge.specs.declared.Verdict.TheVariants as Found
+use Rattle.rules.specs.declared.Refused.{Refused}
 
 -- A batch whose changes are held by numbers.
 abbrev pub batch_in : ℕ → List ℕ → Batch
 batch_in stamp l = record { stamp = stamp; changes = changes_of l }
 
 -- What a verdict finds wrong: a refusal's number and its place.
-abbrev pub fault_of : Verdict → Option (ℕ × ℕ)
-fault_of (Found.Refused r p) = some (number_of r, p)
-fault_of Found.Good = none
+abbrev pub fault_of : Result (Unit {0}) Refused → Option (ℕ × ℕ)
+fault_of (Err r) = some (number_of r.why, r.place)
+fault_of (Ok u) = none
 
 -- What a verdict says of a batch.
-abbrev pub verdict_says : Batch → Verdict → Outcome Batch
-verdict_says b (Found.Refused r p) = refused (number_of r) p
-verdict_says b Found.Good = accepted b
+abbrev pub verdict_says : Batch → Result (Unit {0}) Refused → Outcome Batch
+verdict_says b (Err r) = refused (number_of r.why) r.place
+verdict_says b (Ok u) = accepted b
 
 -- The first of two faults.
 abbrev pub or_else : Option (ℕ × ℕ) → Option (ℕ × ℕ) → Option (ℕ × ℕ)
@@ -68,10 +68,3 @@ module _ (ms l : List ℕ) (i at : ℕ) where
   -- At the end nothing is wrong.
   pub misplaced-over : length l ≤ i → misplaced ms at (changes_from l i) ≡ none
   misplaced-over h = rw (changes-over l i h) refl
-
--- Equal truth values, in the code's words.
-pub is-both : (a b : Bool) → ((a && b) || (not a && not b)) ≡ is a b
-is-both true true = refl
-is-both true false = refl
-is-both false true = refl
-is-both false false = refl

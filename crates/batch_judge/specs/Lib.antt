@@ -1,4 +1,5 @@
 pub mod Changes
 pub mod Judging
+pub mod Faults
 pub mod Fits
 pub mod Hangs

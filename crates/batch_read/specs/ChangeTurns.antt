@@ -1,5 +1,5 @@
 -- One turn of the reading of a batch, by the record at the place. Assumes nothing.
-use Rattle.std.specs.Prelude.{◌≡◌, Bool, false, cond, List, [], ◌∷◌, ltb, length, set}
+use Rattle.std.specs.Prelude.{◌≡◌, Bool, false, cond, List, [], ◌∷◌, ltb, length, set, Some, None}
 use Rattle.std.proofs.Math.Path.{refl}
 use Rattle.std.proofs.Common.{sym, ◌∙◌, zero-add, lt-ltb}
 use Rattle.std.proofs.Math.Logic.{inl, inr}
@@ -22,16 +22,12 @@ use Rattle.rules.specs.declared.Sizes.{Sizes}
 use Rattle.words.specs.Words.{pack_of, code_of}
 use Rattle.laws.specs.bytes.Kinds.{Other, other-kind, other-kinds}
 use Rattle.bytes_read.specs.PartsAt.{parts_at, PartsBy, parts-at}
-use Rattle.bytes_read.specs.Places.{record_at}
-use Rattle.bytes_read.specs.declared.Read.{Read}
-use Rattle.bytes_read.specs.declared.Read.TheVariants.{Got, Broken}
+use Rattle.bytes_read.specs.Places.{Read, record_at}
 use Rattle.batch_read.specs.Going.{Stamped, Began}
-use Rattle.batch_read.specs.Reading.{change_turn, end_turn, summary_after, summary, read_on, from, codes_by, codes_from, codes_of, Goes, Turned}
-use Rattle.batch_read.specs.declared.ChangeTurn.TheVariants as T
-use Rattle.batch_read.specs.declared.ReadBatch.TheVariants as B
+use Rattle.batch_read.specs.Reading.{stop, change_turn, end_turn, summary_after, summary, read_on, from, codes_by, codes_from, codes_of, Goes, Turned}
 
 -- Nothing to read at the place.
-pub turned-broken : (z : Sizes) (s : List ℕ) (stamp n at : ℕ) → record_at s at ≡ Broken → Turned z s stamp n at (T.Stop (B.Refused Why.Broken at))
+pub turned-broken : (z : Sizes) (s : List ℕ) (stamp n at : ℕ) → record_at s at ≡ None → Turned z s stamp n at (stop Why.Broken at)
 unfolding read_on run codes_from
 turned-broken z s stamp n at e =
     let h : parts_at s at ≡ cond (ltb at (length s)) (broken at) (ends at) = rw e at (parts-at s at) in
@@ -49,19 +45,19 @@ one_more stamp n r (accepted b) = let e : n + suc (length b.changes) ≡ suc n +
 -- What stands after the end record.
 after-end : (z : Sizes) (s : List ℕ) (n k : ℕ) (rd : Read) → PartsBy s k rd
     → at_end (step_batch z) put_batch empty_batch (after n) (parts_at s k) ≡ cond (ltb k (length s)) (refused 2 k) (accepted (empty_batch (after n)))
-after-end z s n k (Got r j) h = rw (h.2, lt-ltb k (length s) (omega arith)) refl
-after-end z s n k Broken h =
+after-end z s n k (Some (r, j)) h = rw (h.2, lt-ltb k (length s) (omega arith)) refl
+after-end z s n k None h =
     elim (tell true (ltb k (length s))) [
       | inl t ↦ rw (h, t) refl
       | inr t ↦ rw (h, t) refl
     ]
 
-module _ (z : Sizes) (s : List ℕ) (stamp n at k : ℕ) (r : Record) (got : record_at s at ≡ Got r k) where
-  there : PartsBy s at (Got r k)
+module _ (z : Sizes) (s : List ℕ) (stamp n at k : ℕ) (r : Record) (got : record_at s at ≡ Some (r, k)) where
+  there : PartsBy s at (Some (r, k))
   there = rw got at (parts-at s at)
 
   -- A record that is refused.
-  turned-no : (e : Refusal) → step_batch z (after n) (numbers_of r) ≡ no (number_of e) → Turned z s stamp n at (T.Stop (B.Refused e at))
+  turned-no : (e : Refusal) → step_batch z (after n) (numbers_of r) ≡ no (number_of e) → Turned z s stamp n at (stop e at)
   unfolding read_on run codes_from
   turned-no e h = (rw (there.2, h) refl, rw (there.2, h) refl)
 
@@ -96,15 +92,15 @@ unfolding step_batch
 not-due z n r m = let k = simp or_no at (other-kinds (6 ∷ 8 ∷ 9 ∷ []) r m) in rw (k.0, k.1.0, k.1.1.0) refl
 
 -- An insert, a delete, the end, and any other record.
-pub turned-insert : (z : Sizes) (s : List ℕ) (stamp n at k : ℕ) (r : Record) (m : Move) → record_at s at ≡ Got r k → r ≡ R.Insert m → Turned z s stamp n at (change_turn z stamp n m true at k)
+pub turned-insert : (z : Sizes) (s : List ℕ) (stamp n at k : ℕ) (r : Record) (m : Move) → record_at s at ≡ Some (r, k) → r ≡ R.Insert m → Turned z s stamp n at (change_turn z stamp n m true at k)
 unfolding step_batch
 turned-insert z s stamp n at k r m got e = turned-change z s stamp n at k (R.Insert m) (rw (← e) got) m true refl (λ l. refl)
 
-pub turned-delete : (z : Sizes) (s : List ℕ) (stamp n at k : ℕ) (r : Record) (m : Move) → record_at s at ≡ Got r k → r ≡ R.Delete m → Turned z s stamp n at (change_turn z stamp n m false at k)
+pub turned-delete : (z : Sizes) (s : List ℕ) (stamp n at k : ℕ) (r : Record) (m : Move) → record_at s at ≡ Some (r, k) → r ≡ R.Delete m → Turned z s stamp n at (change_turn z stamp n m false at k)
 unfolding step_batch
 turned-delete z s stamp n at k r m got e = turned-change z s stamp n at k (R.Delete m) (rw (← e) got) m false refl (λ l. refl)
 
-pub turned-end : (z : Sizes) (s : List ℕ) (stamp n at k : ℕ) (r : Record) → record_at s at ≡ Got r k → r ≡ R.End → Turned z s stamp n at (end_turn stamp n k (length s))
+pub turned-end : (z : Sizes) (s : List ℕ) (stamp n at k : ℕ) (r : Record) → record_at s at ≡ Some (r, k) → r ≡ R.End → Turned z s stamp n at (end_turn stamp n k (length s))
 unfolding step_batch read_on run codes_from end_turn
 turned-end z s stamp n at k r got q =
     let w = there z s stamp n at k R.End (rw (← q) got) in
@@ -114,8 +110,8 @@ turned-end z s stamp n at k r got q =
       | inr t ↦ rw t (rw (w.2, e, t) (let x : n ≡ n + 0 = omega arith in rw (← x) refl), rw w.2 refl)
     ]
 
-pub turned-other : (z : Sizes) (s : List ℕ) (stamp n at k : ℕ) (r : Record) → record_at s at ≡ Got r k → Other (6 ∷ 8 ∷ 9 ∷ []) r
-    → Turned z s stamp n at (T.Stop (B.Refused Why.NotDue at))
+pub turned-other : (z : Sizes) (s : List ℕ) (stamp n at k : ℕ) (r : Record) → record_at s at ≡ Some (r, k) → Other (6 ∷ 8 ∷ 9 ∷ []) r
+    → Turned z s stamp n at (stop Why.NotDue at)
 turned-other z s stamp n at k r got m = turned-no z s stamp n at k r got Why.NotDue (not-due z n r m)
 
 -- One change put down.
@@ -129,7 +125,7 @@ unfolding put_batch
 stamped p (refused k q) = refl
 stamped p (accepted b) = rw zero-add refl
 
-pub first-stamp : (z : Sizes) (s : List ℕ) (p k : ℕ) (r : Record) → record_at s 0 ≡ Got r k → r ≡ R.Stamp p → Stamped z s p 0 k
+pub first-stamp : (z : Sizes) (s : List ℕ) (p k : ℕ) (r : Record) → record_at s 0 ≡ Some (r, k) → r ≡ R.Stamp p → Stamped z s p 0 k
 unfolding read_batch read_on run step_batch codes_of
 first-stamp z s p k r got q =
     let w = there z s p 0 0 k (R.Stamp p) (rw (← q) got) in
@@ -141,7 +137,7 @@ first-stamp z s p k r got q =
       codes = sym (rw w.2 refl);
     }
 
-pub first-broken : (z : Sizes) (s : List ℕ) → record_at s 0 ≡ Broken → Began z s (T.Stop (B.Refused Why.Broken 0))
+pub first-broken : (z : Sizes) (s : List ℕ) → record_at s 0 ≡ None → Began z s (stop Why.Broken 0)
 unfolding read_batch run codes_of
 first-broken z s e =
     let h : parts_at s 0 ≡ cond (ltb 0 (length s)) (broken 0) (ends 0) = rw e at (parts-at s 0) in
@@ -150,8 +146,8 @@ first-broken z s e =
       | inr b ↦ let k : parts_at s 0 ≡ ends 0 = h ∙ rw b refl in (rw k refl, rw k refl)
     ]
 
-pub first-other : (z : Sizes) (s : List ℕ) (k : ℕ) (r : Record) → record_at s 0 ≡ Got r k → Other (7 ∷ []) r
-    → Began z s (T.Stop (B.Refused Why.NotDue 0))
+pub first-other : (z : Sizes) (s : List ℕ) (k : ℕ) (r : Record) → record_at s 0 ≡ Some (r, k) → Other (7 ∷ []) r
+    → Began z s (stop Why.NotDue 0)
 unfolding read_batch run step_batch codes_of
 first-other z s k r got m =
     let w = there z s 0 0 0 k r got in

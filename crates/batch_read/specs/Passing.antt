@@ -6,8 +6,8 @@ use Rattle.rules.specs.declared.Sizes.{Sizes}
 use Rattle.words.specs.Words.{pack_of, code_of}
 use Rattle.bytes_read.specs.Places.{move_at}
 use Rattle.batch_read.specs.declared.ChangeRun.{ChangeRun}
-use Rattle.batch_read.specs.declared.ChangeTurn.{ChangeTurn}
-use Rattle.batch_read.specs.declared.ChangeTurn.TheVariants as T
+use Rattle.batch_read.specs.Reading.{ChangeTurn, go}
+use Rattle.std.specs.declared.ops.ControlFlow.TheVariants.{Continue, Break}
 
 -- A good change stands next: whole, not the 65th, an insert or a delete, and in range.
 pub record GoodChange (s : List ℕ) (z : Sizes) (x : ChangeRun) : Type 0 where
@@ -35,10 +35,10 @@ pub data ChangesPut (s : List ℕ) (z : Sizes) (x : ChangeRun) (room : List ℕ)
 
 -- Where the next record of a turn stands is no place past the end of the bytes.
 abbrev pub Within : List ℕ → ChangeTurn → Type 0
-Within s (T.Stop a) = Unit {0}
-Within s (T.Go p n c k) = k ≤ length s
+Within s (Break a) = Unit {0}
+Within s (Continue h) = h.at ≤ length s
 
 -- A turn moved on, and the room with it: as they were where the reading is over, else past some good changes.
 abbrev pub Forwarded : Sizes → List ℕ → ChangeTurn → List ℕ → ChangeTurn → List ℕ → Type 0
-Forwarded z s (T.Stop a) had u room = (u ≡ T.Stop a) × (room ≡ had)
-Forwarded z s (T.Go p n c k) had u room = (y : ChangeRun) × (u ≡ T.Go p y.count c y.at) × ChangesPut s z (record { count = n; at = k }) had y room
+Forwarded z s (Break a) had u room = (u ≡ Break a) × (room ≡ had)
+Forwarded z s (Continue h) had u room = (y : ChangeRun) × (u ≡ go h.stamp y.count h.change y.at) × ChangesPut s z (record { count = h.count; at = h.at }) had y room

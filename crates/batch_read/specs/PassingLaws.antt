@@ -1,5 +1,5 @@
 -- Good changes that stand one after another are put down, each as by a turn of its own. Assumes nothing.
-use Rattle.std.specs.Prelude.{◌≡◌, ◌⊎◌, Bool, ◌||◌, List, ℕ, ◌+◌, ◌≤◌, eqb, length, get_or}
+use Rattle.std.specs.Prelude.{◌≡◌, ◌⊎◌, Bool, ◌||◌, List, ℕ, ◌+◌, ◌≤◌, eqb, length, get_or, Some}
 use Rattle.std.proofs.Math.Path.{refl}
 use Rattle.std.proofs.Common.{◌∙◌, arith}
 use Rattle.std.proofs.Math.Logic.{inl, inr}
@@ -10,15 +10,13 @@ use Rattle.rules.specs.declared.Sizes.{Sizes}
 use Rattle.bytes_read.specs.PartsAt.{stands_at}
 use Rattle.rules.specs.Records.{widths}
 use Rattle.bytes_read.specs.Places.{move_at, body_len, record_of, record_at}
-use Rattle.bytes_read.specs.declared.Read.TheVariants.{Got}
 use Rattle.batch_read.specs.Going.{Onward, Going}
 use Rattle.batch_read.specs.GoingLaws.{follows_on}
 use Rattle.batch_read.specs.Passing.{GoodChange, next_code, ChangesPut, none, more, Within, Forwarded}
-use Rattle.batch_read.specs.Reading.{change_turn, Turned}
+use Rattle.batch_read.specs.Reading.{ChangeTurn, go, change_turn, Turned}
 use Rattle.batch_read.specs.ChangeTurns.{turned-insert, turned-delete}
 use Rattle.batch_read.specs.declared.ChangeRun.{ChangeRun}
-use Rattle.batch_read.specs.declared.ChangeTurn.{ChangeTurn}
-use Rattle.batch_read.specs.declared.ChangeTurn.TheVariants as T
+use Rattle.std.specs.declared.ops.ControlFlow.TheVariants.{Continue, Break}
 
 -- What the two kinds of a change say.
 pub kind-is : (k : ℕ) → (eqb k 8 || eqb k 9) ≡ true → (k ≡ 8) ⊎ (k ≡ 9)
@@ -29,13 +27,13 @@ kind-is k e =
     ]
 
 -- The record of a change, by its kind.
-change-stands : (s : List ℕ) (k i : ℕ) → k + 6 ≤ length s → get_or s k 0 ≡ i → body_len i ≡ 5 → record_at s k ≡ Got (record_of i s (k + 1)) (k + 6)
+change-stands : (s : List ℕ) (k i : ℕ) → k + 6 ≤ length s → get_or s k 0 ≡ i → body_len i ≡ 5 → record_at s k ≡ Some (record_of i s (k + 1), k + 6)
 change-stands s k i h e f = let a : k + 1 + 5 ≡ k + 6 = omega arith in stands_at s k i 5 e f (omega arith) (omega arith) ∙ rw a refl
 
 module _ (z : Sizes) (s : List ℕ) (p : ℕ) where
   -- The turn at a good change.
   abbrev turn_at : ChangeRun → ChangeTurn
-  turn_at x = T.Go p (x.count + 1) (next_code s x) (x.at + 6)
+  turn_at x = go p (x.count + 1) (next_code s x) (x.at + 6)
 
   -- An insert, or a delete, that is good goes on.
   good-goes : (x : ChangeRun) (i : Bool) → GoodChange s z x → eqb (get_or s x.at 0) 8 ≡ i → change_turn z p x.count (move_at s (x.at + 1)) i x.at (x.at + 6) ≡ turn_at x
@@ -59,10 +57,10 @@ module _ (z : Sizes) (s : List ℕ) (p : ℕ) where
 
 -- A turn that goes on stands inside the bytes.
 pub going-within : (z : Sizes) (s t : List ℕ) (x : ChangeTurn) (room : List ℕ) → Going z s t x room → Within s x
-going-within z s t (T.Stop a) room g = tt
-going-within z s t (T.Go p n c k) room g = g.inside
+going-within z s t (Break a) room g = tt
+going-within z s t (Continue h) room g = g.inside
 
 -- A turn moved on keeps the whole batch's answer and its changes.
 pub going-forward : (z : Sizes) (s t : List ℕ) (x u : ChangeTurn) (had room : List ℕ) → Going z s t x had → Forwarded z s x had u room → Going z s t u room
-going-forward z s t (T.Stop a) u had room g f = rw (f.0, f.1) g
-going-forward z s t (T.Go p n c k) u had room g f = rw f.1 (changes-onward z s p t (record { count = n; at = k }) had f.0 room g f.2)
+going-forward z s t (Break a) u had room g f = rw (f.0, f.1) g
+going-forward z s t (Continue h) u had room g f = rw f.1 (changes-onward z s h.stamp t (record { count = h.count; at = h.at }) had f.0 room g f.2)

@@ -4,128 +4,115 @@
 ghost use Rattle.std.specs.Prelude.{◌≡◌, true, ◌+◌, ◌≤◌, ◌<◌, length};
 ghost use Rattle.rules.specs.Limits.{most_changes};
 ghost use Rattle.batch_read.specs.Reading.{change_turn, end_turn, ReadInto};
-ghost use Rattle.batch_read.specs.Going.{place_of, answer_of, put_change, Begins, Follows, Going};
+ghost use Rattle.batch_read.specs.Going.{put_change, Begins, Follows, Going};
 ghost use Rattle.batch_read.specs.Passing.{GoodChange, with_change, change_put, ChangesPut, Within, Forwarded};
 ghost use Rattle.bytes_read.specs.Places.{record_at};
 
-use bytes_read::Read;
-use rules::{Move, Record, Refusal, Sizes};
+use bytes_read::{Kind, Reader, refused};
+use rules::{Move, Record, Refusal, Refused, Sizes};
+use std::ops::ControlFlow;
 
-// What reading a batch comes to: a refusal with its place, or the stamp and the number of changes.
-#[derive(Clone, Copy)]
-pub enum ReadBatch {
-    Refused(Refusal, usize),
-    Good(u32, usize),
+// Of a batch that was read: its stamp, and how many changes it has.
+#[derive(Clone, Copy, Debug, PartialEq, Eq)]
+pub struct Summary {
+    pub stamp: u32,
+    pub changes: usize,
 }
 
-// One record of a batch: the end of the reading; or the stamp, how many changes there are with this record, the change and
-// the next place.
-#[derive(Clone, Copy)]
-pub enum ChangeTurn {
-    Stop(ReadBatch),
-    Go(u32, usize, u32, usize),
+// A batch half read: its stamp, how many changes there are so far, the last of them, and where the next record stands.
+#[derive(Clone, Copy, Debug, PartialEq, Eq)]
+pub struct HalfRead {
+    pub stamp: u32,
+    pub count: usize,
+    pub change: u32,
+    pub at: usize,
 }
+
+// One record read and judged: the end of the reading with what it comes to, or the batch half read.
+pub type ChangeTurn = ControlFlow<Result<Summary, Refused>, HalfRead>;
 
 // Where changes are read: how many so far, and where the next record stands.
-#[derive(Clone, Copy)]
+#[derive(Clone, Copy, Debug, PartialEq, Eq)]
 pub struct ChangeRun {
     pub count: usize,
     pub at: usize,
 }
 
-// A change after n others: not the 65th, and in range.
-fn change_turn(
-    z: Sizes,
-    stamp: u32,
-    n: usize,
-    m: Move,
-    insert: bool,
-    at: usize,
-    next: usize,
-) -> ChangeTurn
-    ensures { result ≡ change_turn z stamp n m insert at next }
+// A change after others: not the 65th, and in range.
+#[tactic(auto, unfolding(crate::specs::Reading::change_turn))]
+fn change_turn(z: Sizes, h: HalfRead, m: Move, insert: bool, next: usize) -> ChangeTurn
+    ensures { result ≡ change_turn z h.stamp h.count m insert h.at next }
 {
+    let n = h.count;
     if !(n < limits::MOST_CHANGES) {
-        return ChangeTurn::Stop(ReadBatch::Refused(Refusal::BadSize, at));
+        return refused(Refusal::BadSize, h.at);
     }
     if !limits::move_ok(z, m) {
-        return ChangeTurn::Stop(ReadBatch::Refused(Refusal::BadNumber, at));
+        return refused(Refusal::BadNumber, h.at);
     }
-    ChangeTurn::Go(stamp, n + 1, words::change_of(m, insert), next)
+    ControlFlow::Continue(HalfRead {
+        stamp: h.stamp,
+        count: n + 1,
+        change: words::change_of(m, insert),
+        at: next,
+    })
 }
 
 // After the end record: any byte is not due.
-fn end_turn(stamp: u32, n: usize, next: usize, len: usize) -> ChangeTurn
-    ensures { result ≡ end_turn stamp n next len }
+#[tactic(auto, unfolding(crate::specs::Reading::end_turn))]
+fn end_turn(h: HalfRead, next: usize, len: usize) -> ChangeTurn
+    ensures { result ≡ end_turn h.stamp h.count next len }
 {
     if next < len {
-        return ChangeTurn::Stop(ReadBatch::Refused(Refusal::NotDue, next));
+        return refused(Refusal::NotDue, next);
     }
-    ChangeTurn::Stop(ReadBatch::Good(stamp, n))
+    ControlFlow::Break(Ok(Summary {
+        stamp: h.stamp,
+        changes: h.count,
+    }))
 }
 
 // What was read at the place of the turn before, judged: the turn after it. A reading that is over stays as it is.
-fn turn(read: Read, z: Sizes, t: ChangeTurn, len: usize) -> ChangeTurn
+fn turn(read: Option<(Record, usize)>, z: Sizes, t: ChangeTurn, len: usize) -> ChangeTurn
     ensures { Follows z read t len result }
 {
-    let ChangeTurn::Go(stamp, n, _, at) = t else {
-        return t;
-    };
-    let Read::Got(rec, next) = read else {
-        return ChangeTurn::Stop(ReadBatch::Refused(Refusal::Broken, at));
+    let h = t?;
+    let Some((rec, next)) = read else {
+        return refused(Refusal::Broken, h.at);
     };
     match rec {
-        Record::Insert(m) => change_turn(z, stamp, n, m, true, at, next),
-        Record::Delete(m) => change_turn(z, stamp, n, m, false, at, next),
-        Record::End => end_turn(stamp, n, next, len),
-        _ => ChangeTurn::Stop(ReadBatch::Refused(Refusal::NotDue, at)),
+        Record::Insert(m) => change_turn(z, h, m, true, next),
+        Record::Delete(m) => change_turn(z, h, m, false, next),
+        Record::End => end_turn(h, next, len),
+        _ => refused(Refusal::NotDue, h.at),
     }
 }
 
 // The first record: the stamp.
-fn first_turn(read: Read) -> ChangeTurn
+fn first_turn(read: Option<(Record, usize)>) -> ChangeTurn
     ensures { (z : Sizes) → Begins z read result }
 {
-    let Read::Got(rec, next) = read else {
-        return ChangeTurn::Stop(ReadBatch::Refused(Refusal::Broken, 0));
+    let Some((rec, at)) = read else {
+        return refused(Refusal::Broken, 0);
     };
     let Record::Stamp(stamp) = rec else {
-        return ChangeTurn::Stop(ReadBatch::Refused(Refusal::NotDue, 0));
+        return refused(Refusal::NotDue, 0);
     };
-    ChangeTurn::Go(stamp, 0, 0, next)
-}
-
-// Where the next record stands; 0 where the reading is over.
-fn place_of(t: ChangeTurn) -> usize
-    ensures { result ≡ place_of t }
-{
-    let ChangeTurn::Go(_, _, _, next) = t else {
-        return 0;
-    };
-    next
-}
-
-// What a reading that is over came to.
-fn answer_of(t: ChangeTurn) -> ReadBatch
-    ensures { result ≡ answer_of t }
-{
-    match t {
-        ChangeTurn::Stop(a) => a,
-        ChangeTurn::Go(_, _, _, next) => ReadBatch::Refused(Refusal::Broken, next),
-    }
+    ControlFlow::Continue(HalfRead {
+        stamp,
+        count: 0,
+        change: 0,
+        at,
+    })
 }
 
 // The change of a turn, put down after those of the turn before it.
 fn put_change(changes: &mut [u32], t: ChangeTurn, u: ChangeTurn)
     ensures { changes.new ≡ put_change t u changes.old }
 {
-    let ChangeTurn::Go(_, n, _, _) = t else {
-        return;
-    };
-    let ChangeTurn::Go(_, _, code, _) = u else {
-        return;
-    };
-    rooms::set_word(changes, n, code);
+    if let (ControlFlow::Continue(h), ControlFlow::Continue(g)) = (t, u) {
+        rooms::put(changes, h.count, g.change);
+    }
 }
 
 // Whether a good change stands next.
@@ -139,7 +126,9 @@ fn good_change(bytes: &[u8], z: Sizes, x: ChangeRun) -> bool
     }
     let kind = bytes[at];
     let m = bytes_read::move_at(bytes, at + 1);
-    (x.count < limits::MOST_CHANGES) & ((kind == 8) | (kind == 9)) & limits::move_ok(z, m)
+    (x.count < limits::MOST_CHANGES)
+        & ((kind == Kind::Insert as u8) | (kind == Kind::Delete as u8))
+        & limits::move_ok(z, m)
 }
 
 // The change that stands next, put down: past it.
@@ -149,9 +138,9 @@ fn put_next(bytes: &[u8], changes: &mut [u32], x: ChangeRun) -> ChangeRun
 {
     let at = x.at;
     let n = x.count;
-    let insert = bytes[at] == 8;
+    let insert = bytes[at] == Kind::Insert as u8;
     let m = bytes_read::move_at(bytes, at + 1);
-    rooms::set_word(changes, n, words::change_of(m, insert));
+    rooms::put(changes, n, words::change_of(m, insert));
     ChangeRun {
         count: n + 1,
         at: at + 6,
@@ -175,16 +164,21 @@ fn forward(bytes: &[u8], z: Sizes, changes: &mut [u32], t: ChangeTurn) -> Change
     requires { Within bytes.now t }
     ensures { Forwarded z bytes.now t changes.old result changes.new }
 {
-    let ChangeTurn::Go(stamp, n, code, at) = t else {
-        return t;
+    let h = t?;
+    let start = ChangeRun {
+        count: h.count,
+        at: h.at,
     };
-    let start = ChangeRun { count: n, at: at };
     let run = changes_run(bytes, z, changes, start);
-    ChangeTurn::Go(stamp, run.count, code, run.at)
+    ControlFlow::Continue(HalfRead {
+        count: run.count,
+        at: run.at,
+        ..h
+    })
 }
 
 // The first turn, from what was read at the front of the bytes, moved on past the good changes after the stamp.
-fn begin(bytes: &[u8], z: Sizes, changes: &mut [u32], read: Read) -> ChangeTurn
+fn begin(bytes: &[u8], z: Sizes, changes: &mut [u32], read: Option<(Record, usize)>) -> ChangeTurn
     requires { read ≡ record_at bytes.now 0 }
     ensures { Going z bytes.now changes.old result changes.new }
 {
@@ -194,20 +188,19 @@ fn begin(bytes: &[u8], z: Sizes, changes: &mut [u32], read: Read) -> ChangeTurn
 
 // The whole batch, read through one reader: the stamp and the good changes after it, put down in order, then what follows them
 // from record to record.
-pub fn read_batch(bytes: &[u8], z: Sizes, changes: &mut [u32]) -> ReadBatch
+pub fn read_batch(bytes: &[u8], z: Sizes, changes: &mut [u32]) -> Result<Summary, Refused>
     ensures { ReadInto z bytes.now changes.old result changes.new }
 {
-    let mut r = bytes_read::reader_at(bytes, 0);
-    let mut t = begin(bytes, z, changes, bytes_read::next(r));
+    let mut r = Reader::new(bytes, 0);
+    let mut t = begin(bytes, z, changes, r.read());
     loop {
-        let at = place_of(t);
-        if at == 0 {
-            break;
-        }
-        r.at = at;
-        let u = turn(bytes_read::next(r), z, t, bytes.len());
+        let h = match t {
+            ControlFlow::Break(answer) => return answer,
+            ControlFlow::Continue(h) => h,
+        };
+        r.at = h.at;
+        let u = turn(r.read(), z, t, bytes.len());
         put_change(changes, t, u);
         t = u;
     }
-    answer_of(t)
 }

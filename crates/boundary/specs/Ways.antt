@@ -1,5 +1,5 @@
 -- Each way out of a call, in the words of the code. Assumes nothing.
-use Rattle.std.specs.Prelude.{◌≡◌, true, false, ◌||◌, List, ℕ, ◌≤◌, ◌<◌, ℤ, length, ltb}
+use Rattle.std.specs.Prelude.{◌≡◌, true, false, ◌||◌, List, ℕ, ◌≤◌, ◌<◌, ℤ, length, ltb, Bool, Result}
 use Rattle.std.proofs.Math.Path.{refl, ap}
 use Rattle.std.proofs.Common.{◌∙◌}
 use Rattle.lists.specs.Lists.{bit}
@@ -7,12 +7,10 @@ use Rattle.lists.specs.Tests.{ltb-is, ltb_no, or_no}
 use Rattle.rules.specs.Rooms.{Rooms}
 use Rattle.rules.specs.Values.{state, variable}
 use Rattle.rules.specs.Calls.{load, batch, write, ask, leaves}
-use Rattle.rules.specs.Answers.{loaded_says, updated_says, written_says, asked_says}
+use Rattle.rules.specs.Answers.{says}
 use Rattle.rules.specs.declared.Session.{Session}
-use Rattle.rules.specs.declared.Loaded.{Loaded}
-use Rattle.rules.specs.declared.Updated.{Updated}
-use Rattle.rules.specs.declared.Written.{Written}
-use Rattle.rules.specs.declared.Asked.{Asked}
+use Rattle.rules.specs.declared.Report.{Report}
+use Rattle.rules.specs.declared.Refused.{Refused}
 use Rattle.boundary_numbers.specs.Numbers.{session_in, session_after, moved_to, report_after, told}
 use Rattle.boundary.specs.Boundary.{loaded_to, load_left, load_call, batched_to, batch_left, batch_call, wrote_to, write_left, write_call, ask_call}
 
@@ -24,8 +22,8 @@ module _ (session values : List ℕ) (here x : ℕ) where
   ask-short h = rw ((ltb-is (length session) 8).1 h) refl
 
   -- A session s was read, the call answered k, and r is told of it.
-  pub ask-comes : (s : Session) (k : Asked) (r : ℕ) → 8 ≤ length session → s ≡ session_in session → asked_says k ≡ ask s values (state here) (variable x)
-      → r ≡ told bit (asked_says k) → r ≡ ask_call session values here x
+  pub ask-comes : (s : Session) (k : Result Bool Refused) (r : ℕ) → 8 ≤ length session → s ≡ session_in session → says k ≡ ask s values (state here) (variable x)
+      → r ≡ told bit (says k) → r ≡ ask_call session values here x
   unfolding ask_call
   ask-comes s k r h i e b = rw ((ltb_no (length session) 8).1 h) (b ∙ ap (told bit) (rw i at e))
 
@@ -37,8 +35,8 @@ module _ (session : List ℕ) (l : Rooms) (out : List ℕ) where
   write-short h = rw ((ltb-is (length session) 8).1 h) refl
 
   -- A session s was read, the call answered k and left the output so, and r is told of it.
-  pub write-comes : (s : Session) (k : Written) (after : List ℕ) (r : ℕ) → 8 ≤ length session → s ≡ session_in session
-      → leaves (written_says k) after ≡ write s l out → r ≡ told (λ n. n) (written_says k) → wrote_to r after ≡ write_call session l out
+  pub write-comes : (s : Session) (k : Result ℕ Refused) (after : List ℕ) (r : ℕ) → 8 ≤ length session → s ≡ session_in session
+      → leaves (says k) after ≡ write s l out → r ≡ told (λ n. n) (says k) → wrote_to r after ≡ write_call session l out
   unfolding write_call
   write-comes s k after r h i e b = rw (b, (ltb_no (length session) 8).1 h) (ap write_left (rw i at e))
 
@@ -50,8 +48,8 @@ module _ (session : List ℕ) (l : Rooms) (bytes : List ℕ) where
   load-short h = rw ((ltb-is (length session) 8).1 h) refl
 
   -- The call answered k and left the rooms so, r is told of it, and its session was kept.
-  pub load-comes : (k : Loaded) (after : Rooms) (r : ℕ) (kept : List ℕ) → 8 ≤ length session → leaves (loaded_says k) after ≡ load l bytes
-      → r ≡ told (λ _. 0) (loaded_says k) → kept ≡ session_after session (loaded_says k) → loaded_to r kept after ≡ load_call session l bytes
+  pub load-comes : (k : Result Session Refused) (after : Rooms) (r : ℕ) (kept : List ℕ) → 8 ≤ length session → leaves (says k) after ≡ load l bytes
+      → r ≡ told (λ _. 0) (says k) → kept ≡ session_after session (says k) → loaded_to r kept after ≡ load_call session l bytes
   unfolding load_call
   load-comes k after r kept h e b d = rw (b, d, (ltb_no (length session) 8).1 h) (ap (load_left session) e)
 
@@ -72,9 +70,9 @@ module _ (session : List ℕ) (l : Rooms) (report : List ℤ) (bytes : List ℕ)
 
     -- A session s was read, the call answered k and left the rooms so, r is told of it, and its session and its report
     -- were kept.
-    pub batch-comes : (s : Session) (k : Updated) (after : Rooms) (r : ℕ) (kept : List ℕ) (told_of : List ℤ) → s ≡ session_in session
-        → leaves (updated_says k) after ≡ batch s l bytes → r ≡ told (λ _. 0) (updated_says k)
-        → kept ≡ session_after session (moved_to (updated_says k)) → told_of ≡ report_after report (updated_says k)
+    pub batch-comes : (s : Session) (k : Result Report Refused) (after : Rooms) (r : ℕ) (kept : List ℕ) (told_of : List ℤ) → s ≡ session_in session
+        → leaves (says k) after ≡ batch s l bytes → r ≡ told (λ _. 0) (says k)
+        → kept ≡ session_after session (moved_to (says k)) → told_of ≡ report_after report (says k)
         → batched_to r kept after told_of ≡ batch_call session l report bytes
     unfolding batch_call
     batch-comes s k after r kept told_of i e b d f = rw (b, d, f, h) (ap (batch_left session report) (rw i at e))

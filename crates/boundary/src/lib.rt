@@ -8,7 +8,7 @@ ghost use Rattle.boundary.specs.Boundary.{loaded_to, batched_to, wrote_to, load_
 
 use rules::{State, Variable};
 
-// The answer of a call whose room for the session or the report is too short: 13 at place 0.
+// The answer of a call whose room for the session or the report is too short: 13 at place 0, a number as C's functions answer it.
 const SHORT: u64 = 13;
 
 // How many numbers a session is.
@@ -17,7 +17,7 @@ const SESSION: usize = 8;
 // How many numbers a report is.
 const REPORT: usize = 3;
 
-// A model loaded into the rooms lent, and its session into the session's.
+// A model loaded into the rooms lent, and its session into the session's. In all four calls the rooms are parameters, as C lends them.
 #[unsafe(no_mangle)]
 pub extern "C" fn huepaxochi_load(
     bytes: &[u8],

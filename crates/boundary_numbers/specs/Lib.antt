@@ -1,4 +1,2 @@
 pub mod Numbers
-pub mod Kept
-pub mod Widen
 pub mod ReadBack

@@ -1,14 +1,13 @@
 -- Reading by places of the byte list is reading record by record. Assumes nothing.
-use Rattle.std.specs.Prelude.{◌≡◌, refl, true, false, cond, List, [], ◌∷◌, ℕ, zero, suc, ◌+◌, ◌-◌, ◌*◌, ◌≤◌, ◌<◌, length, get_or, drop, ltb, leb}
+use Rattle.std.specs.Prelude.{Some, None, ◌≡◌, refl, true, false, cond, List, [], ◌∷◌, ℕ, zero, suc, ◌+◌, ◌-◌, ◌*◌, ◌≤◌, ◌<◌, length, get_or, drop, ltb, leb}
 use Rattle.std.proofs.Common.{sym, ap, ◌∙◌, inl, inr, add_assoc, arith, length-drop, drop_of_length-le, drop-cons, drop-drop}
+use Rattle.std.proofs.lemmas.Option.{none-some, some_pair_parts}
 use Rattle.lists.specs.Cases.{same_at}
 use Rattle.lists.specs.Tests.{all-at, tell, leb-is, ltb-is, ltb_no}
 use Rattle.rules.specs.Records.{kinds, widths, known, body_of, number, reads, Rec, Parts, ends, broken, part, parts_from, numbers_of}
 use Rattle.rules.specs.declared.Record.{Record}
 use Rattle.laws.specs.bytes.RecordLaws.{skipped}
-use Rattle.bytes_read.specs.declared.Read.{Read}
-use Rattle.bytes_read.specs.declared.Read.TheVariants.{Got, Broken}
-use Rattle.bytes_read.specs.Places.{le16, le32, body_len, record_of, record_at}
+use Rattle.bytes_read.specs.Places.{le16, le32, body_len, record_of, Read, record_at}
 
 -- What stands from a place on.
 abbrev pub parts_at : List ℕ → ℕ → Parts
@@ -56,8 +55,8 @@ body-unknown k h = rw h refl
 
 -- What a read record, or the lack of one, says of the parts.
 abbrev pub PartsBy : List ℕ → ℕ → Read → Type 0
-PartsBy s p (Got r n) = (p < n) × (n ≤ length s) × (parts_at s p ≡ part p (numbers_of r) (parts_at s n))
-PartsBy s p Broken = parts_at s p ≡ cond (ltb p (length s)) (broken p) (ends p)
+PartsBy s p (Some (r, n)) = (p < n) × (n ≤ length s) × (parts_at s p ≡ part p (numbers_of r) (parts_at s n))
+PartsBy s p None = parts_at s p ≡ cond (ltb p (length s)) (broken p) (ends p)
 
 -- Past the end nothing is left.
 parts-end : (s : List ℕ) (p : ℕ) → length s ≤ p → parts_at s p ≡ ends p
@@ -76,17 +75,16 @@ parts-at s p =
           let d : drop p s ≡ k ∷ drop (suc p) s = drop-cons s p 0 h in
           let n : length (drop (suc p) s) ≡ length s - (p + 1) = length-drop (suc p) s ∙ omega arith in
           elim (tell true (known k)) [
-            | inr u ↦ let e : leb (body_len k) 254 ≡ false = rw (body-unknown k u) refl in rw (t, e) (rw (t, d, u) refl)
+            | inr u ↦ rw (t, u) (rw (t, d, u) refl)
             | inl u ↦
                 let b = body-known k u in
-                let e : leb (body_len k) 254 ≡ true = (leb-is _ _).1 b.1 in
                 elim (tell true (leb (body_len k) (length s - (p + 1)))) [
-                  | inr v ↦ rw (t, e, v) (rw (t, d, n, u, ← b.0, v) refl)
+                  | inr v ↦ rw (t, u, v) (rw (t, d, n, u, ← b.0, v) refl)
                   | inl v ↦
                       let w = (leb-is (body_len k) (length s - (p + 1))).0 v in
                       let q : suc p ≡ p + 1 = omega arith in
                       let z = skipped (body_of (widths k)) (suc p) (drop (suc p) s) (rw (n, ← b.0) w) in
-                      rw (t, e, v) (
+                      rw (t, u, v) (
                         omega arith,
                         omega arith,
                         rw (d, n, u, ← b.0, v) (rw (b.0, z, drop-drop, q, enum-numbers k s (p + 1) u) refl),
@@ -95,11 +93,16 @@ parts-at s p =
           ]
     ]
 
+-- A kind is known where its body is short.
+known_short : (k : ℕ) → body_len k ≤ 254 → known k ≡ true
+known_short k h = elim (tell true (known k)) [ inl u ↦ u | inr u ↦ let e = body-unknown k u in absurd (omega arith) ]
+
 -- A record that is whole in the bytes is read, by its kind and the length of its body.
-pub stands_at : (s : List ℕ) (p k w : ℕ) → get_or s p 0 ≡ k → body_len k ≡ w → w ≤ 254 → p + 1 + w ≤ length s → record_at s p ≡ Got (record_of k s (p + 1)) (p + 1 + w)
+pub stands_at : (s : List ℕ) (p k w : ℕ) → get_or s p 0 ≡ k → body_len k ≡ w → w ≤ 254 → p + 1 + w ≤ length s → record_at s p ≡ Some (record_of k s (p + 1), p + 1 + w)
 unfolding record_at
 stands_at s p k w e f g h =
-    rw (e, f, (ltb-is p (length s)).1 (omega arith), (leb-is w 254).1 g, (leb-is w (length s - (p + 1))).1 (omega arith)) refl
+    let u = known_short k (omega (arith, f)) in
+    rw (e, u, f, (ltb-is p (length s)).1 (omega arith), (leb-is w (length s - (p + 1))).1 (omega arith)) refl
 
 -- What is read where a record stands: its kind is the byte there, and its body is what follows.
 pub record There (s : List ℕ) (p : ℕ) (r : Record) (n : ℕ) : Type 0 where
@@ -107,33 +110,25 @@ pub record There (s : List ℕ) (p : ℕ) (r : Record) (n : ℕ) : Type 0 where
   pub is : r ≡ record_of (numbers_of r).kind s (p + 1)
   pub next : n ≡ p + 1 + body_len (numbers_of r).kind
 
-not-broken : (r : Record) (n : ℕ) → Broken ≡ Got r n → ⊥
-not-broken r n e = let z : ◌≡◌ {A = ℕ} 0 1 = cc in omega arith
+by-body : (s : List ℕ) (p k n : ℕ) (r : Record) → get_or s p 0 ≡ k → known k ≡ true → ◌≡◌ {A = Read} (Some (record_of k s (p + 1), p + 1 + body_len k)) (Some (r, n)) → There s p r n
+by-body s p k n r e u g =
+    let (a, b) = some_pair_parts _ _ _ _ g in
+    let c : k ≡ (numbers_of r).kind = sym (ap (λ (q : Rec). q.kind) (enum-numbers k s (p + 1) u)) ∙ ap (λ (q : Record). (numbers_of q).kind) a in
+    record { kind = e ∙ c; is = sym a ∙ ap (λ (i : ℕ). record_of i s (p + 1)) c; next = sym b ∙ ap (λ (i : ℕ). p + 1 + body_len i) c }
 
-by-body : (s : List ℕ) (p k n : ℕ) (r : Record) → get_or s p 0 ≡ k → leb (body_len k) 254 ≡ true → Got (record_of k s (p + 1)) (p + 1 + body_len k) ≡ Got r n → There s p r n
-by-body s p k n r e f g =
-    elim (tell true (known k)) [
-      | inr u ↦ let h = (leb-is (body_len k) 254).0 f in let w = body-unknown k u in absurd (omega arith)
-      | inl u ↦
-          let a : record_of k s (p + 1) ≡ r = cc in
-          let b : p + 1 + body_len k ≡ n = cc in
-          let c : k ≡ (numbers_of r).kind = sym (ap (λ (q : Rec). q.kind) (enum-numbers k s (p + 1) u)) ∙ ap (λ (q : Record). (numbers_of q).kind) a in
-          record { kind = e ∙ c; is = sym a ∙ ap (λ (i : ℕ). record_of i s (p + 1)) c; next = sym b ∙ ap (λ (i : ℕ). p + 1 + body_len i) c }
-    ]
-
-pub read_there : (s : List ℕ) (p n : ℕ) (r : Record) → record_at s p ≡ Got r n → There s p r n
+pub read_there : (s : List ℕ) (p n : ℕ) (r : Record) → record_at s p ≡ Some (r, n) → There s p r n
 unfolding record_at
 read_there s p n r got =
     elim (tell true (ltb p (length s))) [
-      | inr e ↦ absurd (not-broken r n (rw e at got))
+      | inr e ↦ absurd (none-some (r, n) (rw e at got))
       | inl e ↦
           let a = rw e at got in
-          elim (tell true (leb (body_len (get_or s p 0)) 254)) [
-            | inr f ↦ absurd (not-broken r n (rw f at a))
+          elim (tell true (known (get_or s p 0))) [
+            | inr f ↦ absurd (none-some (r, n) (rw f at a))
             | inl f ↦
                 let b = rw f at a in
                 elim (tell true (leb (body_len (get_or s p 0)) (length s - (p + 1)))) [
-                  | inr h ↦ absurd (not-broken r n (rw h at b))
+                  | inr h ↦ absurd (none-some (r, n) (rw h at b))
                   | inl h ↦ by-body s p (get_or s p 0) n r refl f (rw h at b)
                 ]
           ]

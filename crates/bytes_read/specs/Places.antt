@@ -1,12 +1,12 @@
 -- The record that stands at a place of the bytes, as the code's enum. Definitions only.
-use Rattle.std.specs.Prelude.{cond, List, ℕ, ◌+◌, ◌-◌, ◌*◌, length, get_or, eqb, ltb, leb}
+use Rattle.std.specs.Prelude.{◌≡◌, true, false, MatchOption, Option, Some, None, cond, List, ℕ, ◌+◌, ◌-◌, ◌*◌, length, get_or, eqb, ltb, leb}
 use Rattle.rules.specs.Records.{known, widths, body_of}
 use Rattle.rules.specs.declared.Move.{Move}
 use Rattle.rules.specs.declared.Sizes.{Sizes}
 use Rattle.rules.specs.declared.Record.{Record}
 use Rattle.rules.specs.declared.Record.TheVariants as R
-use Rattle.bytes_read.specs.declared.Read.{Read}
-use Rattle.bytes_read.specs.declared.Read.TheVariants.{Got, Broken}
+use Rattle.bytes_read.specs.declared.Kind.{Kind}
+use Rattle.bytes_read.specs.declared.Kind.TheVariants as K
 
 -- Two and four bytes at a place, the low byte first.
 abbrev pub le16 : List ℕ → ℕ → ℕ
@@ -28,6 +28,24 @@ sizes_at s b =
 unfoldable pub body_len : ℕ → ℕ
 body_len k = cond (known k) (body_of (widths k)) 255
 
+-- The byte that stands for a kind.
+abbrev pub code_of : Kind → ℕ
+code_of K.Sizes = 1
+code_of K.Label = 2
+code_of K.Block = 3
+code_of K.Equation = 4
+code_of K.Move = 5
+code_of K.End = 6
+code_of K.Stamp = 7
+code_of K.Insert = 8
+code_of K.Delete = 9
+code_of K.Live = 10
+code_of K.Signed = 11
+
+-- The kind for which a byte stands, or none for a byte that stands for no kind.
+abbrev pub Named : ℕ → Option Kind → Type 0
+Named b r = MatchOption r (known b ≡ false) (λ k. (known b ≡ true) × (code_of k ≡ b))
+
 -- The record of a kind whose body stands at b.
 unfoldable pub record_of : ℕ → List ℕ → ℕ → Record
 record_of k s b =
@@ -43,13 +61,17 @@ record_of k s b =
     (cond (eqb k 11) (R.Signed (get_or s b 0) (get_or s (b + 1) 0) (get_or s (b + 2) 0) (get_or s (b + 3) 0))
     R.End)))))))))
 
+-- What stands at a place: a record and the place after it, or nothing.
+abbrev pub Read : Type 0
+Read = Option (Record × ℕ)
+
 -- The record at a place and the place after it. Past the end, at an unknown kind and at a record that is cut off, nothing.
 unfoldable pub record_at : List ℕ → ℕ → Read
 record_at s at =
     cond (ltb at (length s))
-    (cond (leb (body_len (get_or s at 0)) 254)
+    (cond (known (get_or s at 0))
     (cond (leb (body_len (get_or s at 0)) (length s - (at + 1)))
-    (Got (record_of (get_or s at 0) s (at + 1)) (at + 1 + body_len (get_or s at 0)))
-    Broken)
-    Broken)
-    Broken
+    (Some (record_of (get_or s at 0) s (at + 1), at + 1 + body_len (get_or s at 0)))
+    None)
+    None)
+    None

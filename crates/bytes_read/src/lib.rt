@@ -1,19 +1,14 @@
 // The record that stands at a place of the bytes, as an enum. The bytes are read through a reader that holds them and its
-// place; the work is left to `record_at`, which takes a plain slice and a place.
+// place; the work is left to `record_at`, which takes a plain slice and a place. So do the functions for what a record holds, since
+// whoever passes a run of records in one go has a slice and places, and no reader.
 #![tactic(auto)]
 
-ghost use Rattle.std.specs.Prelude.{◌≡◌, ◌+◌, ◌≤◌, ◌<◌, length};
-ghost use Rattle.bytes_read.specs.Places.{le16, le32, move_at, sizes_at, body_len, record_of, record_at};
+ghost use Rattle.std.specs.Prelude.{◌≡◌, ◌+◌, ◌≤◌, ◌<◌, length, Err};
+ghost use Rattle.std.specs.declared.ops.ControlFlow.TheVariants.{Break};
+ghost use Rattle.bytes_read.specs.Places.{le16, le32, move_at, sizes_at, body_len, code_of, Named, record_of, record_at};
 
-use rules::{Action, Move, Record, Sizes, State};
-
-// What stands at a place: a record and the place after it; or the end of the bytes, an unknown kind, or a record that is cut
-// off.
-#[derive(Clone, Copy)]
-pub enum Read {
-    Got(Record, usize),
-    Broken,
-}
+use rules::{Action, Move, Record, Refusal, Refused, Sizes, State};
+use std::ops::ControlFlow;
 
 // The lent bytes and the place in them from which the next record is read.
 #[derive(Clone, Copy)]
@@ -22,19 +17,12 @@ pub struct Reader<'a> {
     pub at: usize,
 }
 
-// A byte as a number of two bytes.
-fn wide(x: u8) -> u16
-    ensures { (result ≡ x) × (result < 256) }
-{
-    x as u16
-}
-
 // Two bytes, the low one first.
 pub fn u16_at(s: &[u8], at: usize) -> u16
     requires { at + 1 < length s.now }
     ensures { result ≡ le16 s.now at }
 {
-    wide(s[at]) + 256 * wide(s[at + 1])
+    u16::from_le_bytes([s[at], s[at + 1]])
 }
 
 // Four bytes, the low one first.
@@ -42,7 +30,7 @@ pub fn u32_at(s: &[u8], at: usize) -> u32
     requires { at + 3 < length s.now }
     ensures { result ≡ le32 s.now at }
 {
-    (u16_at(s, at) as u32) + 65536 * (u16_at(s, at + 2) as u32)
+    u32::from_le_bytes([s[at], s[at + 1], s[at + 2], s[at + 3]])
 }
 
 // The body of a move, an insert or a delete.
@@ -71,75 +59,114 @@ fn sizes_at(s: &[u8], at: usize) -> Sizes
     }
 }
 
-// The length of a body by its kind; 255 for a kind that is not known.
-fn body_len(kind: u8) -> usize
-    ensures { result ≡ body_len kind }
-{
-    match kind {
-        1 => 6,
-        2 => 6,
-        3 => 2,
-        4 => 3,
-        5 => 5,
-        6 => 0,
-        7 => 4,
-        8 => 5,
-        9 => 5,
-        10 => 0,
-        11 => 4,
-        _ => 255,
+// The kinds of records, by the number that stands for each in the bytes.
+#[derive(Clone, Copy, Debug, PartialEq, Eq)]
+pub enum Kind {
+    Sizes = 1,
+    Label,
+    Block,
+    Equation,
+    Move,
+    End,
+    Stamp,
+    Insert,
+    Delete,
+    Live,
+    Signed,
+}
+
+impl Kind {
+    // The kind that a byte stands for, where it stands for one.
+    fn named(byte: u8) -> Option<Kind>
+        ensures { Named byte result }
+    {
+        match byte {
+            1 => Some(Kind::Sizes),
+            2 => Some(Kind::Label),
+            3 => Some(Kind::Block),
+            4 => Some(Kind::Equation),
+            5 => Some(Kind::Move),
+            6 => Some(Kind::End),
+            7 => Some(Kind::Stamp),
+            8 => Some(Kind::Insert),
+            9 => Some(Kind::Delete),
+            10 => Some(Kind::Live),
+            11 => Some(Kind::Signed),
+            _ => None,
+        }
+    }
+
+    // How many bytes a body of this kind takes.
+    #[tactic(auto, unfolding(crate::specs::Places::body_len, rules::specs::Records::widths))]
+    fn body_len(self) -> usize
+        ensures { result ≡ body_len (code_of self) }
+    {
+        match self {
+            Kind::Sizes | Kind::Label => 6,
+            Kind::Block => 2,
+            Kind::Equation => 3,
+            Kind::Move | Kind::Insert | Kind::Delete => 5,
+            Kind::Stamp | Kind::Signed => 4,
+            Kind::Live | Kind::End => 0,
+        }
     }
 }
 
-// The record of a known kind whose body stands at `at`.
-fn body_at(s: &[u8], kind: u8, at: usize) -> Record
-    requires { at + body_len kind ≤ length s.now }
-    ensures { result ≡ record_of kind s.now at }
+// The record of a kind whose body stands at `at`.
+#[tactic(auto, unfolding(crate::specs::Places::record_of, crate::specs::Places::body_len, rules::specs::Records::widths))]
+fn body_at(s: &[u8], kind: Kind, at: usize) -> Record
+    requires { at + body_len (code_of kind) ≤ length s.now }
+    ensures { result ≡ record_of (code_of kind) s.now at }
 {
     match kind {
-        1 => Record::Sizes(sizes_at(s, at)),
-        2 => Record::Label(State(u16_at(s, at)), u32_at(s, at + 2)),
-        3 => Record::Block(s[at], s[at + 1]),
-        4 => Record::Equation(s[at], s[at + 1], s[at + 2]),
-        5 => Record::Move(move_at(s, at)),
-        7 => Record::Stamp(u32_at(s, at)),
-        8 => Record::Insert(move_at(s, at)),
-        9 => Record::Delete(move_at(s, at)),
-        10 => Record::Live,
-        11 => Record::Signed(s[at], s[at + 1], s[at + 2], s[at + 3]),
-        _ => Record::End,
+        Kind::Sizes => Record::Sizes(sizes_at(s, at)),
+        Kind::Label => Record::Label(State(u16_at(s, at)), u32_at(s, at + 2)),
+        Kind::Block => Record::Block(s[at], s[at + 1]),
+        Kind::Equation => Record::Equation(s[at], s[at + 1], s[at + 2]),
+        Kind::Move => Record::Move(move_at(s, at)),
+        Kind::End => Record::End,
+        Kind::Stamp => Record::Stamp(u32_at(s, at)),
+        Kind::Insert => Record::Insert(move_at(s, at)),
+        Kind::Delete => Record::Delete(move_at(s, at)),
+        Kind::Live => Record::Live,
+        Kind::Signed => Record::Signed(s[at], s[at + 1], s[at + 2], s[at + 3]),
     }
 }
 
-// The record at a place of the bytes: the work, on a part and a place.
-fn record_at(bytes: &[u8], at: usize) -> Read
+// The record at a place of the bytes and the place after it: the work, on a part and a place. There is none at the end of the
+// bytes, at an unknown kind and at a record that is cut off.
+#[tactic(auto, unfolding(crate::specs::Places::record_at))]
+fn record_at(bytes: &[u8], at: usize) -> Option<(Record, usize)>
     ensures { result ≡ record_at bytes.now at }
 {
-    if bytes.len() <= at {
-        return Read::Broken;
-    }
-    let kind = bytes[at];
-    let n = body_len(kind);
-    if 254 < n {
-        return Read::Broken;
-    }
+    let kind = Kind::named(*bytes.get(at)?)?;
+    let n = kind.body_len();
     let b = at + 1;
     if bytes.len() - b < n {
-        return Read::Broken;
+        return None;
     }
-    Read::Got(body_at(bytes, kind, b), b + n)
+    Some((body_at(bytes, kind, b), b + n))
 }
 
-// A reader of the lent bytes that stands at a place.
-pub fn reader_at<'a>(bytes: &'a [u8], at: usize) -> Reader<'a>
-    ensures { (result.bytes ≡ bytes.entry) × (result.at ≡ at) }
-{
-    Reader { bytes, at }
+impl<'a> Reader<'a> {
+    // A reader of the lent bytes that stands at a place.
+    pub fn new(bytes: &'a [u8], at: usize) -> Reader<'a>
+        ensures { (result.bytes ≡ bytes.entry) × (result.at ≡ at) }
+    {
+        Reader { bytes, at }
+    }
+
+    // The record at the reader's place and the place after it.
+    pub fn read(self) -> Option<(Record, usize)>
+        ensures { result ≡ record_at self.entry.bytes.now self.entry.at }
+    {
+        record_at(self.bytes, self.at)
+    }
 }
 
-// The record at the reader's place.
-pub fn next<'a>(r: Reader<'a>) -> Read
-    ensures { result ≡ record_at r.entry.bytes.now r.entry.at }
+// A reading from record to record ends with a refusal.
+pub fn refused<S, C>(why: Refusal, place: usize) -> ControlFlow<Result<S, Refused>, C>
+    ensures { result ≡ Break (Err (record { why = why; place = place })) }
 {
-    record_at(r.bytes, r.at)
+    ControlFlow::Break(Err(Refused { why, place }))
 }

@@ -3,10 +3,10 @@
 
 ghost use Rattle.std.specs.Prelude.{◌≡◌};
 ghost use Rattle.rules.specs.Calls.{ask};
-ghost use Rattle.rules.specs.Answers.{asked_says};
+ghost use Rattle.rules.specs.Answers.{says};
 ghost use Rattle.call_ask.specs.AskLaws.{numbers_ok};
 
-use rules::{Asked, Refusal, Session, Sizes, State, Variable};
+use rules::{Refusal, Refused, Session, Sizes, State, Variable};
 
 // Whether a state and a variable lie below their counts.
 fn numbers_ok(sizes: Sizes, here: State, x: Variable) -> bool
@@ -17,22 +17,23 @@ fn numbers_ok(sizes: Sizes, here: State, x: Variable) -> bool
 
 // The value of one pair. It is refused 12 for the sizes, 13 for the room of the values, 4 for a state or a variable not below
 // its count, and 12 for the one byte read.
-pub fn ask(session: Session, values: &[u8], here: State, x: Variable) -> Asked
-    ensures { asked_says result ≡ ask session values.now here x }
+#[tactic(auto, unfolding(rules::specs::Calls::ask))]
+pub fn ask(session: Session, values: &[u8], here: State, x: Variable) -> Result<bool, Refused>
+    ensures { says result ≡ ask session values.now here x }
 {
     let sizes = session.sizes;
     if !limits::sizes_ok(sizes) {
-        return Asked::Refused(Refusal::NotAModel, 0);
+        return Err(Refusal::NotAModel.into());
     }
     if values.len() < limits::pairs_of(sizes) {
-        return Asked::Refused(Refusal::ShortRoom, 0);
+        return Err(Refusal::ShortRoom.into());
     }
     if !numbers_ok(sizes, here, x) {
-        return Asked::Refused(Refusal::BadNumber, 0);
+        return Err(Refusal::BadNumber.into());
     }
-    let v = rooms::byte_at(values, words::pair_of(sizes, here, x));
+    let v = rooms::at_or(values, words::pair_of(sizes, here, x), 0);
     if 1 < v {
-        return Asked::Refused(Refusal::NotAModel, 0);
+        return Err(Refusal::NotAModel.into());
     }
-    Asked::Accepted(v == 1)
+    Ok(v == 1)
 }

@@ -21,8 +21,8 @@ use Rattle.batch_apply.specs.Applied.{laid, applied-edits}
 use Rattle.session_judge.specs.Checks.{check_of, checked_says}
 use Rattle.session_check.specs.Fitting.{Fits}
 use Rattle.session_judge.specs.Passed.{passed-work, passed-fits, passed-holds, passed-moves}
-use Rattle.session_judge.specs.declared.Checked.{Checked}
-use Rattle.session_judge.specs.declared.Checked.TheVariants as Found
+use Rattle.std.specs.Prelude.{Result, Ok}
+use Rattle.rules.specs.declared.Refusal.{Refusal}
 use Rattle.engine_table.specs.Lent.{table_of, Drawn}
 use Rattle.batch_judge.specs.Fits.{Held}
 use Rattle.engine_phase.specs.Started.{Started, with_moves}
@@ -37,7 +37,7 @@ pub record Sane (s : Session) (l : Rooms) : Type 0 where
   pub queue_room : queue_needs s.sizes ≤ length l.queue
 
 -- The check says so.
-pub sane : (s : Session) (l : Rooms) (k : Checked) → checked_says k ≡ check_of (work_ok (lengths_of l) s.sizes) s l → k ≡ Found.Good → Sane s l
+pub sane : (s : Session) (l : Rooms) (k : Result (Unit {0}) Refusal) → checked_says k ≡ check_of (work_ok (lengths_of l) s.sizes) s l → k ≡ Ok tt → Sane s l
 unfolding work_ok
 sane s l k h g =
     let work = work_ok (lengths_of l) s.sizes in

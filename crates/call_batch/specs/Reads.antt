@@ -11,13 +11,13 @@ use Rattle.rules.specs.Records.{Outcome, refused, accepted, parts}
 use Rattle.rules.specs.Answers.{number_of}
 use Rattle.rules.specs.Batch.{Change, Batch, changes_ok, read_batch}
 use Rattle.rules.specs.declared.Sizes.{Sizes}
-use Rattle.rules.specs.declared.Refusal.{Refusal}
 use Rattle.laws.specs.bytes.RecordLaws.{AreBytes, never}
 use Rattle.laws.specs.bytes.BatchReads.{read-batch-spelling}
-use Rattle.batch_read.specs.Reading.{codes, codes_of, Summary, summary, batch_says, ReadInto}
+use Rattle.batch_read.specs.Reading.{codes, codes_of, summary, batch_says, ReadInto}
 use Rattle.batch_read.specs.CodedBatch.{codes-accepted, code-back}
-use Rattle.batch_read.specs.declared.ReadBatch.{ReadBatch}
-use Rattle.batch_read.specs.declared.ReadBatch.TheVariants as B
+use Rattle.std.specs.Prelude.{Result, Ok, Err}
+use Rattle.batch_read.specs.declared.Summary.{Summary}
+use Rattle.rules.specs.declared.Refused.{Refused}
 use Rattle.words.specs.Words.{changes_of}
 
 -- Changes in range, put down as numbers and taken back, are the same.
@@ -57,21 +57,21 @@ module _ (z : Sizes) (bytes : List ℕ) (k : sizes_ok z ≡ true) (y : AreBytes 
       }
 
   -- Where the reading says so.
-  pub good-read : (before : List ℕ) (r : ReadBatch) (room : List ℕ) (stamp n : ℕ) → ReadInto z bytes before r room → most_changes ≤ length room → r ≡ B.Good stamp n
-      → WasRead z bytes stamp n room
-  good-read before r room stamp n i long e = go (read_batch z bytes) refl (sym (ap batch_says e) ∙ i.says)
+  pub good-read : (before : List ℕ) (r : Result Summary Refused) (room : List ℕ) (m : Summary) → ReadInto z bytes before r room → most_changes ≤ length room → r ≡ Ok m
+      → WasRead z bytes m.stamp m.changes room
+  good-read before r room m i long e = go (read_batch z bytes) refl (sym (ap batch_says e) ∙ i.says)
     where
-      go : (o : Outcome Batch) → read_batch z bytes ≡ o → accepted (record { stamp = stamp; changes = n }) ≡ summary o → WasRead z bytes stamp n room
+      go : (o : Outcome Batch) → read_batch z bytes ≡ o → accepted m ≡ summary o → WasRead z bytes m.stamp m.changes room
       go (refused w p) q h = absurd (never (sym h))
       go (accepted b) q h =
-          let f : ◌≡◌ {A = Summary} (record { stamp = stamp; changes = n }) (record { stamp = b.stamp; changes = length b.changes }) = cc in
+          let f : ◌≡◌ {A = Summary} m (record { stamp = b.stamp; changes = length b.changes }) = cc in
           subst (λ (x : Summary). WasRead z bytes x.stamp x.changes room) (sym f) (accepted-read b before room q i.holds long)
 
 -- A refusal of the code's reading is the rule's.
-pub bad-read : (z : Sizes) (bytes t : List ℕ) (r : ReadBatch) (room : List ℕ) (why : Refusal) (at : ℕ) → ReadInto z bytes t r room → r ≡ B.Refused why at
-    → read_batch z bytes ≡ refused (number_of why) at
-bad-read z bytes t r room why at i e = go (read_batch z bytes) (sym (ap batch_says e) ∙ i.says)
+pub bad-read : (z : Sizes) (bytes t : List ℕ) (r : Result Summary Refused) (room : List ℕ) (e : Refused) → ReadInto z bytes t r room → r ≡ Err e
+    → read_batch z bytes ≡ refused (number_of e.why) e.place
+bad-read z bytes t r room x i e = go (read_batch z bytes) (sym (ap batch_says e) ∙ i.says)
   where
-    go : (o : Outcome Batch) → refused (number_of why) at ≡ summary o → o ≡ refused (number_of why) at
-    go (refused w p) h = let a : number_of why ≡ w = cc in let b : at ≡ p = cc in λ i. refused (sym a i) (sym b i)
+    go : (o : Outcome Batch) → refused (number_of x.why) x.place ≡ summary o → o ≡ refused (number_of x.why) x.place
+    go (refused w p) h = let a : number_of x.why ≡ w = cc in let b : x.place ≡ p = cc in λ i. refused (sym a i) (sym b i)
     go (accepted b) h = absurd (never h)

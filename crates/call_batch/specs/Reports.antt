@@ -16,14 +16,13 @@ use Rattle.rules.specs.Update.{Turned, changed, turn_all, trues}
 use Rattle.rules.specs.Values.{Values}
 use Rattle.rules.specs.Calls.{Left, and_then, value_at, batch_by, leaves}
 use Rattle.rules.specs.Answers.{number_of}
-use Rattle.rules.specs.declared.Refusal.{Refusal}
 use Rattle.rules.specs.declared.Session.{Session}
 use Rattle.rules.specs.declared.Report.{Report}
 use Rattle.laws.specs.moves.Edits.{carry, edited-stamp}
 use Rattle.laws.specs.model.LiveApart.{still, turn-still, visits-still}
 use Rattle.batch_judge.specs.Judging.{verdict_says}
-use Rattle.batch_judge.specs.declared.Verdict.{Verdict}
-use Rattle.batch_judge.specs.declared.Verdict.TheVariants as Found
+use Rattle.std.specs.Prelude.{Result, Ok, Err}
+use Rattle.rules.specs.declared.Refused.{Refused}
 use Rattle.batch_apply.specs.Kept.{kept, applied_to}
 use Rattle.engine_table.specs.Lent.{table_of}
 use Rattle.engine_values.specs.Differences.{mag-sub}
@@ -94,18 +93,18 @@ net-small m t values₀ marks₀ values marks shift settle net h f =
     subst (λ (z : ℤ). mag z < 2 ^ 31) (sym f.net_is) (mag-sub (trues n (at t.values)) (trues n (value_at values₀)) (omega arith) (omega arith))
 
 -- A batch that was judged: v is the verdict.
-module _ (s : Session) (l : Rooms) (b : Batch) (v : Verdict) (h : verdict_says b v ≡ judge s (length l.moves) (held s l).moves b) where
+module _ (s : Session) (l : Rooms) (b : Batch) (v : Result (Unit {0}) Refused) (h : verdict_says b v ≡ judge s (length l.moves) (held s l).moves b) where
   -- A good verdict is the judgement's.
-  pub judged-good : v ≡ Found.Good → judge s (length l.moves) (held s l).moves b ≡ accepted b
+  pub judged-good : v ≡ Ok tt → judge s (length l.moves) (held s l).moves b ≡ accepted b
   judged-good g = sym h ∙ ap (verdict_says b) g
 
   -- A batch with a good verdict is applied.
-  pub read-good : (x : Left Report Rooms) → v ≡ Found.Good → x ≡ batch_of s l b.changes → x ≡ batch_read s l b
+  pub read-good : (x : Left Report Rooms) → v ≡ Ok tt → x ≡ batch_of s l b.changes → x ≡ batch_read s l b
   read-good x g e = e ∙ sym (ap (batch_by s l) (judged-good g))
 
   -- A refusal is the answer, and the rooms stay.
-  pub read-bad : (why : Refusal) (at : ℕ) → v ≡ Found.Refused why at → leaves (refused (number_of why) at) l ≡ batch_read s l b
-  read-bad why at g = sym (ap (batch_by s l) (sym h ∙ ap (verdict_says b) g))
+  pub read-bad : (r : Refused) → v ≡ Err r → leaves (refused (number_of r.why) r.place) l ≡ batch_read s l b
+  read-bad r g = sym (ap (batch_by s l) (sym h ∙ ap (verdict_says b) g))
 
 -- Bytes that are read as a batch come to what the batch comes to, and a refusal of the reading is the answer.
 pub bytes_good : (s : Session) (l : Rooms) (bytes : List ℕ) (b : Batch) → read_batch s.sizes bytes ≡ accepted b → batch_read s l b ≡ batch_bytes s l bytes

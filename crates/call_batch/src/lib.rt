@@ -6,7 +6,7 @@ ghost use Rattle.std.specs.Prelude.{◌≡◌, true, ◌≤◌, length};
 ghost use Rattle.rules.specs.Limits.{most_changes};
 ghost use Rattle.rules.specs.Batch.{changes_ok};
 ghost use Rattle.rules.specs.Records.{accepted};
-ghost use Rattle.rules.specs.Answers.{updated_says};
+ghost use Rattle.rules.specs.Answers.{says};
 ghost use Rattle.rules.specs.Calls.{batch, leaves};
 ghost use Rattle.words.specs.Words.{changes_of};
 ghost use Rattle.batch_judge.specs.Judging.{batch_in};
@@ -14,13 +14,12 @@ ghost use Rattle.rules.specs.Rooms.{rooms_with};
 ghost use Rattle.call_batch.specs.Moving.{Sane, Able};
 ghost use Rattle.call_batch.specs.Reports.{batch_of, batch_read, batch_bytes};
 
-use batch_judge::Verdict;
-use batch_read::ReadBatch;
 use limits::Lent;
-use rules::{Report, Session, Updated};
-use session_judge::Checked;
+use rules::{Refused, Report, Session};
+use session_check::SessionRooms;
 
 // The changes made: the moves first, then the values and the marks, and the stamp.
+// The rooms are parameters, as C lends them: behind a `&mut` to a struct of `&mut` slices the check covers no call that is lent two of them.
 fn move_on(
     session: Session,
     changes: &[u32],
@@ -36,32 +35,29 @@ fn move_on(
     ensures { leaves (accepted result) (rooms_with labels.now equations.now values.new marks.new moves.new index.new queue.new)
         ≡ batch_of session (rooms_with labels.now equations.now values.old marks.old moves.old index.old queue.old) (changes_of changes.now) }
 {
-    let sizes = session.sizes;
     let n = batch_apply::apply(changes, moves, session.moves as usize);
     let done = engine::update(
-        sizes,
+        session.sizes,
         labels,
         equations,
         moves,
         n,
         changes,
-        changes.len(),
         values,
         marks,
         index,
         queue,
     );
-    let visits = done.visits;
     let held = n as u32;
     let after = Session {
-        sizes: sizes,
+        sizes: session.sizes,
         live: session.live,
         moves: held,
         stamp: batch_judge::carried(session.stamp, changes),
     };
     Report {
         session: after,
-        visits: visits,
+        visits: done.visits,
         net: done.net,
     }
 }
@@ -78,22 +74,19 @@ fn judge_on(
     moves: &mut [u32],
     index: &mut [u16],
     queue: &mut [u16],
-) -> Updated
+) -> Result<Report, Refused>
     requires sane { Sane session (rooms_with labels.now equations.now values.old marks.old moves.old index.old queue.old) }
     requires changes_len_bound { (length changes.now ≤ most_changes) × (changes_ok session.sizes (changes_of changes.now) ≡ true) }
-    ensures { leaves (updated_says result) (rooms_with labels.now equations.now values.new marks.new moves.new index.new queue.new)
+    ensures { leaves (says result) (rooms_with labels.now equations.now values.new marks.new moves.new index.new queue.new)
         ≡ batch_read session (rooms_with labels.now equations.now values.old marks.old moves.old index.old queue.old)
         (batch_in stamp changes.now) }
 {
     let room = moves.len();
     let n = session.moves as usize;
-    let verdict = batch_judge::judge_batch(session, changes, stamp, &moves[..n], room);
-    match verdict {
-        Verdict::Refused(why, at) => Updated::Refused(why, at),
-        Verdict::Good => Updated::Accepted(move_on(
-            session, changes, labels, equations, values, marks, moves, index, queue,
-        )),
-    }
+    batch_judge::judge_batch(session, changes, stamp, &moves[..n], room)?;
+    Ok(move_on(
+        session, changes, labels, equations, values, marks, moves, index, queue,
+    ))
 }
 
 // The bytes read: 1 to 4, or what the batch that they spell comes to.
@@ -107,28 +100,25 @@ fn read_on(
     moves: &mut [u32],
     index: &mut [u16],
     queue: &mut [u16],
-) -> Updated
+) -> Result<Report, Refused>
     requires { Sane session (rooms_with labels.now equations.now values.old marks.old moves.old index.old queue.old) }
-    ensures { leaves (updated_says result) (rooms_with labels.now equations.now values.new marks.new moves.new index.new queue.new)
+    ensures { leaves (says result) (rooms_with labels.now equations.now values.new marks.new moves.new index.new queue.new)
         ≡ batch_bytes session (rooms_with labels.now equations.now values.old marks.old moves.old index.old queue.old) bytes.now }
 {
     let mut changes = [0u32; limits::MOST_CHANGES];
-    let read = batch_read::read_batch(bytes, session.sizes, &mut changes);
-    match read {
-        ReadBatch::Refused(why, at) => Updated::Refused(why, at),
-        ReadBatch::Good(stamp, count) => judge_on(
-            session,
-            &changes[..count],
-            stamp,
-            labels,
-            equations,
-            values,
-            marks,
-            moves,
-            index,
-            queue,
-        ),
-    }
+    let read = batch_read::read_batch(bytes, session.sizes, &mut changes)?;
+    judge_on(
+        session,
+        &changes[..read.changes],
+        read.stamp,
+        labels,
+        equations,
+        values,
+        marks,
+        moves,
+        index,
+        queue,
+    )
 }
 
 // A batch, whole: the answer, and what every room holds afterwards.
@@ -142,27 +132,26 @@ pub fn batch(
     moves: &mut [u32],
     index: &mut [u16],
     queue: &mut [u16],
-) -> Updated
-    ensures { leaves (updated_says result) (rooms_with labels.now equations.now values.new marks.new moves.new index.new queue.new)
+) -> Result<Report, Refused>
+    ensures { leaves (says result) (rooms_with labels.now equations.now values.new marks.new moves.new index.new queue.new)
         ≡ batch session (rooms_with labels.now equations.now values.old marks.old moves.old index.old queue.old) bytes.now }
 {
+    let rooms = SessionRooms {
+        labels,
+        equations,
+        values: &*values,
+        marks: &*marks,
+        moves: &*moves,
+    };
     let lent = Lent {
-        labels: labels.len(),
-        equations: equations.len(),
-        values: values.len(),
-        marks: marks.len(),
-        moves: moves.len(),
         index: index.len(),
         queue: queue.len(),
+        ..session_judge::lengths_of(&rooms)
     };
     let work = limits::work_ok(lent, session.sizes);
-    let found = session_judge::session_refusal(
-        session, labels, equations, values, marks, moves, work,
-    );
-    match found {
-        Checked::Refused(why) => Updated::Refused(why, 0),
-        Checked::Good => read_on(
-            session, bytes, labels, equations, values, marks, moves, index, queue,
-        ),
-    }
+    let found = session_judge::session_refusal(session, &rooms, work);
+    found?;
+    read_on(
+        session, bytes, labels, equations, values, marks, moves, index, queue,
+    )
 }

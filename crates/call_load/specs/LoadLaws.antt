@@ -1,5 +1,5 @@
 -- A load, in the words of the code: what each way out leaves. Assumes nothing.
-use Rattle.std.specs.Prelude.{◌≡◌, refl, Bool, true, ℕ, ◌+◌, ◌≤◌, take, replicate}
+use Rattle.std.specs.Prelude.{◌≡◌, refl, Bool, true, ℕ, ◌+◌, ◌≤◌, take, replicate, Result, Ok, Err}
 use Rattle.std.proofs.Math.Path.{sym, ap, subst}
 use Rattle.std.proofs.Common.{◌∙◌, zero-add}
 use mathlib.Core.List.{List}
@@ -16,16 +16,15 @@ use Rattle.rules.specs.Values.{solve}
 use Rattle.rules.specs.Session.{session_of}
 use Rattle.rules.specs.Calls.{bits, load_by, load, leaves}
 use Rattle.rules.specs.Answers.{number_of}
-use Rattle.rules.specs.declared.Refusal.{Refusal}
+use Rattle.rules.specs.declared.Refused.{Refused}
 use Rattle.rules.specs.declared.Sizes.{Sizes}
 use Rattle.laws.specs.bytes.RecordLaws.{AreBytes, never}
 use Rattle.laws.specs.bytes.ReadSpells.{read-spelling}
 use Rattle.laws.specs.session.SessionHolds.{holds-session, fill-length}
 use Rattle.laws.specs.session.Accepted.{load-solved}
 use Rattle.laws.specs.model.LiveApart.{still, still-good, solve-still}
-use Rattle.model_judge.specs.Turning.{Summary, summary}
-use Rattle.model_judge.specs.declared.ReadModel.{ReadModel}
-use Rattle.model_judge.specs.declared.ReadModel.TheVariants as M
+use Rattle.model_judge.specs.Turning.{summary}
+use Rattle.model_judge.specs.declared.Summary.{Summary}
 use Rattle.model_store.specs.Stored.{Stored, three, stored_by, ReadInto}
 use Rattle.engine_table.specs.Lent.{table_of, Drawn}
 
@@ -78,30 +77,30 @@ module _ (l : Rooms) (m : Model) (w : WellFormed m) (r : lent_ok (lengths_of l) 
       record { long_labels = k.0.0.0; long_equations = k.0.0.1; long_moves = h.room; model = subst WellFormed (sym laid_table) (still-good m w) }
 
 -- The rooms l, and a reading of the bytes s into them that answered r and left u.
-module _ (l : Rooms) (s : List ℕ) (y : AreBytes s) (r : ReadModel) (u : Stored) (h : ReadInto s (lengths_of l) (read_rooms l) r u) where
+module _ (l : Rooms) (s : List ℕ) (y : AreBytes s) (r : Result Summary Refused) (u : Stored) (h : ReadInto s (lengths_of l) (read_rooms l) r u) where
   -- A refusal of the reading is the answer, and the rooms stay.
-  pub load-refused : (why : Refusal) (p : ℕ) → r ≡ M.Refused why p → leaves (refused (number_of why) p) (with_read u l.values l.marks l.index l.queue) ≡ load l s
+  pub load-refused : (e : Refused) → r ≡ Err e → leaves (refused (number_of e.why) e.place) (with_read u l.values l.marks l.index l.queue) ≡ load l s
   unfolding load
-  load-refused why p g = refused-leaves (read_model (lengths_of l) s) (number_of why) p l u (rw g at h.says) h.stores
+  load-refused e g = refused-leaves (read_model (lengths_of l) s) (number_of e.why) e.place l u (rw g at h.says) h.stores
 
-  module _ (z : Sizes) (live n : ℕ) (g : r ≡ M.Good z live n) where
+  module _ (told : Summary) (g : r ≡ Ok told) where
     -- The model that was read, and that it lies in the rooms.
     pub record Found : Type 0 where
       pub model : Model
       pub read : read_model (lengths_of l) s ≡ accepted model
-      pub flag : live ≡ model.live
-      pub count : n ≡ length model.moves
+      pub flag : told.live ≡ model.live
+      pub count : told.moves ≡ length model.moves
       pub stored : u ≡ stored_by (accepted model) (read_rooms l)
-      pub table : table_of z u.labels u.equations u.moves n ≡ still model
-      pub drawn : Drawn z u.labels u.equations u.moves n
-      pub values_room : pairs_of z ≤ length l.values
-      pub marks_room : pairs_of z ≤ length l.marks
+      pub table : table_of told.sizes u.labels u.equations u.moves told.moves ≡ still model
+      pub drawn : Drawn told.sizes u.labels u.equations u.moves told.moves
+      pub values_room : pairs_of told.sizes ≤ length l.values
+      pub marks_room : pairs_of told.sizes ≤ length l.marks
       pub moves_room : length u.moves ≡ length l.moves
-      pub index_room : index_needs z (length u.moves) ≤ length l.index
-      pub queue_room : queue_needs z ≤ length l.queue
+      pub index_room : index_needs told.sizes (length u.moves) ≤ length l.index
+      pub queue_room : queue_needs told.sizes ≤ length l.queue
 
     -- It is found from what the rules' reading comes to.
-    found-by : (m : Model) → read_model (lengths_of l) s ≡ accepted m → z ≡ m.sizes → live ≡ m.live → n ≡ length m.moves → Found
+    found-by : (m : Model) → read_model (lengths_of l) s ≡ accepted m → told.sizes ≡ m.sizes → told.live ≡ m.live → told.moves ≡ length m.moves → Found
     unfolding rooms_ok work_ok lent_ok
     found-by m e a d b =
         let w = read-spelling (lengths_of l) s m y e in
@@ -125,28 +124,28 @@ module _ (l : Rooms) (s : List ℕ) (y : AreBytes s) (r : ReadModel) (u : Stored
 
     -- And from what the code's reading answered.
     pub found : Found
-    found = let q = good-model (read_model (lengths_of l) s) z live n (rw g at h.says) in found-by q.0 q.1 q.2 q.3 q.4
+    found = let q = good-model (read_model (lengths_of l) s) told.sizes told.live told.moves (rw g at h.says) in found-by q.0 q.1 q.2 q.3 q.4
 
     -- A model that was read is the session, and the values found for what lies in the rooms are its own.
     pub load-good : (values marks index queue : List ℕ) (stamp : ℕ)
-        → values ≡ fill (bits (pairs_of z) (at (solve (table_of z u.labels u.equations u.moves n)))) l.values
-        → marks ≡ fill (replicate (pairs_of z) 0) l.marks → index ≡ index_after z (length u.moves) l.index → queue ≡ queue_after z l.queue → stamp ≡ stamp_of (take n u.moves)
-        → leaves (accepted (record { sizes = z; live = live; moves = n; stamp = stamp })) (with_read u values marks index queue) ≡ load l s
+        → values ≡ fill (bits (pairs_of told.sizes) (at (solve (table_of told.sizes u.labels u.equations u.moves told.moves)))) l.values
+        → marks ≡ fill (replicate (pairs_of told.sizes) 0) l.marks → index ≡ index_after told.sizes (length u.moves) l.index → queue ≡ queue_after told.sizes l.queue → stamp ≡ stamp_of (take told.moves u.moves)
+        → leaves (accepted (record { sizes = told.sizes; live = told.live; moves = told.moves; stamp = stamp })) (with_read u values marks index queue) ≡ load l s
     unfolding load
     load-good values marks index queue stamp a b j q d =
         let f = found in
         let t = f.table in
-        let zs : z ≡ f.model.sizes = ap (λ (x : Model). x.sizes) t in
+        let zs : told.sizes ≡ f.model.sizes = ap (λ (x : Model). x.sizes) t in
         let vs : values ≡ fill (bits (pairs_of f.model.sizes) (at (solve f.model))) l.values =
         a ∙ ap (λ (x : Model). fill (bits (pairs_of x.sizes) (at (solve x))) l.values) t
         ∙ ap (λ (v : List Bool). fill (bits (pairs_of f.model.sizes) (at v)) l.values) (solve-still f.model) in
         let ks : marks ≡ fill (replicate (pairs_of f.model.sizes) 0) l.marks =
         b ∙ ap (λ (x : Sizes). fill (replicate (pairs_of x) 0) l.marks) zs in
         let js : index ≡ index_after f.model.sizes (length l.moves) l.index =
-        j ∙ ap (λ (x : Sizes). index_after x (length u.moves) l.index) zs ∙ ap (λ (n : ℕ). index_after f.model.sizes n l.index) f.moves_room in
+        j ∙ ap (λ (x : Sizes). index_after x (length u.moves) l.index) zs ∙ ap (λ (i : ℕ). index_after f.model.sizes i l.index) f.moves_room in
         let qs : queue ≡ queue_after f.model.sizes l.queue = q ∙ ap (λ (x : Sizes). queue_after x l.queue) zs in
         let ss : stamp ≡ stamp_of f.model.moves = d ∙ ap (λ (x : Model). stamp_of x.moves) t in
-        let is : leaves (accepted (record { sizes = z; live = live; moves = n; stamp = stamp })) (with_read u values marks index queue) ≡ load_by l (accepted f.model) =
+        let is : leaves (accepted (record { sizes = told.sizes; live = told.live; moves = told.moves; stamp = stamp })) (with_read u values marks index queue) ≡ load_by l (accepted f.model) =
         λ i. record {
           answer = accepted (record { sizes = zs i; live = f.flag i; moves = f.count i; stamp = ss i });
           rooms = with_read (f.stored i) (vs i) (ks i) (js i) (qs i);

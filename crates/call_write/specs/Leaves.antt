@@ -1,5 +1,5 @@
 -- The writing of a session that was found good, in the words of the writer's functions. Assumes nothing.
-use Rattle.std.specs.Prelude.{◌≡◌, true, List, ◌++◌, ℕ, ◌≤◌, ◌<◌, length, take, drop}
+use Rattle.std.specs.Prelude.{◌≡◌, Result, Ok, true, List, ◌++◌, ℕ, ◌≤◌, ◌<◌, length, take, drop}
 use Rattle.std.proofs.Common.{sym, ap, ◌∙◌, append-nil, arith, length-take-le}
 use Rattle.std.proofs.Math.Seq.{drop-length}
 use Rattle.lists.specs.Lists.{fill}
@@ -9,18 +9,17 @@ use Rattle.rules.specs.Rooms.{Rooms}
 use Rattle.rules.specs.Spelling.{encode}
 use Rattle.rules.specs.Session.{held}
 use Rattle.rules.specs.Calls.{write, leaves}
+use Rattle.rules.specs.declared.Refusal.{Refusal}
 use Rattle.rules.specs.declared.Session.{Session}
 use Rattle.session_check.specs.Fitting.{Fits}
 use Rattle.session_judge.specs.Checks.{check_of, checked_says}
 use Rattle.session_judge.specs.Passed.{passed-fits}
 use Rattle.call_write.specs.WriteLaws.{good_length, write-short, write-good}
-use Rattle.session_judge.specs.declared.Checked.{Checked}
-use Rattle.session_judge.specs.declared.Checked.TheVariants as Found
 use Rattle.model_write.specs.Spelled.{HasRoom, Wrote, length_by}
 use Rattle.model_write.specs.SpelledLaws.{wrote-fills}
 
 -- A session that was checked, and nothing wrong was found.
-module _ (s : Session) (l : Rooms) (out : List ℕ) (found : Checked) (h : checked_says found ≡ check_of true s l) (g : found ≡ Found.Good) where
+module _ (s : Session) (l : Rooms) (out : List ℕ) (found : Result (Unit {0}) Refusal) (h : checked_says found ≡ check_of true s l) (g : found ≡ Ok tt) where
   -- The rooms can be cut to their lengths.
   pub good-fits : Fits s l
   good-fits = passed-fits true s l found h g

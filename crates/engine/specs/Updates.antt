@@ -1,7 +1,7 @@
 -- What an update leaves in the rooms, and what a load does. Assumes nothing.
 use Rattle.std.specs.Prelude.{◌≡◌, refl, true, false, ℕ, ◌+◌, ◌≤◌, ◌<◌, length, get_or, take, drop, replicate, eqb, ℤ, pos, ◌-ℤ◌}
 use Rattle.std.proofs.Math.Path.{sym, ap, fun_ext}
-use Rattle.std.proofs.Common.{ap₂, ◌∙◌, subst, inl, inr, arith, length-append, get_or-take, take_at, length-take-le, mul_comm}
+use Rattle.std.proofs.Common.{ap₂, ◌∙◌, subst, inl, inr, arith, length-append, get_or-take, take_at, mul_comm}
 use mathlib.Core.List.{List, [], ◌++◌}
 use Rattle.std.proofs.Math.Decide.{dec_lt}
 use Rattle.std.proofs.lemmas.List.{length-replicate}
@@ -32,8 +32,6 @@ use Rattle.laws.specs.demands.ValuesSolve.{solve-same}
 use Rattle.laws.specs.model.UpdateMoves.{update-values, update-shifted, update-settled, visits-agree}
 use Rattle.rules.specs.Limits.{most_moves}
 use Rattle.rules.specs.declared.Sizes.{Sizes}
-use Rattle.engine_table.specs.Lent.{Drawn, drawn-cut}
-use Rattle.engine_table.specs.Limits.{limits}
 use Rattle.engine_index.specs.Indexed.{heads_of}
 use Rattle.engine_values.specs.Starts.{part-changed, net-counted}
 use Rattle.engine_values.specs.Differences.{sub_same}
@@ -285,13 +283,6 @@ pub cleared-again : (n : ℕ) (room cleared part again : List ℕ) → cleared �
 cleared-again n room cleared part again e l f =
     f ∙ fill-over n cleared part l
     ∙ fill-again n (replicate n 0) (replicate n 0) cleared room (length-replicate n 0) (length-replicate n 0) e
-
--- A model in rooms holds no more moves than the limit.
-pub lent-few : (z : Sizes) (labels equations moves : List ℕ) (n : ℕ) → Drawn z labels equations moves n → n ≤ most_moves
-lent-few z labels equations moves n d =
-    let k = (limits (drawn-cut z labels equations moves n d)).1.1.1 in
-    let e = length-take-le n moves d.long_moves in
-    omega arith
 
 -- The index has a head for each action and target, and a link for each move.
 pub links-fit : (z : Sizes) (room n : ℕ) → n ≤ room → n ≤ most_moves → heads_of z + n ≤ index_needs z room

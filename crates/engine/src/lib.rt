@@ -11,32 +11,41 @@ ghost use Rattle.rules.specs.Values.{solve};
 ghost use Rattle.lists.specs.Lists.{fill};
 ghost use Rattle.lists.specs.Smallest.{at};
 ghost use Rattle.words.specs.Words.{changes_of};
-ghost use Rattle.engine_table.specs.Table.{table_in, model_of};
+ghost use Rattle.engine_table.specs.Sketch.{sketch};
+ghost use Rattle.engine_table.specs.Table.{model_of};
 ghost use Rattle.engine_table.specs.Table as cut;
 ghost use Rattle.engine_table.specs.Lent.{table_of, Drawn};
-ghost use Rattle.engine_index.specs.Indexed.{heads_of, Indexed};
+ghost use Rattle.engine_index.specs.At.{at_labels};
+ghost use Rattle.engine_index.specs.Indexed.{heads_of};
 ghost use Rattle.engine_index.specs.Operands.{Named};
 ghost use Rattle.engine_phase.specs.Started.{Started};
 ghost use Rattle.engine_phase.specs.Levels.{Levelled};
+ghost use Rattle.engine.specs.Held.{model_in};
 ghost use Rattle.engine.specs.Updates.{Moved, MovedIn, Leaves};
 
+use engine_index::Known;
+use engine_phase::Counts;
+use held::Held;
 use rules::{Sizes, Visits};
+
+mod held;
 
 // What the turns of an update count: the visits, and a level that is as many as there are pairs at first and follows the number of
 // true pairs.
-#[derive(Clone, Copy)]
+#[derive(Clone, Copy, Debug, PartialEq, Eq)]
 pub struct Turns {
     pub visits: Visits,
     pub level: usize,
 }
 
+// The rooms are parameters, as C lends them: behind a `&mut` to a struct of `&mut` slices the check covers no call that is lent two of them.
+// The moves come whole to `update` and `load_values`, with their number beside them, since the length of their room says how far the rooms
+// to work in are cleared.
+
 // All blocks in order, each shifted and then settled.
 fn turn_blocks(
-    sizes: Sizes,
+    known: &Known,
     labels: &[u32],
-    equations: &[u32],
-    moves: &[u32],
-    index: &[u16],
     operand: &[u64],
     changes: &[u32],
     values: &mut [u8],
@@ -44,114 +53,102 @@ fn turn_blocks(
     queue: &mut [u16],
     bad: &mut [u8],
 ) -> Turns
-    requires drawn { cut.Drawn (table_in sizes labels.now equations.now moves.now) }
-    requires indexed { (Indexed (table_in sizes labels.now equations.now moves.now) index.now × Named (table_in sizes labels.now equations.now moves.now) operand.now) × (changes_ok sizes (changes_of changes.now) ≡ true) }
-    requires bad_len { (length bad.old ≡ sizes.states) × (pairs_of sizes < length queue.old) }
-    requires started { Started (model_of (table_in sizes labels.now equations.now moves.now)) (changes_of changes.now) values.old × (marks.old ≡ replicate (pairs_of sizes) 0) }
-    ensures { Moved (model_of (table_in sizes labels.now equations.now moves.now)) (changes_of changes.now) values.old values.new marks.new result.visits.shift result.visits.settle × Levelled sizes (pairs_of sizes) values.old result.level values.new }
+    requires drawn { cut.Drawn (at_labels known.now labels.now) }
+    requires named { Named (sketch known.now.sizes known.now.equations.now known.now.moves.now) operand.now × (changes_ok known.now.sizes (changes_of changes.now) ≡ true) }
+    requires bad_len { (length bad.old ≡ known.now.sizes.states) × (pairs_of known.now.sizes < length queue.old) }
+    requires started { Started (model_of (at_labels known.now labels.now)) (changes_of changes.now) values.old × (marks.old ≡ replicate (pairs_of known.now.sizes) 0) }
+    ensures { Moved (model_of (at_labels known.now labels.now)) (changes_of changes.now) values.old values.new marks.new result.visits.shift result.visits.settle × Levelled known.now.sizes (pairs_of known.now.sizes) values.old result.level values.new }
 {
-    let blocks = engine_values::count_blocks(equations);
+    let blocks = engine_values::count_blocks(known.equations);
     let mut shifts: usize = 0;
     let mut settles: usize = 0;
     let mut level = values.len();
-    let mut i: usize = 0;
-    while i < blocks {
+    for i in 0..blocks {
+        let before = Counts {
+            visits: shifts,
+            level,
+        };
         let shifted = engine_phase::phase(
-            sizes, labels, equations, moves, index, operand, changes, values, marks, queue, bad, i,
-            shifts, level, false,
+            known, labels, operand, changes, values, marks, queue, bad, i, before, false,
         );
         shifts = shifted.visits;
-        level = shifted.level;
+        let between = Counts {
+            visits: settles,
+            level: shifted.level,
+        };
         let settled = engine_phase::phase(
-            sizes, labels, equations, moves, index, operand, changes, values, marks, queue, bad, i,
-            settles, level, true,
+            known, labels, operand, changes, values, marks, queue, bad, i, between, true,
         );
         settles = settled.visits;
         level = settled.level;
-        i = i + 1;
     }
     let shift = shifts as u32;
     let settle = settles as u32;
-    let visits = Visits {
-        shift: shift,
-        settle: settle,
-    };
-    Turns {
-        visits: visits,
-        level: level,
-    }
+    let visits = Visits { shift, settle };
+    Turns { visits, level }
 }
 
 // Builds the indexes, and turns all blocks by them. The heads of the index are 0 at the start.
 fn index_and_turn(
-    sizes: Sizes,
-    labels: &[u32],
-    equations: &[u32],
-    moves: &[u32],
+    held: &Held,
     changes: &[u32],
     values: &mut [u8],
     marks: &mut [u8],
     index: &mut [u16],
     queue: &mut [u16],
 ) -> Turns
-    requires drawn { cut.Drawn (table_in sizes labels.now equations.now moves.now) }
-    requires changes_value { changes_ok sizes (changes_of changes.now) ≡ true }
-    requires started { Started (model_of (table_in sizes labels.now equations.now moves.now)) (changes_of changes.now) values.old × (marks.old ≡ replicate (pairs_of sizes) 0) }
-    requires moves_in_bounds { ((heads_of sizes + length moves.now ≤ length index.old) × ((k : ℕ) → k < heads_of sizes → get_or index.old k 0 ≡ 0)) × (pairs_of sizes < length queue.old) }
-    ensures { Moved (model_of (table_in sizes labels.now equations.now moves.now)) (changes_of changes.now) values.old values.new marks.new result.visits.shift result.visits.settle × Levelled sizes (pairs_of sizes) values.old result.level values.new }
+    requires changes_value { changes_ok held.now.sizes (changes_of changes.now) ≡ true }
+    requires started { Started (model_in held.now) (changes_of changes.now) values.old × (marks.old ≡ replicate (pairs_of held.now.sizes) 0) }
+    requires moves_in_bounds { ((heads_of held.now.sizes + length held.now.moves.now ≤ length index.old) × ((k : ℕ) → k < heads_of held.now.sizes → get_or index.old k 0 ≡ 0)) × (pairs_of held.now.sizes < length queue.old) }
+    ensures { Moved (model_in held.now) (changes_of changes.now) values.old values.new marks.new result.visits.shift result.visits.settle × Levelled held.now.sizes (pairs_of held.now.sizes) values.old result.level values.new }
 {
     let mut operand = [0u64; 96];
     let mut bad = [0u8; 256];
+    let sizes = held.sizes;
+    let equations = held.equations;
+    let moves = held.moves;
     let states = sizes.states as usize;
     engine_index::name_operands(sizes, equations, &mut operand);
     engine_index::index_moves(sizes, moves, index);
-    turn_blocks(
+    let known = Known {
         sizes,
-        labels,
         equations,
         moves,
         index,
+    };
+    let part = &mut bad[..states];
+    turn_blocks(
+        &known,
+        held.labels,
         &operand,
         changes,
         values,
         marks,
         queue,
-        &mut bad[..states],
+        part,
     )
 }
 
-// The values follow the changes in rooms that may be longer than the model; the marks are cleared first. The rooms to work in are cut
-// to what is needed, and the heads of the index are 0.
+// The values follow the changes in rooms that may be longer than the model; the marks are cleared first. The heads of the index are 0.
 fn move_values(
-    sizes: Sizes,
-    labels: &[u32],
-    equations: &[u32],
-    moves: &[u32],
-    n: usize,
+    held: &Held,
     changes: &[u32],
-    count: usize,
     values: &mut [u8],
     marks: &mut [u8],
     index: &mut [u16],
     queue: &mut [u16],
 ) -> Turns
-    requires drawn { Drawn sizes labels.now equations.now moves.now n }
-    requires changes_value { changes_ok sizes (changes_of (take count changes.now)) ≡ true }
-    requires started { Started (table_of sizes labels.now equations.now moves.now n) (changes_of (take count changes.now)) (take (pairs_of sizes) values.old) }
-    requires sizes_in_bounds { ((pairs_of sizes ≤ length values.old) × (pairs_of sizes ≤ length marks.old)) × (count ≤ length changes.now) }
-    requires n_in_bounds { ((heads_of sizes + n ≤ length index.old) × ((k : ℕ) → k < heads_of sizes → get_or index.old k 0 ≡ 0)) × (pairs_of sizes < length queue.old) }
-    ensures { MovedIn (table_of sizes labels.now equations.now moves.now n) (changes_of (take count changes.now)) values.old marks.old values.new marks.new result.visits.shift result.visits.settle result.level }
+    requires changes_value { changes_ok held.now.sizes (changes_of changes.now) ≡ true }
+    requires started { Started (model_in held.now) (changes_of changes.now) (take (pairs_of held.now.sizes) values.old) }
+    requires sizes_in_bounds { (pairs_of held.now.sizes ≤ length values.old) × (pairs_of held.now.sizes ≤ length marks.old) }
+    requires moves_in_bounds { ((heads_of held.now.sizes + length held.now.moves.now ≤ length index.old) × ((k : ℕ) → k < heads_of held.now.sizes → get_or index.old k 0 ≡ 0)) × (pairs_of held.now.sizes < length queue.old) }
+    ensures { MovedIn (model_in held.now) (changes_of changes.now) values.old marks.old values.new marks.new result.visits.shift result.visits.settle result.level }
 {
-    let p = limits::pairs_of(sizes);
-    let states = sizes.states as usize;
-    let variables = sizes.variables as usize;
-    engine_values::clear(marks, p);
+    let p = limits::pairs_of(held.sizes);
+    engine_values::set_first(marks, p, 0);
     index_and_turn(
-        sizes,
-        &labels[..states],
-        &equations[..variables],
-        &moves[..n],
-        &changes[..count],
+        held,
+        changes,
         &mut values[..p],
         &mut marks[..p],
         index,
@@ -166,54 +163,67 @@ fn clear_work(sizes: Sizes, room: usize, index: &mut [u16], queue: &mut [u16])
 {
     let links = limits::index_needs(sizes, room);
     let waiting = limits::queue_needs(sizes);
-    engine_values::clear_halves(index, links);
-    engine_values::clear_halves(queue, waiting);
+    engine_values::set_first(index, links, 0);
+    engine_values::set_first(queue, waiting, 0);
 }
 
-// The same, with rooms to work in that may be longer than needed: their places that are used are 0 afterwards.
+// The same, with rooms to work in that may be longer than needed: their places that are used are 0 afterwards. `room` is the length of the
+// move room.
 fn move_in_rooms(
-    sizes: Sizes,
-    labels: &[u32],
-    equations: &[u32],
-    moves: &[u32],
-    n: usize,
+    held: &Held,
+    room: usize,
     changes: &[u32],
-    count: usize,
     values: &mut [u8],
     marks: &mut [u8],
     index: &mut [u16],
     queue: &mut [u16],
 ) -> Turns
-    requires drawn { Drawn sizes labels.now equations.now moves.now n }
-    requires changes_value { changes_ok sizes (changes_of (take count changes.now)) ≡ true }
-    requires started { Started (table_of sizes labels.now equations.now moves.now n) (changes_of (take count changes.now)) (take (pairs_of sizes) values.old) }
-    requires sizes_in_bounds { ((pairs_of sizes ≤ length values.old) × (pairs_of sizes ≤ length marks.old)) × (count ≤ length changes.now) }
-    requires moves_in_bounds { (index_needs sizes (length moves.now) ≤ length index.old) × (queue_needs sizes ≤ length queue.old) }
-    ensures { MovedIn (table_of sizes labels.now equations.now moves.now n) (changes_of (take count changes.now)) values.old marks.old values.new marks.new result.visits.shift result.visits.settle result.level
-        × ((index.new ≡ index_after sizes (length moves.now) index.old) × (queue.new ≡ queue_after sizes queue.old)) }
+    requires changes_value { changes_ok held.now.sizes (changes_of changes.now) ≡ true }
+    requires started { Started (model_in held.now) (changes_of changes.now) (take (pairs_of held.now.sizes) values.old) }
+    requires sizes_in_bounds { (pairs_of held.now.sizes ≤ length values.old) × (pairs_of held.now.sizes ≤ length marks.old) }
+    requires moves_in_bounds { (length held.now.moves.now ≤ room) × ((index_needs held.now.sizes room ≤ length index.old) × (queue_needs held.now.sizes ≤ length queue.old)) }
+    ensures { MovedIn (model_in held.now) (changes_of changes.now) values.old marks.old values.new marks.new result.visits.shift result.visits.settle result.level
+        × ((index.new ≡ index_after held.now.sizes room index.old) × (queue.new ≡ queue_after held.now.sizes queue.old)) }
 {
-    let links = limits::index_needs(sizes, moves.len());
+    let sizes = held.sizes;
+    let links = limits::index_needs(sizes, room);
     let waiting = limits::queue_needs(sizes);
-    engine_values::clear_halves(index, links);
+    engine_values::set_first(index, links, 0);
     let turns = move_values(
-        sizes,
-        labels,
-        equations,
-        moves,
-        n,
+        held,
         changes,
-        count,
         values,
         marks,
         &mut index[..links],
         &mut queue[..waiting],
     );
-    clear_work(sizes, moves.len(), index, queue);
+    clear_work(sizes, room, index, queue);
     turns
 }
 
+// The model that the sizes and the move count cut out of the rooms.
+fn cut_out<'a>(
+    sizes: Sizes,
+    labels: &'a [u32],
+    equations: &'a [u32],
+    moves: &'a [u32],
+    n: usize,
+) -> Held<'a>
+    requires { Drawn sizes labels.now equations.now moves.now n }
+    ensures { model_in result ≡ table_of sizes labels.now equations.now moves.now n }
+{
+    let states = sizes.states as usize;
+    let variables = sizes.variables as usize;
+    Held {
+        sizes,
+        labels: &labels[..states],
+        equations: &equations[..variables],
+        moves: &moves[..n],
+    }
+}
+
 // What an update reports: the visits, and the change in the number of true pairs.
-#[derive(Clone, Copy)]
+#[derive(Clone, Copy, Debug, PartialEq, Eq)]
 pub struct Effects {
     pub visits: Visits,
     pub net: i32,
@@ -227,28 +237,27 @@ pub fn update(
     moves: &[u32],
     n: usize,
     changes: &[u32],
-    count: usize,
     values: &mut [u8],
     marks: &mut [u8],
     index: &mut [u16],
     queue: &mut [u16],
 ) -> Effects
     requires drawn { Drawn sizes labels.now equations.now moves.now n }
-    requires changes_value { changes_ok sizes (changes_of (take count changes.now)) ≡ true }
-    requires started { Started (table_of sizes labels.now equations.now moves.now n) (changes_of (take count changes.now)) (take (pairs_of sizes) values.old) }
-    requires sizes_in_bounds { ((pairs_of sizes ≤ length values.old) × (pairs_of sizes ≤ length marks.old)) × ((count ≤ most_changes) × (count ≤ length changes.now)) }
+    requires changes_value { changes_ok sizes (changes_of changes.now) ≡ true }
+    requires started { Started (table_of sizes labels.now equations.now moves.now n) (changes_of changes.now) (take (pairs_of sizes) values.old) }
+    requires sizes_in_bounds { ((pairs_of sizes ≤ length values.old) × (pairs_of sizes ≤ length marks.old)) × (length changes.now ≤ most_changes) }
     requires moves_in_bounds { (index_needs sizes (length moves.now) ≤ length index.old) × (queue_needs sizes ≤ length queue.old) }
-    ensures { (Leaves (table_of sizes labels.now equations.now moves.now n) (turn_all (table_of sizes labels.now equations.now moves.now n) (changes_of (take count changes.now)) (value_at values.old))
+    ensures { (Leaves (table_of sizes labels.now equations.now moves.now n) (turn_all (table_of sizes labels.now equations.now moves.now n) (changes_of changes.now) (value_at values.old))
         values.old marks.old values.new marks.new result.visits.shift result.visits.settle result.net)
         × ((index.new ≡ index_after sizes (length moves.now) index.old) × (queue.new ≡ queue_after sizes queue.old)) }
 {
     let p = limits::pairs_of(sizes);
-    let turns = move_in_rooms(
-        sizes, labels, equations, moves, n, changes, count, values, marks, index, queue,
-    );
+    let held = cut_out(sizes, labels, equations, moves, n);
+    let room = moves.len();
+    let turns = move_in_rooms(&held, room, changes, values, marks, index, queue);
     let visits = turns.visits;
     Effects {
-        visits: visits,
+        visits,
         net: engine_values::net(p, turns.level),
     }
 }
@@ -274,8 +283,7 @@ pub fn load_values(
 {
     let p = limits::pairs_of(sizes);
     engine_values::own_values(sizes, equations, p, values);
-    move_in_rooms(
-        sizes, labels, equations, moves, n, labels, 0, values, marks, index, queue,
-    );
-    engine_values::clear(marks, p);
+    let held = cut_out(sizes, labels, equations, moves, n);
+    move_in_rooms(&held, moves.len(), &[], values, marks, index, queue);
+    engine_values::set_first(marks, p, 0);
 }

@@ -2,7 +2,10 @@ pub mod Chains
 pub mod ChainLaws
 pub mod ChainWalks
 pub mod Indexed
+pub mod Walks
+pub mod Targets
 pub mod MovesIndexed
 pub mod Operands
 pub mod OperandLaws
 pub mod WordParts
+pub mod At

@@ -9,7 +9,7 @@ use Rattle.std.proofs.Math.Decide.{ℕ_discrete}
 use native.Mathlib.Omega.{arith}
 use Rattle.lists.specs.Sums.{bit_le}
 use Rattle.lists.specs.TableLaws.{listed-is}
-use Rattle.lists.specs.Tests.{tell, not-not, and_is, and_left, and-true, eqb-in, eqb-out, eqb_no, ltb-is, ltb_no, leb-is}
+use Rattle.lists.specs.Tests.{tell, not-not, and_is, and_left, eqb-in, eqb-out, eqb_no, ltb-is, ltb_no, leb-is}
 use Rattle.rules.specs.declared.Equation.{Equation}
 use Rattle.rules.specs.Session.{unword}
 use Rattle.rules.specs.Limits.{most_states, most_actions, most_variables}
@@ -51,19 +51,8 @@ module _ (equations : List ℕ) where
     unfolding name_at
     names-none h = let f = sym h ∙ s.told in rw (sym f) refl
 
-  -- The slots of a variable, by the numbers that were read out of its word.
+  -- The slot of the first operand of a variable, by the numbers that were read out of its word.
   module _ (y o a b i k : ℕ) (r : ReadsAs (unword (get_or equations y 0)) o a b i k) (h : y < length equations) where
-    pub second-slot : Slot equations (2 * y) b y (leb 4 o)
-    second-slot =
-        let f : 2 * y / 2 ≡ y = omega arith in
-        let d : 2 * y % 2 ≡ 0 = omega arith in
-        record {
-          inside = omega arith;
-          owner = omega arith;
-          told = rw (d, f, sym r.is_operator) (sym (and-true (leb 4 o)));
-          names = rw (d, f) r.is_second;
-        }
-
     pub first_slot : Slot equations (2 * y + 1) a y (leb 4 o && ltb o 6)
     first_slot =
         let f : (2 * y + 1) / 2 ≡ y = omega arith in

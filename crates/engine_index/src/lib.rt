@@ -4,12 +4,28 @@
 ghost use Rattle.std.specs.Prelude.{◌≡◌, true, suc, ◌+◌, ◌*◌, ◌≤◌, ◌<◌, length};
 ghost use Rattle.rules.specs.Session.{unword};
 ghost use Rattle.engine_index.specs.Chains.{link, linked};
-ghost use Rattle.engine_index.specs.Indexed.{key_of, heads_of};
+ghost use Rattle.engine_table.specs.Sketch.{bare};
+ghost use Rattle.engine_table.specs.Table.{Drawn};
+ghost use Rattle.engine_index.specs.Indexed.{key_of, heads_of, Indexed};
 ghost use Rattle.engine_index.specs.MovesIndexed.{Headed};
 ghost use Rattle.rules.specs.Limits.{most_states, most_actions, most_variables};
-ghost use Rattle.engine_index.specs.Operands.{is_step, slot_word, link_in, step_in, easy_in, waits_in, owner_in, row_in, heads_in, put_first, Blank, NamedUpTo, Naming, Slot};
+ghost use Rattle.engine_index.specs.Operands.{is_step, slot_word, link_in, step_in, easy_in, waits_in, owner_in, row_in, heads_in, put_first, Blank, Named, NamedUpTo, Naming, Slot};
 
 use rules::{Sizes, State, Variable};
+
+pub mod chains;
+
+// What an update has at hand of its model: the sizes, the equations, the moves, and the index that chains the moves. With some labels it
+// is one that a load accepts, and then also with none at any state.
+#[derive(Clone, Copy)]
+pub struct Known<'a> {
+    pub sizes: Sizes,
+    pub equations: &'a [u32],
+    pub moves: &'a [u32],
+    pub index: &'a [u16],
+    pub ghost drawn: { Drawn (bare sizes equations.now moves.now) },
+    pub ghost indexed: { Indexed (bare sizes equations.now moves.now) index.now },
+}
 
 // How many heads the index of the moves has.
 pub fn heads_of(sizes: Sizes) -> usize
@@ -44,11 +60,8 @@ pub fn index_moves(sizes: Sizes, moves: &[u32], index: &mut [u16])
     requires moves_in_bounds { heads_of sizes + length moves.now ≤ length index.old }
     ensures { index.new ≡ linked (key_of sizes) 0 (heads_of sizes) moves.now (length moves.now) index.old }
 {
-    let n = moves.len();
-    let mut j: usize = 0;
-    while j < n {
+    for j in 0..moves.len() {
         put_link(sizes, moves, j, index);
-        j = j + 1;
     }
 }
 
@@ -60,7 +73,9 @@ fn begins(sizes: Sizes, x: u64) -> u64
     x * sizes.states as u64
 }
 
-// The word of the slots of the variable y without a link, where w is the word of its equation.
+// The word of the slots of the variable y without a link, where w is the word of its equation. All parts lie in one number of 64 bits, which
+// a visit reads at once, and 96 of them on the stack of an update; a link of 0 is none, as `link_in` (specs/Operands) says.
+#[tactic(auto, unfolding(crate::specs::Operands::slot_word))]
 fn slot_word(sizes: Sizes, w: u32, y: usize) -> u64
     requires y_lt_most_variables { (y < most_variables) × (sizes.states ≤ most_states) }
     requires w_bound { is_step (unword w) ≡ true → (unword w).first < most_actions }
@@ -143,7 +158,7 @@ fn put_first(x: usize, slot: usize, word: u64, operand: &mut [u64])
 }
 
 // The slot, which stands for the variable x in the equation of y if y has it, is put at the head of x's chain, where x lies in
-// y's own block.
+// y's own block. Whether y has it is asked here, and not twice by who calls.
 fn put_operand(
     sizes: Sizes,
     equations: &[u32],
@@ -191,10 +206,7 @@ pub fn name_operands(sizes: Sizes, equations: &[u32], operand: &mut [u64])
     requires blank { Blank (length equations.now) operand.old }
     ensures { NamedUpTo sizes equations.now (2 * length equations.now) operand.new }
 {
-    let n = equations.len();
-    let mut y: usize = 0;
-    while y < n {
+    for y in 0..equations.len() {
         put_operands(sizes, equations, y, operand);
-        y = y + 1;
     }
 }

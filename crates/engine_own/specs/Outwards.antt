@@ -1,6 +1,9 @@
 -- A look outwards from one move of a part, at both sides in turn: what has been passed, and what is told when it is over. Assumes nothing.
-use Rattle.std.specs.Prelude.{◌≡◌, Bool, true, false, List, ℕ, ◌+◌, ◌-◌, ◌≤◌, ◌<◌, length, get_or, eqb}
-use Rattle.std.proofs.Math.Path.{refl}
+use Rattle.std.specs.Prelude.{◌≡◌, Bool, true, false, not, ◌&&◌, List, Option, Some, None, ℕ, ◌+◌, ◌-◌, ◌≤◌, ◌<◌, length, get_or, eqb}
+use mathlib.Core.Bool.{beq}
+use Rattle.std.specs.Option.{is_some, option_eq}
+use mir.Val.{bool_byte}
+use Rattle.std.proofs.Math.Path.{refl, ap}
 use Rattle.std.proofs.Math.Logic.{inl, inr}
 use Rattle.std.proofs.Math.Decide.{dec_lt}
 use native.Mathlib.Omega.{arith}
@@ -9,30 +12,49 @@ use Rattle.moves.specs.Ascending.{ascends}
 use Rattle.engine_own.specs.Looks.{some_own, says, says_at, says_before}
 use Rattle.engine_own.specs.Places.{begins, ends, ends-inside, stands-in, stands-out, any_at, any_none}
 use Rattle.words.specs.Words.{own_of}
+use Rattle.words.specs.WordLaws.{byte_small}
+
+-- The test whether an answer is that it does.
+pub is-yes : (r : Option Bool) → option_eq beq r (Some true) ≡ true → r ≡ Some true
+is-yes None e = cc
+is-yes (Some true) e = refl
+is-yes (Some false) e = cc
+
+pub is-not : (r : Option Bool) → option_eq beq r (Some true) ≡ false → r ≡ Some true → ⊥
+is-not None e h = cc
+is-not (Some true) e h = cc
+is-not (Some false) e h = cc
+
+-- Where neither of two answers is there, they pass none; else they pass one at least.
+pub both-over : (r s a b : Bool) → r ≡ not a → s ≡ not b → (a && b ≡ true → bool_byte r + bool_byte s ≡ 0) × (a && b ≡ false → bool_byte r + bool_byte s ≡ 0 → ⊥)
+both-over r s true true e f = (λ h. rw (e, f) refl, λ h. cc)
+both-over r s true false e f = (λ h. cc, λ h k. let u = ap bool_byte f in omega arith)
+both-over r s false true e f = (λ h. cc, λ h k. let u = ap bool_byte e in omega arith)
+both-over r s false false e f = (λ h. cc, λ h k. let u = ap bool_byte e in omega arith)
 
 -- What an answer tells: that a side is over, that one more is passed, or that one is found.
-data Told (over passed found : Type 0) (r : ℕ) : Type 0 where
-  stops : r ≡ 0 → over → Told over passed found r
-  goes : r ≡ 1 → passed → Told over passed found r
-  hits : r ≡ 2 → found → Told over passed found r
+data Told (over passed found : Type 0) (r : Option Bool) : Type 0 where
+  stops : r ≡ None → over → Told over passed found r
+  goes : r ≡ Some false → passed → Told over passed found r
+  hits : r ≡ Some true → found → Told over passed found r
 
--- Where the answer is 2, one is found.
-told-found : {o p q : Type 0} {r : ℕ} → Told o p q r → r ≡ 2 → q
-told-found (stops e x) h = absurd (omega arith)
-told-found (goes e x) h = absurd (omega arith)
+-- Where the answer is that it does, one is found.
+told-found : {o p q : Type 0} {r : Option Bool} → Told o p q r → r ≡ Some true → q
+told-found (stops e x) h = cc
+told-found (goes e x) h = cc
 told-found (hits e x) h = x
 
--- Where it is not, it is 1 or 0, and 1 only where one more is passed.
-told-passed : {o p q : Type 0} {r : ℕ} → Told o p q r → (r ≡ 2 → ⊥) → (r ≤ 1) × (0 < r → p)
-told-passed (stops e x) h = (omega arith, λ k. absurd (omega arith))
-told-passed (goes e x) h = (omega arith, λ k. x)
-told-passed (hits e x) h = absurd (h e)
+-- Where it is another, one more is passed if there is an answer.
+told-passed : {o p q : Type 0} {r : Option Bool} → Told o p q r → (r ≡ Some true → ⊥) → 0 < bool_byte (is_some r) → p
+told-passed (stops e x) h k = let f = ap (λ (a : Option Bool). bool_byte (is_some a)) e in absurd (omega arith)
+told-passed (goes e x) h k = x
+told-passed (hits e x) h k = absurd (h e)
 
--- Where it is 0, the side is over.
-told_over : {o p q : Type 0} {r : ℕ} → Told o p q r → r ≡ 0 → o
+-- Where there is none, the side is over.
+told_over : {o p q : Type 0} {r : Option Bool} → Told o p q r → bool_byte (is_some r) ≡ 0 → o
 told_over (stops e x) h = x
-told_over (goes e x) h = absurd (omega arith)
-told_over (hits e x) h = absurd (omega arith)
+told_over (goes e x) h = let f = ap (λ (a : Option Bool). bool_byte (is_some a)) e in absurd (omega arith)
+told_over (hits e x) h = let f = ap (λ (a : Option Bool). bool_byte (is_some a)) e in absurd (omega arith)
 
 -- What a move says.
 says-told : (f : ℕ → Bool) (part q : ℕ)
@@ -48,11 +70,11 @@ says-told f part q =
     ]
 
 -- The answer from above to a look that starts from the move at j.
-abbrev FromAbove : (ℕ → Bool) → List ℕ → ℕ → ℕ → ℕ → Type 0
+abbrev FromAbove : (ℕ → Bool) → List ℕ → ℕ → ℕ → Option Bool → Type 0
 FromAbove f l j high r = Told (ends (get_or l j 0) l ≤ high) ((high < length l) × (f (get_or l high 0) ≡ false)) (some_own f l j ≡ true) r
 
 -- The answer from below.
-abbrev FromBelow : (ℕ → Bool) → List ℕ → ℕ → ℕ → ℕ → Type 0
+abbrev FromBelow : (ℕ → Bool) → List ℕ → ℕ → ℕ → Option Bool → Type 0
 FromBelow f l j low r = Told (low ≤ begins (get_or l j 0) l) ((0 < low) × (f (get_or l (low - 1) 0) ≡ false)) (some_own f l j ≡ true) r
 
 module _ (f : ℕ → Bool) (l : List ℕ) (up : ascends 0 l ≡ true) (j : ℕ) (here : j < length l) where
@@ -95,12 +117,9 @@ module _ (f : ℕ → Bool) (l : List ℕ) (up : ascends 0 l ≡ true) (j : ℕ)
       ]
 
 -- One more fits where there is a place for it.
-one-fits : (r m n : ℕ) → r ≤ 1 → m ≤ n → (0 < r → m < n) → m + r ≤ n
-one-fits r m n h k f =
-    elim (dec_lt 0 r) [
-      | yes x ↦ let y = f x in omega arith
-      | no x ↦ omega arith
-    ]
+one-fits : (a : Option Bool) (m n : ℕ) → m ≤ n → (0 < bool_byte (is_some a) → m < n) → m + bool_byte (is_some a) ≤ n
+one-fits None m n k f = omega arith
+one-fits (Some t) m n k f = let y = f (omega arith) in omega arith
 
 -- The moves at low and after it, before high, do not pass the test; the place j is among theirs or next to them.
 pub record Passed (f : ℕ → Bool) (l : List ℕ) (j low high : ℕ) : Type 0 where
@@ -110,7 +129,7 @@ pub record Passed (f : ℕ → Bool) (l : List ℕ) (j low high : ℕ) : Type 0 
   pub inside : high ≤ length l
   pub none : (i : ℕ) → low ≤ i → i < high → f (get_or l i 0) ≡ false
 
--- By two answers more of them have been passed.
+-- By two answers more of them have been passed, one by each that there is.
 pub record Further (f : ℕ → Bool) (l : List ℕ) (j low high above below : ℕ) : Type 0 where
   pub more : 0 < above + below
   pub room : below ≤ low
@@ -123,37 +142,35 @@ passed_none f l j h =
 
 module _ {f : ℕ → Bool} {l : List ℕ} {j low high : ℕ} (up : ascends 0 l ≡ true) (p : Passed f l j low high) where
   -- What the answer from above tells.
-  told-above : {above : ℕ} → above ≡ says_at f l (own_of (get_or l j 0)) high → FromAbove f l j high above
+  told-above : {above : Option Bool} → above ≡ says_at f l (own_of (get_or l j 0)) high → FromAbove f l j high above
   told-above a = rw a (from-above f l up j p.here high p.over)
 
   -- What the answer from below tells.
-  told_below : {below : ℕ} → below ≡ says_before f l (own_of (get_or l j 0)) low → FromBelow f l j low below
+  told_below : {below : Option Bool} → below ≡ says_before f l (own_of (get_or l j 0)) low → FromBelow f l j low below
   told_below b = rw b (from-below f l up j p.here low p.under)
 
-  -- Where the answer from above is 2, one passes the test.
-  pub found-above : {above : ℕ} → above ≡ says_at f l (own_of (get_or l j 0)) high → above ≡ 2 → some_own f l j ≡ true
+  -- Where the answer from above is that it does, one passes the test.
+  pub found-above : {above : Option Bool} → above ≡ says_at f l (own_of (get_or l j 0)) high → above ≡ Some true → some_own f l j ≡ true
   found-above a = told-found (told-above a)
 
   -- The same of the answer from below.
-  pub found_below : {below : ℕ} → below ≡ says_before f l (own_of (get_or l j 0)) low → below ≡ 2 → some_own f l j ≡ true
+  pub found_below : {below : Option Bool} → below ≡ says_before f l (own_of (get_or l j 0)) low → below ≡ Some true → some_own f l j ≡ true
   found_below b = told-found (told_below b)
 
-module _ {f : ℕ → Bool} {l : List ℕ} {j low high above below : ℕ} (up : ascends 0 l ≡ true) (p : Passed f l j low high)
+module _ {f : ℕ → Bool} {l : List ℕ} {j low high : ℕ} {above below : Option Bool} (up : ascends 0 l ≡ true) (p : Passed f l j low high)
     (a : above ≡ says_at f l (own_of (get_or l j 0)) high) (b : below ≡ says_before f l (own_of (get_or l j 0)) low)
-    (h : above ≡ 2 → ⊥) (k : below ≡ 2 → ⊥) where
-  -- Where neither finds one, each is at most 1.
-  pub answers-low : (above ≤ 1) × (below ≤ 1)
-  answers-low = ((told-passed (told-above up p a) h).0, (told-passed (told_below up p b) k).0)
-
+    (h : above ≡ Some true → ⊥) (k : below ≡ Some true → ⊥) where
   -- Where a side is not over, the look goes on, with more that have been passed.
-  pub goes_on_lem : (above + below ≡ 0 → ⊥) → Further f l j low high above below
+  pub goes_on_lem : (bool_byte (is_some above) + bool_byte (is_some below) ≡ 0 → ⊥) → Further f l j low high (bool_byte (is_some above)) (bool_byte (is_some below))
   goes_on_lem n =
       let u = p.under in
       let o = p.over in
       let x = told-passed (told-above up p a) h in
       let y = told-passed (told_below up p b) k in
-      let v = one-fits above high (length l) x.0 p.inside (λ t. (x.1 t).0) in
-      let w = one-fits below 0 low y.0 (omega arith) (λ t. (y.1 t).0) in record {
+      let v = one-fits above high (length l) p.inside (λ t. (x t).0) in
+      let w = one-fits below 0 low (omega arith) (λ t. (y t).0) in
+      let i0 = byte_small (is_some above) in
+      let i1 = byte_small (is_some below) in record {
         more = omega arith;
         room = omega arith;
         passed = record {
@@ -162,17 +179,17 @@ module _ {f : ℕ → Bool} {l : List ℕ} {j low high above below : ℕ} (up : 
           over = omega arith;
           inside = v;
           none = λ i g q. elim (dec_lt i low) [
-            | yes s ↦ let e : i ≡ low - 1 = omega arith in rw e (y.1 (omega arith)).1
+            | yes s ↦ let e : i ≡ low - 1 = omega arith in rw e (y (omega arith)).1
             | no s ↦ elim (dec_lt i high) [
               | yes t ↦ p.none i (omega arith) t
-              | no t ↦ let e : i ≡ high = omega arith in rw e (x.1 (omega arith)).1
+              | no t ↦ let e : i ≡ high = omega arith in rw e (x (omega arith)).1
             ]
           ];
         };
       }
 
   -- Where both sides are over, none passes the test.
-  pub none_found : above + below ≡ 0 → some_own f l j ≡ false
+  pub none_found : bool_byte (is_some above) + bool_byte (is_some below) ≡ 0 → some_own f l j ≡ false
   none_found n =
       let x = told_over (told-above up p a) (omega arith) in
       let y = told_over (told_below up p b) (omega arith) in

@@ -21,59 +21,56 @@ pub fn has(sizes: Sizes, values: &[u8], from: u8, x: Variable, s: State) -> bool
     values[p] == from
 }
 
-// What the move m says: 0 if it is not of the part, 1 if it is and leads to no pair of x that has the value `from`, 2 if it leads to
-// one.
-fn tell(sizes: Sizes, values: &[u8], from: u8, x: Variable, part: u32, m: u32) -> u8
-    requires { (x.0 < sizes.variables) × ((target m < sizes.states) × (length values.now ≡ pairs_of sizes)) }
-    ensures { result ≡ says (reaches sizes values.now from x.0) part m }
-{
-    if words::own_of(m) != part {
-        return 0;
-    }
-    if has(sizes, values, from, x, words::target_of(m)) {
-        return 2;
-    }
-    1
-}
-
-// What the move at `high` says, and 0 past the last.
-fn look_up(
+// A look at the moves of a part: the variable and the value that are looked for, and the part.
+#[derive(Clone, Copy)]
+struct Look<'a> {
     sizes: Sizes,
-    moves: &[u32],
-    values: &[u8],
+    moves: &'a [u32],
+    values: &'a [u8],
     from: u8,
     x: Variable,
     part: u32,
-    high: usize,
-) -> u8
-    requires x_lt_variables { (x.0 < sizes.variables) × (length values.now ≡ pairs_of sizes) }
-    requires targets { Targets sizes moves.now }
-    ensures { result ≡ says_at (reaches sizes values.now from x.0) moves.now part high }
-{
-    if moves.len() <= high {
-        return 0;
-    }
-    tell(sizes, values, from, x, part, moves[high])
 }
 
-// What the move before `low` says, and 0 before the first.
-fn look_down(
-    sizes: Sizes,
-    moves: &[u32],
-    values: &[u8],
-    from: u8,
-    x: Variable,
-    part: u32,
-    low: usize,
-) -> u8
-    requires x_lt_variables { (x.0 < sizes.variables) × ((low ≤ length moves.now) × (length values.now ≡ pairs_of sizes)) }
-    requires targets { Targets sizes moves.now }
-    ensures { result ≡ says_before (reaches sizes values.now from x.0) moves.now part low }
+// What the move m says: nothing if it is not of the part, else whether it leads to a pair of x that has the value `from`.
+fn tell(look: &Look, m: u32) -> Option<bool>
+    requires { (look.now.x.0 < look.now.sizes.variables) × ((target m < look.now.sizes.states) × (length look.now.values.now ≡ pairs_of look.now.sizes)) }
+    ensures { result ≡ says (reaches look.now.sizes look.now.values.now look.now.from look.now.x.0) look.now.part m }
+{
+    if words::own_of(m) != look.part {
+        return None;
+    }
+    Some(has(
+        look.sizes,
+        look.values,
+        look.from,
+        look.x,
+        words::target_of(m),
+    ))
+}
+
+// What the move at `high` says, and nothing past the last.
+fn look_up(look: &Look, high: usize) -> Option<bool>
+    requires x_lt_variables { (look.now.x.0 < look.now.sizes.variables) × (length look.now.values.now ≡ pairs_of look.now.sizes) }
+    requires targets { Targets look.now.sizes look.now.moves.now }
+    ensures { result ≡ says_at (reaches look.now.sizes look.now.values.now look.now.from look.now.x.0) look.now.moves.now look.now.part high }
+{
+    if look.moves.len() <= high {
+        return None;
+    }
+    tell(look, look.moves[high])
+}
+
+// What the move before `low` says, and nothing before the first.
+fn look_down(look: &Look, low: usize) -> Option<bool>
+    requires x_lt_variables { (look.now.x.0 < look.now.sizes.variables) × ((low ≤ length look.now.moves.now) × (length look.now.values.now ≡ pairs_of look.now.sizes)) }
+    requires targets { Targets look.now.sizes look.now.moves.now }
+    ensures { result ≡ says_before (reaches look.now.sizes look.now.values.now look.now.from look.now.x.0) look.now.moves.now look.now.part low }
 {
     if low == 0 {
-        return 0;
+        return None;
     }
-    tell(sizes, values, from, x, part, moves[low - 1])
+    tell(look, look.moves[low - 1])
 }
 
 // Does a move with the source and the action of the move at j lead to a pair of x that has the value `from`? Those at `low` and after
@@ -95,23 +92,29 @@ pub fn leads_from(
     ensures { result ≡ any (λ q. eqb (get_or values.now (pair_in sizes x.0 (target q)) 0) from)
         (own_moves (source (get_or moves.now j 0)) (action (get_or moves.now j 0)) moves.now) }
 {
-    let part = words::own_of(moves[j]);
+    let look = Look {
+        sizes,
+        moves,
+        values,
+        from,
+        x,
+        part: words::own_of(moves[j]),
+    };
     let mut low = j;
     let mut high = j;
     loop {
-        let above = look_up(sizes, moves, values, from, x, part, high);
-        if above == 2 {
+        let above = look_up(&look, high);
+        if above == Some(true) {
             return true;
         }
-        let below = look_down(sizes, moves, values, from, x, part, low);
-        if below == 2 {
+        let below = look_down(&look, low);
+        if below == Some(true) {
             return true;
         }
-        let told = above + below;
-        if told == 0 {
+        if above.is_none() & below.is_none() {
             return false;
         }
-        high = high + above as usize;
-        low = low - below as usize;
+        high = high + usize::from(above.is_some());
+        low = low - usize::from(below.is_some());
     }
 }

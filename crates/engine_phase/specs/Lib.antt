@@ -4,6 +4,5 @@ pub mod Course
 pub mod Phase
 pub mod PutRow
 pub mod LookRow
-pub mod NextRow
 pub mod Levels
 pub mod Rounds

@@ -28,7 +28,8 @@ use Rattle.engine_table.specs.EquationWords.{own-word}
 use Rattle.engine_table.specs.Limits.{limits, pairs-few}
 use Rattle.engine_rows.specs.Rooms.{Bits, Packed, pile_in}
 use Rattle.engine_rows.specs.Queued.{hits-none}
-use Rattle.engine_turn.specs.Scene.{sketch, Bounded}
+use Rattle.engine_turn.specs.Scene.{Bounded}
+use Rattle.engine_table.specs.Sketch.{sketch}
 use Rattle.engine_turn.specs.Turns.{Visit, visited, RoomFor, Turned, round_of}
 use Rattle.engine_turn.specs.TurnRuns.{bit-of, leaners-same}
 use Rattle.engine_phase.specs.LeanersFew.{most_leaners, leaners-few}

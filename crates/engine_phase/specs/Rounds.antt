@@ -16,8 +16,10 @@ use Rattle.laws.specs.model.ModelLeaners.{leaners_of}
 use Rattle.engine_table.specs.Table.{table_in, model_of, Drawn, waiter}
 use Rattle.engine_own.specs.Pairs.{pair-low}
 use Rattle.engine_rows.specs.Rooms.{Bits, Packed, pile_in}
-use Rattle.engine_turn.specs.Scene.{sketch, Bounded}
-use Rattle.engine_turn.specs.Turns.{Visit, ask_of, visited, Sketched, FromValue, Round, RoomFor, Turned}
+use Rattle.engine_turn.specs.Scene.{Bounded}
+use Rattle.engine_table.specs.Sketch.{sketch}
+use Rattle.engine_turn.specs.Turns.{Visit, ask_of, visited, FromValue, Round, RoomFor, Turned}
+use Rattle.engine_table.specs.Sketch.{Sketched}
 use Rattle.engine_phase.specs.Course.{on-vals, on-marks, on-bits, on-queue, on_room}
 use Rattle.engine_phase.specs.Phase.{Somewhere, Leads, leads-on, leads-turned, front-value, front-bounded, front-from, front-room, job_in}
 use Rattle.engine_phase.specs.Levels.{trues_in, Counted, counted_none, counted-turn, counted-on}

@@ -1,8 +1,7 @@
 -- A room whose places are written one after the other, from the front. Assumes nothing.
-use Rattle.std.specs.Prelude.{◌≡◌, refl, Bool, true, false, List, ℕ, ◌+◌, ◌≤◌, ◌<◌, length, get_or, set, replicate}
+use Rattle.std.specs.Prelude.{◌≡◌, refl, Bool, true, false, List, ℕ, ◌+◌, ◌≤◌, ◌<◌, length, get_or, set}
 use Rattle.std.proofs.Common.{sym, ap, ◌∙◌, arith, length-set, get_or-set_same, get_or-set_other, ext_get_or}
 use Rattle.std.proofs.Math.Decide.{ℕ_discrete, dec_lt}
-use Rattle.std.proofs.lemmas.List.{length-replicate, get_or-replicate}
 use Rattle.std.proofs.Math.ListN.{get_or-eq_default}
 use mir.Val.{bool_byte}
 use Rattle.lists.specs.Ranges.{some-no}
@@ -45,13 +44,6 @@ filled-all n f room l e w =
     let o = w.long in
     let k = listed-length 0 (length room) f in
     ext_get_or 0 l (listed 0 (length room) f) (omega arith) (λ i h. w.done i (omega arith) ∙ sym (listed-is (length room) f i (omega arith)))
-
--- A list of the same number throughout.
-pub listed-replicate : (n x : ℕ) → listed 0 n (λ s. x) ≡ replicate n x
-listed-replicate n x =
-    let a = listed-length 0 n (λ s. x) in
-    let b = length-replicate n x in
-    ext_get_or 0 (listed 0 n (λ s. x)) (replicate n x) (omega arith) (λ i h. listed-is n (λ s. x) i (omega arith) ∙ sym (get_or-replicate n i x 0 (omega arith)))
 
 -- The bit of a truth value is at most 1, and so are those of a list of them.
 pub bit-small : (b : Bool) → bit b ≤ 1

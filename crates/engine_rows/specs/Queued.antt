@@ -1,12 +1,12 @@
 -- A row's pairs put at the end of the queue, and its marks put back among all marks, as the machine has them. Assumes nothing.
-use Rattle.std.specs.Prelude.{◌≡◌, refl, Bool, true, false, cond, ◌||◌, List, [], ◌∷◌, ◌++◌, map, ℕ, zero, suc, ◌+◌, ◌-◌, ◌*◌, ◌≤◌, ◌<◌, length, get_or, set, take, drop, eqb}
+use Rattle.std.specs.Prelude.{◌≡◌, refl, Bool, true, false, cond, List, [], ◌∷◌, ◌++◌, map, ℕ, zero, suc, ◌+◌, ◌-◌, ◌*◌, ◌≤◌, ◌<◌, length, get_or, set, take, drop, eqb}
 use Rattle.std.proofs.Common.{sym, ap, ◌∙◌, subst, inl, inr, append-nil, append_assoc, add-zero, zero-add, add-one, arith, length-set, length-append, length-drop, take-suc, take-suc-set, length-take-le, drop-drop, get_or-take, get_or-drop, get_or-append-add, ext_get_or}
 use Rattle.std.proofs.Math.Decide.{dec_lt}
 use Rattle.std.proofs.lemmas.List.{length-map, take-set-le}
-use Rattle.std.proofs.Math.ListN.{get_or-append}
+use Rattle.std.proofs.Math.ListN.{get_or-append, get_or-eq_default}
 use Rattle.lists.specs.Lists.{listed, some_below}
 use Rattle.lists.specs.TableLaws.{listed-is, listed-length}
-use Rattle.lists.specs.Ranges.{some-no}
+use Rattle.lists.specs.Ranges.{some-no, some_same}
 use Rattle.lists.specs.Tests.{tell, eqb_is, eqb_no}
 use Rattle.systems.specs.machine.Machine.{next_mark}
 use Rattle.systems.specs.lists.ListMachine.{between}
@@ -18,8 +18,8 @@ use Rattle.laws.specs.model.ModelLeaners.{map-append}
 use Rattle.words.specs.Words.{waiting_of, variable_in, state_in}
 use Rattle.engine_table.specs.Table.{waiter}
 use Rattle.engine_table.specs.EquationWords.{waiter-at}
-use Rattle.engine_rows.specs.Rooms.{Packed}
-use Rattle.engine_rows.specs.RowLoops.{mark_at, Queued}
+use Rattle.engine_rows.specs.Rooms.{Packed, Bits}
+use Rattle.engine_rows.specs.RowLoops.{mark_at, bad_at, bad_from, Queued}
 
 -- One place more, that must turn or not.
 hits-yes : (f : ℕ → Bool) (p n : ℕ) → f (p + n) ≡ true → hits f p (suc n) ≡ hits f p n ++ ((p + n) ∷ [])
@@ -27,6 +27,13 @@ hits-yes f p n y = ap (λ (b : Bool). hits f p n ++ cond b ((p + n) ∷ []) []) 
 
 hits-no : (f : ℕ → Bool) (p n : ℕ) → f (p + n) ≡ false → hits f p (suc n) ≡ hits f p n
 hits-no f p n y = ap (λ (b : Bool). hits f p n ++ cond b ((p + n) ∷ []) []) y ∙ append-nil (hits f p n)
+
+-- Tests that agree on the places have the same hits.
+hits-same : (f g : ℕ → Bool) (p n : ℕ) → ((i : ℕ) → i < n → f (p + i) ≡ g (p + i)) → hits f p n ≡ hits g p n
+hits-same f g p zero h = refl
+hits-same f g p (suc n) h =
+    ap (λ (l : List ℕ). l ++ cond (f (p + n)) ((p + n) ∷ []) []) (hits-same f g p n (λ i l. h i (omega arith)))
+    ∙ ap (λ (b : Bool). hits g p n ++ cond b ((p + n) ∷ []) []) (h n (omega arith))
 
 -- Fewer places have no more hits.
 pub hits_few : (f : ℕ → Bool) (p s n : ℕ) → s ≤ n → length (hits f p s) ≤ length (hits f p n)
@@ -48,11 +55,6 @@ hits-on f p a q (suc b) (suc n) eq en =
     ∙ ap (λ (k : ℕ). (hits f p a ++ hits f q b) ++ cond (f k) (k ∷ []) []) e
     ∙ append_assoc (hits f p a) (hits f q b) (cond (f (q + b)) ((q + b) ∷ []) [])
 
--- One place more, asked whether one of these must turn.
-pub some_more : (f : ℕ → Bool) (p n s m : ℕ) (any : Bool) → s ≡ p + n → m ≡ suc n → any ≡ some_below n (λ i. f (p + i)) → (any || f s) ≡ some_below m (λ i. f (p + i))
-some_more f p n s m any es em e =
-    ap (λ (b : Bool). b || f s) e ∙ ap (λ (k : ℕ). some_below n (λ i. f (p + i)) || f k) es ∙ ap (λ (k : ℕ). some_below k (λ i. f (p + i))) (sym em)
-
 -- Places of which none must turn.
 pub hits-none : (f : ℕ → Bool) (p n : ℕ) → ((s : ℕ) → s < n → f (p + s) ≡ false) → hits f p n ≡ []
 hits-none f p zero h = refl
@@ -68,9 +70,41 @@ queued-over y g before tail p n none =
       front = rw miss (sym (append-nil (take tail before)));
     }
 
--- At the start.
-pub queued-none : (y : ℕ) (g : ℕ → Bool) (before : List ℕ) (tail p n : ℕ) → n ≡ 0 → Queued y g before tail p n tail before
-queued-none y g before tail p n e = queued-over y g before tail p n (ap (λ (k : ℕ). some_below k (λ i. g (p + i))) e)
+-- The place i of a part of a row.
+pub bad-from-at : (p : ℕ) (part : List ℕ) (i : ℕ) → bad_from p part (p + i) ≡ bad_at part i
+bad-from-at p part i = let e : p + i - p ≡ i = omega arith in ap (bad_at part) e
+
+-- Where none of a part is bad, it is passed over.
+pub part-over : (y : ℕ) (part before : List ℕ) (tail p : ℕ) → some_below (length part) (bad_at part) ≡ false
+    → Queued y (bad_from p part) before tail p (length part) tail before
+part-over y part before tail p none =
+    queued-over y (bad_from p part) before tail p (length part) (some_same (length part) _ (bad_at part) (λ i h. bad-from-at p part i) ∙ none)
+
+-- A part of a row, and what comes after it, from the place p on.
+module _ (p : ℕ) (bad part rest : List ℕ) (e : part ++ rest ≡ drop p bad) where
+  part-is : (i : ℕ) → i < length part → get_or part i 0 ≡ get_or bad (p + i) 0
+  part-is i h = sym (get_or-append part rest 0 i h) ∙ ap (λ (l : List ℕ). get_or l i 0) e ∙ get_or-drop p bad i 0
+
+  part-hits : hits (bad_from p part) p (length part) ≡ hits (bad_at bad) p (length part)
+  part-hits =
+      hits-same (bad_from p part) (bad_at bad) p (length part) (λ i h. bad-from-at p part i ∙ ap (λ (b : ℕ). eqb b 1) (part-is i h))
+
+  pub part-bits : Bits bad → Bits part
+  part-bits bits i = elim (dec_lt i (length part)) [
+    | yes h ↦ let one = part-is i h in let two = bits (p + i) in omega arith
+    | no h ↦ let one = get_or-eq_default part 0 {n = i} (omega (arith, h)) in omega arith
+  ]
+
+  pub part-room : (tail room : ℕ) → tail + length (hits (bad_at bad) p (length part)) < room → tail + length (hits (bad_from p part) p (length part)) < room
+  part-room tail room h = let same = ap length part-hits in omega (arith, h)
+
+  pub part-queued : (y : ℕ) (before queue : List ℕ) (tail top : ℕ) → Queued y (bad_from p part) before tail p (length part) top queue
+      → Queued y (bad_at bad) before tail p (length part) top queue
+  part-queued y before queue tail top q = record {
+    long = q.long;
+    reaches = q.reaches ∙ ap (λ (l : List ℕ). tail + length l) part-hits;
+    front = q.front ∙ ap (λ (l : List ℕ). take tail before ++ map (waiting_of y) l) part-hits;
+  }
 
 -- One place more: its pair is put at the end, which goes on where it must turn.
 pub queued-more : (y : ℕ) (g : ℕ → Bool) (before : List ℕ) (tail p n s m top b w : ℕ) (queue after : List ℕ) → s ≡ p + n → m ≡ suc n → top < length queue

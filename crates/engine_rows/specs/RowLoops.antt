@@ -1,5 +1,5 @@
 -- What the loops over a row leave, place by place. Definitions only.
-use Rattle.std.specs.Prelude.{◌≡◌, Bool, cond, ◌&&◌, List, ◌++◌, map, ℕ, ◌+◌, length, get_or, take, eqb}
+use Rattle.std.specs.Prelude.{◌≡◌, Bool, cond, ◌&&◌, List, ◌++◌, map, ℕ, ◌+◌, ◌-◌, length, get_or, take, eqb}
 use Rattle.systems.specs.machine.Machine.{next_mark}
 use Rattle.systems.specs.lists.Rows.{hits}
 use Rattle.words.specs.Words.{waiting_of}
@@ -15,6 +15,10 @@ mark_at bad settling marks s = cond (eqb (get_or bad s 0) 1) (next_mark settling
 -- Is the place of the state s bad?
 abbrev pub bad_at : List ℕ → ℕ → Bool
 bad_at bad s = eqb (get_or bad s 0) 1
+
+-- The same of a part of the row, of which the first place is that of the state p.
+abbrev pub bad_from : ℕ → List ℕ → ℕ → Bool
+bad_from p part s = bad_at part (s - p)
 
 -- After n places of the row of y, from the state p on: the queue reaches to `top`, and up to there holds what it held before, and
 -- then the pairs of these places that must turn.

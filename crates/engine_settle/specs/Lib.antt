@@ -1,5 +1,3 @@
 pub mod Told
-pub mod Sources
-pub mod Targets
 pub mod Settles
 pub mod Rows

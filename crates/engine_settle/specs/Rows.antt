@@ -12,7 +12,6 @@ use Rattle.engine_table.specs.GivesWords.{join_names, step-names}
 use Rattle.engine_index.specs.Indexed.{heads_of}
 use Rattle.engine_rows.specs.Rooms.{Tells}
 use Rattle.engine_settle.specs.Told.{told, one_has, leads_one, Asked, Fails, settle_test}
-use Rattle.engine_settle.specs.Sources.{Linked, linked}
 use Rattle.engine_settle.specs.Settles.{tells-fails, tells_none, tells-constant, fails-constant, label-names, fails-label, fails-join, fails_step}
 
 -- What decides an equation with the operator o makes it give this; and this is what the places of a row become then.
@@ -26,7 +25,7 @@ becomes o k = bool_byte (not (eqb (decides o) k))
 pub row-long : (x n : ℕ) (row values : List ℕ) → x * n + n ≤ length values → row ≡ take n (drop (x * n) values) → length row ≡ n
 row-long x n row values h e = let d = length-drop (x * n) values in ap length e ∙ length-take-le n (drop (x * n) values) (omega arith)
 
-module _ {t : Table} {index values : List ℕ} {y o a b i k n : ℕ} (q : Asked t index values y o a b i k n) where
+module _ {t : Table} {values : List ℕ} {y o a b i k n : ℕ} (q : Asked t values y o a b i k n) where
   -- The kind is 0 or 1, and there is a state.
   kind-small : k ≤ 1
   kind-small = let e = q.reads.is_kind in omega arith
@@ -62,18 +61,13 @@ module _ {t : Table} {index values : List ℕ} {y o a b i k n : ℕ} (q : Asked 
         | no g ↦ row_inside b (step-names q.drawn y 0 q.below some_state o a b i k q.reads (omega (arith, g))).1.1
       ]
 
-  -- The index links the moves of as many states as there are places, and has heads for the action that is named.
-  pub asked-linked : (l : ℕ) → l ≡ heads_of t.sizes → Linked n t.moves (take l index) (take (length index - l) (drop l index))
-  asked-linked l e = rw q.places (linked q.drawn l index e q.indexed)
-
-  pub asked-heads : (l : ℕ) → l ≡ heads_of t.sizes → 6 ≤ o → a * n + n ≤ length (take l index)
+  -- There are heads for the action that is named.
+  pub asked-heads : (l : ℕ) → l ≡ heads_of t.sizes → 6 ≤ o → a * n + n ≤ l
   asked-heads l e f =
       let s = (step-names q.drawn y 0 q.below some_state o a b i k q.reads f).0 in
       let m = mul-le-mul_right {m = suc a} {n = t.sizes.actions} t.sizes.states s in
       let p = q.places in
       let g : a * n ≡ a * t.sizes.states = ap (λ (s : ℕ). a * s) p in
-      let r = q.indexed.long in
-      let h = length-take-le l index (omega arith) in
       omega arith
 
   -- The three kinds of row.

@@ -28,8 +28,9 @@ use Rattle.engine_table.specs.GivesWords.{two, operands-read, operator-below, ta
 use Rattle.engine_table.specs.AsksWords.{asks-settle}
 use Rattle.engine_rows.specs.Rooms.{Bits, Tells}
 use Rattle.engine_rows.specs.Queued.{part_at}
-use Rattle.engine_settle.specs.Told.{told, one_has, leads_one, SetWhere, Fails, settle_test}
-use Rattle.engine_settle.specs.Targets.{any_same}
+use Rattle.engine_index.specs.Walks.{SetWhere}
+use Rattle.engine_index.specs.Targets.{any_same}
+use Rattle.engine_settle.specs.Told.{told, one_has, leads_one, Fails, settle_test}
 
 -- A byte that is 0 or 1 against another.
 pub value-is : (w c : ℕ) → w ≤ 1 → c ≤ 1 → eqb w c ≡ is (eqb c 1) (eqb w 1)

@@ -8,7 +8,6 @@ use Rattle.rules.specs.Rooms.{pairs_of}
 use Rattle.rules.specs.Calls.{value_at}
 use Rattle.laws.specs.model.ModelSystem.{frame}
 use Rattle.engine_table.specs.Table.{Table, model_of, Drawn, ReadsAs, word_at, own_in, pair_in}
-use Rattle.engine_index.specs.Indexed.{Indexed}
 use Rattle.engine_rows.specs.Rooms.{Bits}
 
 -- The number v where it is decided, and else the other one of 0 and 1.
@@ -23,14 +22,9 @@ one_has f h c s = eqb (get_or f s 0) c || eqb (get_or h s 0) c
 abbrev pub leads_one : List ℕ → ℕ → List ℕ → ℕ → ℕ → Bool
 leads_one moves a row c s = any (λ q. own (state s) (record { 0 = a }) q && eqb (get_or row (target q) 0) c) moves
 
--- The places are v where the test holds of their state, and else as they were.
-abbrev pub SetWhere : (ℕ → Bool) → ℕ → List ℕ → List ℕ → Type 0
-SetWhere g v before bad = (s : ℕ) → s < length before → get_or bad s 0 ≡ cond (g s) v (get_or before s 0)
-
--- What a row is told from: a table and its index, values, the variable y of the row with its equation's numbers, and n places.
-pub record Asked (t : Table) (index values : List ℕ) (y o a b i k n : ℕ) : Type 0 where
+-- What a row is told from: a table, values, the variable y of the row with its equation's numbers, and n places.
+pub record Asked (t : Table) (values : List ℕ) (y o a b i k n : ℕ) : Type 0 where
   pub drawn : Drawn t
-  pub indexed : Indexed t index
   pub reads : ReadsAs (word_at t y) o a b i k
   pub below : y < t.sizes.variables
   pub pairs : length values ≡ pairs_of t.sizes

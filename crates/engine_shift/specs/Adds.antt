@@ -1,7 +1,9 @@
 -- A row of places in which some become 1: what is added by one store after the other. Assumes nothing.
-use Rattle.std.specs.Prelude.{◌≡◌, refl, Bool, true, false, ◌&&◌, ◌||◌, List, ℕ, ◌+◌, ◌≤◌, ◌<◌, length, get_or, set, take, replicate, eqb, ltb}
+use Rattle.std.specs.Prelude.{◌≡◌, refl, Bool, true, false, cond, ◌&&◌, ◌||◌, List, ℕ, ◌+◌, ◌≤◌, ◌<◌, length, get_or, set, take, replicate, eqb, ltb}
 use Rattle.std.proofs.Common.{sym, ap, ◌∙◌, subst, inl, inr, arith, length-set, get_or-set_same, get_or-set_other}
-use Rattle.std.proofs.Math.Decide.{ℕ_discrete}
+use Rattle.std.proofs.Math.Decide.{ℕ_discrete, dec_lt}
+use Rattle.std.proofs.Math.ListN.{get_or-eq_default}
+use Rattle.engine_index.specs.Walks.{SetWhere}
 use mir.Val.{bool_byte}
 use Rattle.lists.specs.Lists.{any, bit}
 use Rattle.lists.specs.Tests.{tell, eqb_same, eqb_no, and_no, and-true, or-false, ltb-in, ltb-out, ltb_no}
@@ -66,13 +68,28 @@ adds-at l r b k x h v e = subst (λ (q : List ℕ). Adds (λ s. b && eqb r s) l 
   ];
 })
 
--- One place is added.
-pub adds_one : (l : List ℕ) (r : ℕ) (k : List ℕ) → r < length l → k ≡ set l r 1 → Adds (λ s. eqb r s) l k
-adds_one l r k h e = adds-at l r true k 1 h (sym (ap bit (last (eqb (get_or l r 0) 1)))) e
+-- Places that become 1 where a test holds are added by it.
+pub adds-set : (f : ℕ → Bool) (old new : List ℕ) → length new ≡ length old → SetWhere f 1 old new → Adds f old new
+adds-set f old new l w = record {
+  long = l;
+  bits = λ o p. elim (dec_lt p (length old)) [
+    | yes h ↦ let x = w p h in let y = o p in let z = small (f p) (get_or old p 0) y in omega arith
+    | no h ↦ let x = get_or-eq_default new 0 {n = p} (omega arith) in omega arith
+  ];
+  says = λ s h. ap (λ (x : ℕ). eqb x 1) (w s h) ∙ either (f s) (get_or old s 0);
+}
   where
-    last : (x : Bool) → (x || true) ≡ true
-    last true = refl
-    last false = refl
+    small : (b : Bool) (x : ℕ) → x ≤ 1 → cond b 1 x ≤ 1
+    small true x h = omega arith
+    small false x h = h
+
+    either : (b : Bool) (x : ℕ) → eqb (cond b 1 x) 1 ≡ (eqb x 1 || b)
+    either true x = sym (last (eqb x 1))
+      where
+        last : (y : Bool) → (y || true) ≡ true
+        last true = refl
+        last false = refl
+    either false x = sym (or-false (eqb x 1))
 
 -- What a place becomes, where its number and what is asked were found so.
 pub byte-found : (l : List ℕ) (r p : ℕ) (x y : Bool) → r ≡ p → x ≡ y → bool_byte (eqb (get_or l r 0) 1 || x) ≡ bit (eqb (get_or l p 0) 1 || y)

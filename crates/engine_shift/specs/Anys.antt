@@ -26,22 +26,6 @@ pub any-more : (f : ℕ → Bool) (l : List ℕ) (k : ℕ) → k < length l → 
 any-more f l k h =
     ap (λ (j : ℕ). any f (take j l)) (add-one k) ∙ ap (any f) (take-suc l k 0 h) ∙ any_snoc f (get_or l k 0) (take k l)
 
--- Two tests in one: of each entry, and so of some entry.
-pub any-two : (p f g h : ℕ → Bool) (c : Bool) (l : List ℕ) → all p l ≡ true → ((q : ℕ) → p q ≡ true → (f q || (c && g q)) ≡ h q)
-    → (any f l || (c && any g l)) ≡ any h l
-any-two p f g h c [] a e = and_no c refl
-any-two p f g h c (q ∷ l) a e =
-    let k = simp and_is at a in
-    mixed (f q) (g q) (any f l) (any g l) c ∙ ap (λ (x : Bool). x || (any f l || (c && any g l))) (e q k.0)
-    ∙ ap (λ (x : Bool). h q || x) (any-two p f g h c l k.1 e)
-  where
-    mixed : (x y u v c : Bool) → ((x || u) || (c && (y || v))) ≡ ((x || (c && y)) || (u || (c && v)))
-    mixed true y u v c = refl
-    mixed false y u v false = refl
-    mixed false true true v true = refl
-    mixed false true false v true = refl
-    mixed false false u v true = refl
-
 -- A test that comes to another one, of each entry, and so of some entry.
 pub any-alike : (p f g : ℕ → Bool) (l : List ℕ) → all p l ≡ true → ((q : ℕ) → p q ≡ true → f q ≡ g q) → any f l ≡ any g l
 any-alike p f g [] a e = refl

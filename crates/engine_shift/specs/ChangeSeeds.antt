@@ -1,7 +1,8 @@
 -- What the changes of a batch seed. Assumes nothing.
-use Rattle.std.specs.Prelude.{◌≡◌, Bool, true, false, not, ◌&&◌, ◌||◌, List, [], ◌∷◌, ℕ, zero, suc, ◌+◌, ◌/◌, ◌%◌, ◌<◌, length, get_or, eqb}
+use Rattle.std.specs.Prelude.{◌≡◌, Bool, true, false, not, ◌&&◌, List, [], ◌∷◌, ℕ, zero, suc, ◌/◌, ◌<◌, length, get_or, eqb}
 use Rattle.std.proofs.Math.Path.{refl}
-use Rattle.std.proofs.Common.{sym, ap, ◌∙◌, not-suc-le-zero, le_of_suc-le-suc, arith}
+use mathlib.Core.Bool.{beq}
+use Rattle.std.proofs.Common.{not-suc-le-zero, le_of_suc-le-suc, arith}
 use Rattle.lists.specs.Lists.{is}
 use Rattle.lists.specs.Tests.{tests, and_is}
 use Rattle.rules.specs.Moves.{source, action, target}
@@ -9,7 +10,7 @@ use Rattle.rules.specs.Model.{move_ok}
 use Rattle.rules.specs.Batch.{changes_ok}
 use Rattle.rules.specs.declared.Sizes.{Sizes}
 use Rattle.words.specs.Words.{changes_of}
-use Rattle.engine_shift.specs.Seeds.{odd_at, was_not, of_kind, touches}
+use Rattle.engine_shift.specs.Seeds.{odd_at, was_not}
 
 -- Each change is of a move from a state to a state.
 change-ok : (z : Sizes) (l : List ℕ) (i : ℕ) → changes_ok z (changes_of l) ≡ true → i < length l
@@ -33,25 +34,9 @@ module _ (values marks : List ℕ) (earlier : Bool) (k q : ℕ) where
   unfolding was_not
   was-still e = rw e refl
 
--- What the code finds of a change is what it touches.
-pub touches-read : (values marks : List ℕ) (earlier gaining : Bool) (k a from w t q : ℕ) (x y : Bool) → t ≡ target (w / 2) → q ≡ from + t
-    → x ≡ of_kind gaining a w → y ≡ was_not values marks earlier k q → (x && (gaining || y)) ≡ touches values marks earlier gaining k a from w
-unfolding touches
-touches-read values marks earlier gaining k a from w t q x y et eq ex ey =
-    ap (λ (u : Bool). u && (gaining || y)) ex
-    ∙ ap (λ (u : Bool). of_kind gaining a w && (gaining || u)) (ey ∙ ap (λ (n : ℕ). was_not values marks earlier k n) (eq ∙ ap (λ (n : ℕ). from + n) et))
-
--- What the code finds of a change's action and of whether it inserts is its kind.
-module _ (gaining : Bool) (a w m c : ℕ) (x : Bool) (em : m ≡ w / 2) (ec : c ≡ action m) (ex : x ≡ eqb (w % 2) 1) where
-  has-action : eqb c a ≡ eqb (action (w / 2)) a
-  has-action = ap (λ (n : ℕ). eqb n a) (ec ∙ ap action em)
-
-  pub kind-gains : gaining ≡ true → (eqb c a && x) ≡ of_kind gaining a w
-  kind-gains g =
-      ap (λ (y : Bool). y && x) has-action ∙ ap (λ (y : Bool). eqb (action (w / 2)) a && y) ex
-      ∙ ap (λ (y : Bool). eqb (action (w / 2)) a && is y (eqb (w % 2) 1)) (sym g)
-
-  pub kind-loses : gaining ≡ false → (eqb c a && not x) ≡ of_kind gaining a w
-  kind-loses g =
-      ap (λ (y : Bool). y && not x) has-action ∙ ap (λ (y : Bool). eqb (action (w / 2)) a && not y) ex
-      ∙ ap (λ (y : Bool). eqb (action (w / 2)) a && is y (eqb (w % 2) 1)) (sym g)
+-- Does a diamond or a box turn by what it gains: a diamond of a greatest block, and a box of a least one?
+pub gains-is : (x y : Bool) → not (beq x y) ≡ is (not y) x
+gains-is true true = refl
+gains-is true false = refl
+gains-is false true = refl
+gains-is false false = refl

@@ -1,10 +1,9 @@
 pub mod Anys
 pub mod Adds
 pub mod Seeds
-pub mod Sources
 pub mod ChangeSeeds
-pub mod LeadRows
 pub mod Olds
 pub mod SeedWords
 pub mod RowSeeds
+pub mod RowParts
 pub mod ShiftRows

@@ -1,12 +1,9 @@
 -- What seeds a shift, in the words that lie in the rooms. Definitions only.
-use Rattle.std.specs.Prelude.{◌≡◌, Bool, true, false, not, cond, ◌&&◌, ◌||◌, List, ℕ, ◌+◌, ◌*◌, ◌/◌, ◌%◌, ◌≤◌, ◌<◌, length, get_or, eqb, ltb}
+use Rattle.std.specs.Prelude.{◌≡◌, Bool, true, false, not, cond, ◌&&◌, ◌||◌, List, ℕ, ◌+◌, ◌*◌, ◌/◌, ◌%◌, ◌<◌, length, get_or, eqb, ltb}
 use Rattle.lists.specs.Lists.{is, any}
 use Rattle.rules.specs.Moves.{source, action, target}
-use Rattle.rules.specs.Model.{moves_ok}
 use Rattle.rules.specs.Session.{unword}
 use Rattle.rules.specs.declared.Sizes.{Sizes}
-use Rattle.engine_index.specs.ChainLaws.{Chained}
-use Rattle.engine_index.specs.Indexed.{key_of, heads_of}
 use Rattle.engine_rows.specs.Rooms.{Bits}
 
 -- Is the mark of the pair q odd?
@@ -55,12 +52,6 @@ unfolding touches_at leads_gone
 step_seeds z equations moves changes values marks gaining a x i k s =
     touches_at changes values marks (earlier_in equations x i) gaining k a (x * z.states) s
     || (earlier_in equations x i && leads_gone moves values marks k a (x * z.states) s)
-
--- The moves are inside the limits, and the index holds their chains.
-pub record MovesIn (z : Sizes) (moves index : List ℕ) : Type 0 where
-  pub ok : moves_ok z 0 moves ≡ true
-  pub long : heads_of z + length moves ≤ length index
-  pub chained : Chained (key_of z) 0 (heads_of z) moves (length moves) index
 
 -- What `bad` and an answer r tell of a row of n places, where f is the test: `bad` is 1 where it is passed; and where the answer is no,
 -- none passes it.

@@ -1,22 +1,19 @@
 -- What is told of a row while its block shifts, from what its equation seeds. Assumes nothing.
-use Rattle.std.specs.Prelude.{◌≡◌, Bool, true, false, not, List, ℕ, ◌+◌, ◌*◌, ◌≤◌, ◌<◌, length, get_or, eqb}
-use Rattle.std.proofs.Common.{subst, mul-le-mul_right, arith}
+use Rattle.std.specs.Prelude.{◌≡◌, Bool, true, false, not, List, ℕ, ◌+◌, ◌*◌, ◌≤◌, ◌<◌, length, eqb}
+use Rattle.std.proofs.Common.{mul-le-mul_right, arith}
 use Rattle.lists.specs.Lists.{is}
 use Rattle.systems.specs.lists.ListMachine.{marks_in}
 use Rattle.rules.specs.Rooms.{pairs_of}
 use Rattle.rules.specs.Batch.{changes_ok}
-use Rattle.rules.specs.Session.{unword}
 use Rattle.rules.specs.Calls.{value_at}
 use Rattle.rules.specs.declared.Sizes.{Sizes}
 use Rattle.laws.specs.model.LookTest.{look_test}
 use Rattle.words.specs.Words.{changes_of}
 use Rattle.engine_table.specs.Table.{Table, model_of, Drawn, ReadsAs, word_at, own_in, pair_in}
-use Rattle.engine_table.specs.EquationWords.{drawn-sound}
 use Rattle.engine_table.specs.GivesWords.{join_names, step-names}
 use Rattle.engine_table.specs.Limits.{limits}
-use Rattle.engine_index.specs.Indexed.{Indexed}
 use Rattle.engine_rows.specs.Rooms.{Bits, Tells, Told}
-use Rattle.engine_shift.specs.Seeds.{join_seeds, step_seeds, MovesIn, Shows}
+use Rattle.engine_shift.specs.Seeds.{join_seeds, step_seeds, Shows}
 use Rattle.engine_shift.specs.SeedWords.{look-low, look-join, look-step}
 use Rattle.engine_shift.specs.RowSeeds.{tells-shown, tells_none}
 
@@ -30,24 +27,17 @@ TellsShift t changes values marks y bad r =
 row_in : (z : Sizes) (x : ℕ) → x < z.variables → x * z.states + z.states ≤ pairs_of z
 row_in z x h = let k = mul-le-mul_right z.states h in omega arith
 
--- The moves of a table, and their index.
-pub moves-in : {t : Table} {index : List ℕ} → Drawn t → Indexed t index → MovesIn t.sizes t.moves index
-moves-in d i = record { ok = (drawn-sound d).moves; long = i.long; chained = i.chained }
-
--- What was read out of the word that lies at y.
-pub word_read : (equations : List ℕ) (y w o a b i k : ℕ) → w ≡ get_or equations y 0 → ReadsAs (unword w) o a b i k → ReadsAs (unword (get_or equations y 0)) o a b i k
-word_read equations y w o a b i k e = subst (λ (x : ℕ). ReadsAs (unword x) o a b i k) e
-
 module _ {t : Table} (d : Drawn t) (y : ℕ) (h : y < t.sizes.variables) (o a b i k : ℕ) (r : ReadsAs (word_at t y) o a b i k) where
   some : 0 < t.sizes.states
   some = (limits d).0.0
 
   -- The rows that an "or" or an "and" names, and the action and the row that a diamond or a box names.
-  pub join-rows : 4 ≤ o → o < 6 → (a * t.sizes.states + t.sizes.states ≤ pairs_of t.sizes) × (b * t.sizes.states + t.sizes.states ≤ pairs_of t.sizes)
-  join-rows e f = let n = join_names d y 0 h some o a b i k r e f in (row_in t.sizes a n.0, row_in t.sizes b n.1)
+  pub join-rows : 4 ≤ o → o < 6 → ((a < t.sizes.variables) × (b < t.sizes.variables))
+      × ((a * t.sizes.states + t.sizes.states ≤ pairs_of t.sizes) × (b * t.sizes.states + t.sizes.states ≤ pairs_of t.sizes))
+  join-rows e f = let n = join_names d y 0 h some o a b i k r e f in (n, (row_in t.sizes a n.0, row_in t.sizes b n.1))
 
-  pub step-rows : 6 ≤ o → (a < t.sizes.actions) × (b * t.sizes.states + t.sizes.states ≤ pairs_of t.sizes)
-  step-rows e = let n = step-names d y 0 h some o a b i k r e in (n.0, row_in t.sizes b n.1.1)
+  pub step-rows : 6 ≤ o → ((a < t.sizes.actions) × (b < t.sizes.variables)) × (b * t.sizes.states + t.sizes.states ≤ pairs_of t.sizes)
+  step-rows e = let n = step-names d y 0 h some o a b i k r e in ((n.0, n.1.1), row_in t.sizes b n.1.1)
 
   module _ (changes values marks : List ℕ) (bits : Bits values) (told : Told t values marks y) (bad : List ℕ) where
     -- A constant or a proposition.

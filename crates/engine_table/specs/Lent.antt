@@ -1,7 +1,7 @@
 -- The model that lies in lent rooms, which may be longer than it; when it is one that a load accepts; and the same cut to its length.
 -- Assumes nothing.
-use Rattle.std.specs.Prelude.{◌≡◌, Bool, List, map, ℕ, ◌+◌, ◌*◌, ◌/◌, ◌%◌, ◌≤◌, ◌<◌, length, get_or, take, eqb}
-use Rattle.std.proofs.Common.{ap, ap₂, sym, ◌∙◌, subst, mod-lt, div-lt_iff_lt-mul, arith, length-take-le, get_or-take}
+use Rattle.std.specs.Prelude.{◌≡◌, List, map, ℕ, ◌*◌, ◌/◌, ◌%◌, ◌≤◌, ◌<◌, length, get_or, take, eqb}
+use Rattle.std.proofs.Common.{ap, sym, ◌∙◌, mod-lt, div-lt_iff_lt-mul, arith, length-take-le, get_or-take}
 use Rattle.std.proofs.Math.Nat.{mod-add-div'}
 use Rattle.systems.specs.machine.Machine.{own}
 use Rattle.rules.specs.Limits.{most_states, most_variables}

@@ -6,3 +6,5 @@ pub mod SliceWalks
 pub mod GivesWords
 pub mod AsksWords
 pub mod Lent
+pub mod Sketch
+pub mod Shapes

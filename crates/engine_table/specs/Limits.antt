@@ -1,19 +1,15 @@
 -- What the limits say of a model that lies in lent rooms. Assumes nothing.
 use Rattle.std.specs.Prelude.{◌≡◌, true, List, [], ◌∷◌, ℕ, zero, suc, ◌≤◌, ◌<◌, ◌*◌, length, get_or}
-use Rattle.std.proofs.Common.{ap, mul-le-mul_right, not-suc-le-zero, le_of_suc-le-suc}
+use Rattle.std.proofs.Common.{mul-le-mul_right, not-suc-le-zero, le_of_suc-le-suc}
 use native.Mathlib.Omega.{arith}
 use Rattle.lists.specs.Tests.{tests, and_is}
 use Rattle.rules.specs.Limits.{most_states, most_actions, most_variables, most_moves}
 use Rattle.rules.specs.Moves.{source, action, target}
 use Rattle.rules.specs.Model.{move_ok, moves_ok, well_formed}
-use Rattle.rules.specs.declared.Equation.{Equation}
 use Rattle.rules.specs.Rooms.{pairs_of}
 use Rattle.rules.specs.declared.Sizes.{Sizes}
 use Rattle.laws.specs.bytes.Walks.{small}
-use Rattle.laws.specs.chains.FewBlocks.{blocks-few}
-use Rattle.laws.specs.chains.Named.{variable-block}
-use Rattle.engine_table.specs.Table.{Table, model_of, Drawn, word_at}
-use Rattle.engine_table.specs.EquationWords.{formula-word, drawn-sound}
+use Rattle.engine_table.specs.Table.{Table, Drawn}
 
 -- Each move of an ascending list inside the limits is inside them.
 pub move-at : (z : Sizes) (least : ℕ) (l : List ℕ) (j : ℕ) → moves_ok z least l ≡ true → j < length l

@@ -9,7 +9,7 @@ use Rattle.rules.specs.Model.{moves_ok}
 use Rattle.rules.specs.Values.{state, targets}
 use Rattle.rules.specs.declared.Sizes.{Sizes}
 use Rattle.moves.specs.Ascending.{below}
-use Rattle.moves.specs.OwnMoves.{part_of, within, model-targets}
+use Rattle.moves.specs.OwnMoves.{part_of, model-targets}
 use Rattle.moves.specs.declared.Part.{Part}
 
 -- The moves of the state with the action.

@@ -1,6 +1,6 @@
 -- What stays inside the rooms. Assumes nothing.
-use Rattle.std.specs.Prelude.{◌≡◌, refl, Bool, true, false, not, ℕ, ◌+◌, ◌*◌, ◌/◌, ◌≤◌, ◌<◌, length, get_or, ltb}
-use Rattle.std.proofs.Common.{sym, ap, ◌∙◌, arith}
+use Rattle.std.specs.Prelude.{◌≡◌, refl, Bool, true, false, Option, Some, None, not, ℕ, ◌+◌, ◌*◌, ◌/◌, ◌≤◌, ◌<◌, length, get_or, replicate, ltb}
+use Rattle.std.proofs.Common.{sym, ap, ◌∙◌, subst, arith}
 use Rattle.std.proofs.Math.Nat.{add-mul-div_right, div-eq_of_lt}
 use Rattle.lists.specs.Tests.{not-not, ltb-out, ltb_no}
 use Rattle.rules.specs.Moves.{source, action, target}
@@ -9,7 +9,8 @@ use Rattle.engine_table.specs.Limits.{move-inside}
 use Rattle.engine_table.specs.GivesWords.{join_names, step-names}
 use Rattle.engine_index.specs.Indexed.{key_of}
 use Rattle.engine_own.specs.Looks.{Targets}
-use Rattle.engine_turn.specs.Scene.{Scene, Standing, equation_of, Leaner, Along, HeadOf}
+use Rattle.engine_turn.specs.declared.view.View.{View}
+use Rattle.engine_turn.specs.Scene.{Scene, scene_in, Standing, equation_of, Leaner, Along, AlongBy, HeadOf}
 
 -- Two numbers below n in front of which equal multiples of n stand.
 same-multiple : (n a b t u : ℕ) → t < n → u < n → a * n + t ≡ b * n + u → a ≡ b
@@ -22,6 +23,10 @@ same-multiple n a b t u h k e =
     let f : t + a * n ≡ u + b * n = omega arith in
     let r = ap (λ (m : ℕ). m / n) f in
     omega arith
+
+-- What code looks at is a model inside the limits, and has a value for each pair.
+pub standing-in : (v : View) → Standing (scene_in v)
+standing-in v = record { labels = replicate v.known.now.sizes.states 0; drawn = v.known.now.drawn; long = v.long }
 
 module _ {c : Scene} (g : Standing c) where
   -- Moves lead to states, and come from states.
@@ -44,6 +49,13 @@ module _ {c : Scene} (g : Standing c) where
 
   pub along-step : {step : Bool} {y s j : ℕ} → Along c step y s j → step ≡ true → 6 ≤ (equation_of c y).operator
   along-step {y = y} a e = (ltb_no (equation_of c y).operator 6).0 (sym (not-not (ltb (equation_of c y).operator 6)) ∙ ap not (sym a.told ∙ e))
+
+  -- A visit along a move is one to a step, and one along none to a join.
+  pub along-move : (y s : ℕ) {way : Option ℕ} {j : ℕ} → AlongBy c way y s → way ≡ Some j → Along c true y s j
+  along-move y s a e = subst (λ (w : Option ℕ). AlongBy c w y s) e a
+
+  pub along_none : (y s : ℕ) {way : Option ℕ} → AlongBy c way y s → way ≡ None → (equation_of c y).operator < 6
+  along_none y s a e = along-join {s = s} (subst (λ (w : Option ℕ). AlongBy c w y s) e a) refl
 
   module _ {y s : ℕ} (l : Leaner c y s) (o a b i k : ℕ) (r : ReadsAs (equation_of c y) o a b i k) where
     at_least : 4 ≤ o

@@ -6,7 +6,8 @@ use Rattle.std.proofs.Math.Path.{subst}
 use Rattle.std.proofs.Math.ListN.{length}
 use Rattle.engine_index.specs.Operands.{name_at, names_of, last_named, word_before, link_in, owner_in, Named}
 use Rattle.engine_index.specs.OperandLaws.{name-at, word-before, word_some}
-use Rattle.engine_turn.specs.Scene.{Scene, Standing, sketch, Line, visit_all, pairs_by, leaners_in, OperandOf, Bounded, Room}
+use Rattle.engine_turn.specs.Scene.{Scene, Standing, Line, visit_all, pairs_by, leaners_in, OperandOf, Bounded, Room}
+use Rattle.engine_table.specs.Sketch.{sketch}
 use Rattle.engine_turn.specs.ChainVisits.{OnChain, chain-begins, chain-at, chain-room, chain_fits, chain-goes, chain-ends}
 use Rattle.engine_turn.specs.OperandWords.{slot-owner, slot-operand, slot-last, slot-inside, slot-before, slot_next, slot-falls}
 

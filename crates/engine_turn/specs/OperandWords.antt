@@ -17,7 +17,8 @@ use Rattle.engine_index.specs.ChainWalks.{last-le}
 use Rattle.engine_index.specs.Operands.{of_slot, name_at, names_of, last_named, is_step, easy_bit, slot_word, link_in, step_in, easy_in, owner_in, heads_in, link_of, word_before, Named}
 use Rattle.engine_index.specs.OperandLaws.{slot-uses, drawn-names}
 use Rattle.engine_index.specs.WordParts.{Parts, slot-parts}
-use Rattle.engine_turn.specs.Scene.{Scene, Standing, sketch, equation_of, sources_in, pairs_by, Leaner, Along, Leans, HeadOf, OperandOf}
+use Rattle.engine_turn.specs.Scene.{Scene, Standing, equation_of, sources_in, pairs_by, Leaner, Along, Leans, HeadOf, OperandOf}
+use Rattle.engine_table.specs.Sketch.{sketch}
 use Rattle.engine_turn.specs.Inside.{step-inside}
 
 module _ {c : Scene} {o : ℕ} (g : Standing c) (p : OperandOf c o) where

@@ -1,6 +1,6 @@
 -- What a turn works on, and its steps as code makes them: a pair that is visited waits where its mark leaves it free and it must turn
 -- too. Labels play no part in it. Pairs stand as numbers of the queue: 1,024 times the variable, and the state. Definitions only.
-use Rattle.std.specs.Prelude.{◌≡◌, Bool, true, not, cond, ◌&&◌, List, [], ◌∷◌, ◌++◌, ℕ, zero, suc, ◌+◌, ◌*◌, ◌/◌, ◌≤◌, ◌<◌, length, get_or, set, eqb, ltb}
+use Rattle.std.specs.Prelude.{◌≡◌, Bool, true, false, Option, Some, None, not, cond, ◌&&◌, List, [], ◌∷◌, ◌++◌, ℕ, zero, suc, ◌+◌, ◌*◌, ◌/◌, ◌≤◌, ◌<◌, length, get_or, set, eqb, ltb}
 use Rattle.lists.specs.Lists.{any}
 use Rattle.systems.specs.machine.Machine.{free, next_mark}
 use Rattle.rules.specs.Moves.{source, action, target}
@@ -9,15 +9,12 @@ use Rattle.rules.specs.Rooms.{pairs_of}
 use Rattle.rules.specs.Session.{unword}
 use Rattle.rules.specs.declared.Sizes.{Sizes}
 use Rattle.words.specs.Words.{waiting_of, variable_in, state_in}
-use Rattle.engine_table.specs.Table.{Table, table_in, Drawn, pair_in, waiter}
+use Rattle.engine_table.specs.Table.{table_in, Drawn, pair_in, waiter}
 use Rattle.engine_table.specs.Part.{own_moves}
 use Rattle.engine_index.specs.Indexed.{key_of}
 use Rattle.engine_index.specs.Operands.{is_step, easy_bit, names_of, slot_word, link_in, waits_in, owner_in, row_in}
 use Rattle.engine_turn.specs.declared.Spread.{Spread}
-
--- A table without labels.
-abbrev pub sketch : Sizes → List ℕ → List ℕ → Table
-sketch z equations moves = table_in z [] equations moves
+use Rattle.engine_turn.specs.declared.view.View.{View}
 
 -- The table, the values, and the value that pairs turn from.
 pub record Scene : Type 0 where
@@ -29,6 +26,13 @@ pub record Scene : Type 0 where
 
 abbrev pub scene_of : Sizes → List ℕ → List ℕ → List ℕ → ℕ → Scene
 scene_of z equations moves values from = record { sizes = z; equations = equations; moves = moves; values = values; from = from }
+
+-- What code looks at in a turn, and its sizes.
+abbrev pub scene_in : View → Scene
+scene_in v = scene_of v.known.now.sizes v.known.now.equations.now v.known.now.moves.now v.values.now v.from
+
+abbrev pub sizes_in : View → Sizes
+sizes_in v = v.known.now.sizes
 
 -- The table is, with some labels, a model inside the limits, and there is a value for each pair.
 pub record Standing (c : Scene) : Type 0 where
@@ -121,6 +125,16 @@ unfoldable pub leaners_in : Sizes → List ℕ → List ℕ → ℕ → ℕ → 
 unfolding along pairs_by
 leaners_in z equations moves x s = along (λ w. w) (names_of equations) x (λ j. pairs_by z equations moves s (j / 2)) (2 * length equations)
 
+-- The same of what code looks at: the pairs of a chain, of an operand, and all that lean on a pair.
+abbrev pub sources_of : View → ℕ → ℕ → List ℕ
+sources_of v y key = sources_in v.known.now.sizes v.known.now.moves.now y key
+
+abbrev pub pairs_of_word : View → ℕ → ℕ → List ℕ
+pairs_of_word v s y = pairs_by v.known.now.sizes v.known.now.equations.now v.known.now.moves.now s y
+
+abbrev pub leaners_at : View → ℕ → ℕ → List ℕ
+leaners_at v x s = leaners_in v.known.now.sizes v.known.now.equations.now v.known.now.moves.now x s
+
 -- y is a variable that leans on others, and s a state.
 pub record Leaner (c : Scene) (y s : ℕ) : Type 0 where
   pub variable : y < c.sizes.variables
@@ -131,6 +145,11 @@ pub record Leaner (c : Scene) (y s : ℕ) : Type 0 where
 pub record Along (c : Scene) (step : Bool) (y s j : ℕ) : Type 0 where
   pub told : step ≡ is_step (equation_of c y)
   pub own : step ≡ true → (j < length c.moves) × ((source (get_or c.moves j 0) ≡ s) × (action (get_or c.moves j 0) ≡ (equation_of c y).first))
+
+-- The same, where a step has a move and a join has none.
+abbrev pub AlongBy : Scene → Option ℕ → ℕ → ℕ → Type 0
+AlongBy c None y s = Along c false y s 0
+AlongBy c (Some j) y s = Along c true y s j
 
 -- What a visit takes from the word: its variable leans on others, the word holds the variable's places, and `asks` says whether the
 -- operands are to be asked, as those of an easy variable are while settling.

@@ -20,9 +20,11 @@ use Rattle.laws.specs.model.ModelLeaners.{leaners_via, leaners_to, leaners_of, m
 use Rattle.engine_table.specs.Table.{Table, table_in, model_of, Drawn, word_at, own_in, pair_in, waiter}
 use Rattle.engine_table.specs.EquationWords.{drawn-sound, own-word, pair_inside}
 use Rattle.engine_rows.specs.Rooms.{Bits, Packed, pile_in}
-use Rattle.engine_turn.specs.Scene.{Scene, scene_of, Standing, sketch, asks_for, Line, line_of, visit_all, leaners_in, Bounded, Room}
+use Rattle.engine_turn.specs.Scene.{Scene, scene_of, asks_for, Line, line_of, visit_all, leaners_in, Bounded, Room}
+use Rattle.engine_table.specs.Sketch.{sketch}
 use Rattle.engine_own.specs.Pairs.{pair-low}
-use Rattle.engine_turn.specs.Turns.{Visit, ask_of, visited, Sketched, FromValue, Round, round_of, visit_in, RoomFor, Turned}
+use Rattle.engine_turn.specs.Turns.{Visit, ask_of, visited, FromValue, Round, round_of, visit_in, RoomFor, Turned}
+use Rattle.engine_table.specs.Sketch.{Sketched}
 use Rattle.engine_turn.specs.PileVisits.{run-visited, all-packed}
 use Rattle.engine_turn.specs.LeanersFound.{leaners-found}
 use Rattle.engine_turn.specs.LeanersInside.{in_map, leaners-stand}
@@ -201,9 +203,6 @@ module _ {z : Sizes} {equations moves values queue : List ℕ} {tail front x q p
   p-inside = let k = pair-low z x q x-inside q-inside in let l = f.long in omega arith
 
   -- What code needs for the visits.
-  pub turn-standing : (after : List ℕ) (from : ℕ) → length after ≡ length values → Standing (scene_of z equations moves after from)
-  turn-standing after from e = record { labels = f.sketched.labels; drawn = f.sketched.drawn; long = e ∙ f.long }
-
   pub turn-bounded : (visits : ℕ) → Bounded tail visits (leaners_of (model_of (sketch z equations moves)) (waiter z top)) → Bounded tail visits (leaners_in z equations moves x q)
   turn-bounded visits b =
       leaners-bounded z f.sketched.labels equations moves f.sketched.drawn x q tail visits x-inside q-inside

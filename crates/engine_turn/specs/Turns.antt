@@ -26,11 +26,6 @@ ask_of m ph vs r = asks (frame m) (leanings m) ph (value_at vs) r
 unfoldable pub visited : Model → Bool → List ℕ → List ℕ → Visit → Visit
 visited m ph vs l v = record { pile = spread_l (free ph) (next_mark ph) (ask_of m ph vs) l v.pile; visits = v.visits + length l }
 
--- The equations and the moves are, with some labels, those of a model inside the limits.
-pub record Sketched (z : Sizes) (equations moves : List ℕ) : Type 0 where
-  pub labels : List ℕ
-  pub drawn : Drawn (table_in z labels equations moves)
-
 -- The pair that the number w stands for has the value that pairs turn from: the own value of its block while settling, else the other.
 abbrev pub FromValue : Table → Bool → List ℕ → ℕ → Type 0
 FromValue t ph values w = value_at values (waiter t.sizes w) ≡ cond ph (own_in t (variable_in w)) (not (own_in t (variable_in w)))

@@ -2,7 +2,7 @@
 // true pairs are counted.
 #![tactic(auto)]
 
-ghost use Rattle.std.specs.Prelude.{◌≡◌, map, suc, ◌+◌, ◌≤◌, ◌<◌, max, pos, ◌-ℤ◌, length, get_or, replicate, eqb};
+ghost use Rattle.std.specs.Prelude.{◌≡◌, map, ◌++◌, ◌+◌, ◌≤◌, ◌<◌, max, pos, ◌-ℤ◌, length, get_or, drop, replicate, eqb};
 ghost use Rattle.lists.specs.Lists.{bit, fill};
 ghost use Rattle.rules.specs.Model.{blocks_in};
 ghost use Rattle.rules.specs.Session.{unword};
@@ -12,35 +12,14 @@ ghost use Rattle.engine_table.specs.Lent.{kind_in};
 
 use rules::Sizes;
 
-// Sets each place to v.
-fn set_all(room: &mut [u8], v: u8)
-    ensures { room.new ≡ replicate (length room.old) v }
-{
-    let n = room.len();
-    let mut j: usize = 0;
-    while j < n {
-        room[j] = v;
-        j = j + 1;
-    }
-}
-
-// Sets the first n places to 0.
-pub fn clear(room: &mut [u8], n: usize)
+// Sets the first n places to v, of a room that may be longer.
+pub fn set_first<T: Copy>(room: &mut [T], n: usize, v: T)
     requires { n ≤ length room.old }
-    ensures { room.new ≡ fill (replicate n 0) room.old }
+    ensures { room.new ≡ replicate n v ++ drop (length (replicate n v)) room.old }
 {
-    set_all(&mut room[..n], 0);
-}
-
-// The same in a room of numbers of two bytes.
-pub fn clear_halves(room: &mut [u16], n: usize)
-    requires { n ≤ length room.old }
-    ensures { room.new ≡ fill (replicate n 0) room.old }
-{
-    let mut j: usize = 0;
-    while j < n {
-        room[j] = 0;
-        j = j + 1;
+    // A loop and no `fill`, which asks for a clone that cannot fail: `T: Copy` says nothing of that.
+    for x in room[..n].iter_mut() {
+        *x = v;
     }
 }
 
@@ -48,49 +27,31 @@ pub fn clear_halves(room: &mut [u16], n: usize)
 fn own_byte(equations: &[u32], x: usize) -> u8
     ensures { result ≡ bit (eqb (unword (get_or equations.now x 0)).kind 1) }
 {
-    let e = words::equation_in(rooms::word_at(equations, x));
+    let e = words::equation_in(rooms::at_or(equations, x, 0));
     (e.kind == 1) as u8
 }
 
-// Gives each of the first n pairs the own value of its block, all pairs of a variable at once.
+// Gives each of the first n pairs the own value of its block, all pairs of a variable at once. What lies past them in the room stays.
 pub fn own_values(sizes: Sizes, equations: &[u32], n: usize, values: &mut [u8])
     requires { (0 < sizes.states) × (n ≤ length values.old) }
     ensures { values.new ≡ fill (bits n (λ p. eqb (kind_in sizes equations.now p) 1)) values.old }
 {
     let states = sizes.states as usize;
-    let mut p: usize = 0;
-    let mut x: usize = 0;
-    while p < n {
-        let end = p + moves::least(n - p, states);
-        let v = own_byte(equations, x);
-        set_all(&mut values[p..end], v);
-        p = end;
-        x = x + 1;
+    for x in 0..n.div_ceil(states) {
+        let p = x * states;
+        let end = n.min(p + states);
+        values[p..end].fill(own_byte(equations, x));
     }
-}
-
-// One more than the block of variable x, or the count where that is no less.
-fn with_block(equations: &[u32], x: usize, count: usize) -> usize
-    ensures { result ≡ max (suc (unword (get_or equations.now x 0)).block) count }
-{
-    let e = words::equation_in(rooms::word_at(equations, x));
-    let past = e.block as usize + 1;
-    if count < past {
-        return past;
-    }
-    count
 }
 
 // How many blocks or components the equations have: one more than the highest number.
 pub fn count_blocks(equations: &[u32]) -> usize
     ensures { result ≡ blocks_in (map unword equations.now) }
 {
-    let n = equations.len();
     let mut r: usize = 0;
-    let mut x: usize = 0;
-    while x < n {
-        r = with_block(equations, x, r);
-        x = x + 1;
+    for w in equations {
+        let past = words::equation_in(*w).block as usize + 1;
+        r = r.max(past);
     }
     r
 }
@@ -98,31 +59,26 @@ pub fn count_blocks(equations: &[u32]) -> usize
 // How many pairs are counted in one byte: not too many for it, and a multiple of what the machine takes at once.
 const COUNTED_AT_ONCE: usize = 224;
 
-// How many of the pairs from `from` up to `end` are true.
-fn count_some(values: &[u8], from: usize, end: usize) -> u8
-    requires { (from ≤ end) × ((end ≤ from + 255) × (end ≤ length values.now)) }
-    ensures { (trues from (value_at values.now) + result ≡ trues end (value_at values.now)) × (from + result ≤ end) }
+// How many of these pairs are true.
+fn count_some(values: &[u8]) -> u8
+    requires { length values.now ≤ 255 }
+    ensures { result ≡ trues (length values.now) (value_at values.now) }
 {
     let mut r: u8 = 0;
-    let mut p = from;
-    while p < end {
-        r = r + (values[p] == 1) as u8;
-        p = p + 1;
+    for x in values {
+        r += (*x == 1) as u8;
     }
     r
 }
 
-// How many of the first n pairs are true.
+// How many of the first n pairs are true. The room may be longer or shorter than the pairs: of a shorter one all are counted.
 pub fn count_true(values: &[u8], n: usize) -> usize
     ensures { (result ≡ trues n (value_at values.now)) × (result ≤ n) }
 {
-    let end = moves::least(n, values.len());
+    let end = n.min(values.len());
     let mut r: usize = 0;
-    let mut p: usize = 0;
-    while p < end {
-        let next = p + moves::least(end - p, COUNTED_AT_ONCE);
-        r = r + count_some(values, p, next) as usize;
-        p = next;
+    for some in values[..end].chunks(COUNTED_AT_ONCE) {
+        r += count_some(some) as usize;
     }
     r
 }

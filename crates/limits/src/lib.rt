@@ -25,7 +25,7 @@ pub const MOST_MOVES: usize = 1024;
 pub const MOST_CHANGES: usize = 64;
 
 // How long the rooms are that a caller lends.
-#[derive(Clone, Copy)]
+#[derive(Clone, Copy, Debug, PartialEq, Eq)]
 pub struct Lent {
     pub labels: usize,
     pub equations: usize,
@@ -94,11 +94,7 @@ pub fn rooms_ok(l: Lent, z: Sizes) -> bool
 pub fn index_needs(z: Sizes, room: usize) -> usize
     ensures { (result ≡ index_needs z room) × (result < products_end + most_moves) }
 {
-    let heads = product(z.actions, z.states);
-    if room < MOST_MOVES {
-        return heads + room;
-    }
-    heads + MOST_MOVES
+    product(z.actions, z.states) + room.min(MOST_MOVES)
 }
 
 // The places used of the queue: one for each pair, and one more.
@@ -126,7 +122,7 @@ pub fn lent_ok(l: Lent, z: Sizes) -> bool
 pub fn label_ok(z: Sizes, v: u32) -> bool
     ensures { result ≡ label_ok z v }
 {
-    32 - u32::leading_zeros(v) <= z.propositions as u32
+    32 - v.leading_zeros() <= z.propositions as u32
 }
 
 // Source, action and target lie below their counts.
@@ -136,7 +132,8 @@ pub fn move_ok(z: Sizes, m: Move) -> bool
     (m.source.0 < z.states) & (m.action.0 < z.actions) & (m.target.0 < z.states)
 }
 
-// The operator is at most 7, what it uses lies below its count, and what it does not use is 0.
+// The operator is at most 7, what it uses lies below its count, and what it does not use is 0. It is the number that was read: any may
+// stand there.
 pub fn operands_ok(z: Sizes, o: u8, a: u8, b: u8) -> bool
     ensures { result ≡ operands_ok z o a b }
 {

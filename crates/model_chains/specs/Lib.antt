@@ -1,3 +1,4 @@
+pub mod Ranged
 pub mod Filled
 pub mod Reaching
 pub mod Numbering

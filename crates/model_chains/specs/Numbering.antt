@@ -1,14 +1,14 @@
 -- Components, their numbers and guilty equations, read from sets of bits. Where these are what each variable leads to, it is
 -- what the rules say. Assumes nothing.
-use Rattle.std.specs.Prelude.{◌≡◌, Bool, cond, ◌&&◌, ◌||◌, List, ℕ, suc, ◌+◌, ◌/◌, ◌%◌, ◌^◌, ◌≤◌, ◌<◌, length, get_or}
+use Rattle.std.specs.Prelude.{◌≡◌, Bool, cond, ◌&&◌, List, ℕ, ◌+◌, ◌/◌, ◌%◌, ◌^◌, ◌<◌, length, get_or}
 use Rattle.std.proofs.Common.{sym, ◌∙◌, add-one, arith}
 use Rattle.std.proofs.Math.Path.{ap, ap₂}
 use Rattle.std.proofs.Math.Bool.{not}
 use Rattle.std.proofs.Math.Dec.{eqb, ltb}
 use Rattle.lists.specs.Lists.{bit, sum, mask, some_below, each_below, lowest}
 use Rattle.lists.specs.Sums.{sum-ext}
-use Rattle.lists.specs.Ranges.{same_truth, some_same, lowest-found}
-use Rattle.lists.specs.Tests.{eqb-in, eqb-out, ltb-in, ltb_no, cond_yes, cond_no}
+use Rattle.lists.specs.Ranges.{same_truth, some_same}
+use Rattle.lists.specs.Tests.{eqb-in, eqb-out}
 use Rattle.lists.specs.Masks.{mask-bit}
 use Rattle.rules.specs.Chains.{together, mixed, reach, stands, component}
 use Rattle.rules.specs.Model.{equation_in, names_in, guilty, component_in}
@@ -35,16 +35,12 @@ component_by l x = sum (length l) (before_by l x)
 abbrev pub kind_in : List Equation → ℕ → ℕ
 kind_in es x = (equation_in es x).kind
 
--- x is tied to y, which has the other sign; x is tied to such a variable; the lowest that is, up to x, where `best` is the lowest
--- before x, or x; and the lowest of all.
+-- x is tied to y, which has the other sign; x is tied to such a variable; and the lowest that is.
 unfoldable pub against_by : List Equation → List ℕ → ℕ → ℕ → Bool
 against_by es l x y = tied_by l x y && not (eqb (kind_in es x) (kind_in es y))
 
 unfoldable pub guilty_by : List Equation → List ℕ → ℕ → Bool
 guilty_by es l x = some_below (length l) (against_by es l x)
-
-unfoldable pub lower_by : List Equation → List ℕ → ℕ → ℕ → ℕ
-lower_by es l x best = cond (ltb best x) best (cond (guilty_by es l x) x (suc x))
 
 unfoldable pub lowest_by : List Equation → List ℕ → ℕ
 lowest_by es l = lowest (length l) (guilty_by es l)
@@ -56,50 +52,16 @@ number_by es l x = eqb (equation_in es x).block (component_by l x)
 unfoldable pub numbers_by : List Equation → List ℕ → ℕ → Bool
 numbers_by es l k = each_below k (number_by es l)
 
--- One turn of each loop, from what code has in hand.
-pub some_more : (f : ℕ → Bool) (y : ℕ) (found t : Bool) → found ≡ some_below y f → t ≡ f y → (found || t) ≡ some_below (y + 1) f
-some_more f y found t e g = ap₂ (λ (p q : Bool). p || q) e g ∙ ap (λ (k : ℕ). some_below k f) (sym (add-one y))
-
+-- One variable more in the set of those that stand, from what code has in hand.
 pub standing-more : (l : List ℕ) (x set : ℕ) (is : Bool) → set ≡ mask x (stands_by l) → is ≡ stands_by l x → set + cond is (2 ^ x) 0 ≡ mask (x + 1) (stands_by l)
 standing-more l x set is e f = ap₂ (λ (m : ℕ) (b : Bool). m + cond b (2 ^ x) 0) e f ∙ ap (λ (k : ℕ). mask k (stands_by l)) (sym (add-one x))
 
-pub before_more : (l : List ℕ) (x y count own set : ℕ) → y < length l → set ≡ mask (length l) (stands_by l) → own ≡ get_or l x 0 → count ≡ sum y (before_by l x)
-    → (k : ℕ) → k ≡ bit (eqb (set / 2 ^ y % 2) 1 && ltb (get_or l y 0) own) → count + k ≡ sum (y + 1) (before_by l x)
-unfolding before_by
-before_more l x y count own set h e f g k q =
+-- What code asks of y in place of whether it stands for a component before that of x: `set` has those that stand, and `own` is x's.
+pub before_is : (l : List ℕ) (x y own set : ℕ) → y < length l → set ≡ mask (length l) (stands_by l) → own ≡ get_or l x 0
+    → (eqb (set / 2 ^ y % 2) 1 && ltb (get_or l y 0) own) ≡ (stands_by l y && ltb (get_or l y 0) (get_or l x 0))
+before_is l x y own set h e f =
     let a : eqb (set / 2 ^ y % 2) 1 ≡ stands_by l y = ap (λ (m : ℕ). eqb (m / 2 ^ y % 2) 1) e ∙ mask-bit (length l) (stands_by l) y h in
-    let b : k ≡ before_by l x y = q ∙ ap₂ (λ (p : Bool) (j : ℕ). bit (p && ltb (get_or l y 0) j)) a f in
-    ap₂ (λ (i j : ℕ). i + j) g b ∙ ap (λ (j : ℕ). sum j (before_by l x)) (sym (add-one y))
-
-pub against-more : (es : List Equation) (l : List ℕ) (x y : ℕ) (d e : Equation) (found : Bool) → d ≡ equation_in es x → e ≡ equation_in es y → found ≡ some_below y (against_by es l x)
-    → (found || (tied_by l x y && not (eqb d.kind e.kind))) ≡ some_below (y + 1) (against_by es l x)
-unfolding against_by
-against-more es l x y d e found p q h =
-    some_more (against_by es l x) y found _ h (ap₂ (λ (a b : Equation). tied_by l x y && not (eqb a.kind b.kind)) p q)
-
-pub numbers-next : (es : List Equation) (l : List ℕ) (k : ℕ) (ok : Bool) (e : Equation) (c : ℕ) → ok ≡ numbers_by es l k → e ≡ equation_in es k → c ≡ component_by l k
-    → (ok && eqb e.block c) ≡ numbers_by es l (k + 1)
-unfolding numbers_by number_by
-numbers-next es l k ok e c h f g =
-    ap₂ (λ (x y : Bool). x && y) h (ap₂ (λ (d : Equation) (n : ℕ). eqb d.block n) f g) ∙ ap (λ (j : ℕ). each_below j (number_by es l)) (sym (add-one k))
-
--- The lowest guilty variable, one variable on: as the loop has it, where it is known already, and where x decides.
-pub lower-next : (es : List Equation) (l : List ℕ) (x best : ℕ) → best ≡ lowest x (guilty_by es l) → lower_by es l x best ≡ lowest (x + 1) (guilty_by es l)
-unfolding lower_by
-lower-next es l x best e =
-    let g : ℕ → Bool = guilty_by es l in
-    ap (λ (b : ℕ). cond (ltb b x) b (cond (g x) x (suc x))) e
-    ∙ ap (λ (t : Bool). cond t (lowest x g) (cond (g x) x (suc x))) (lowest-found x g)
-    ∙ ap (λ (k : ℕ). lowest k g) (sym (add-one x))
-
-pub lower-kept : (es : List Equation) (l : List ℕ) (x best : ℕ) → best < x → best ≡ lower_by es l x best
-unfolding lower_by
-lower-kept es l x best h = sym (cond_yes best (cond (guilty_by es l x) x (suc x)) (ltb-in best x h))
-
-pub lower-else : (es : List Equation) (l : List ℕ) (x best : ℕ) (t : Bool) → x ≤ best → t ≡ guilty_by es l x → cond t x (x + 1) ≡ lower_by es l x best
-unfolding lower_by
-lower-else es l x best t h e =
-    ap₂ (λ (b : Bool) (k : ℕ). cond b x k) e (add-one x) ∙ sym (cond_no best (cond (guilty_by es l x) x (suc x)) ((ltb_no best x).1 h))
+    ap₂ (λ (p : Bool) (j : ℕ). p && ltb (get_or l y 0) j) a f
 
 -- Where the sets are what each variable leads to, one for each equation, all this is what the rules say: variables with the same set
 -- lead to one another, since each leads to itself.

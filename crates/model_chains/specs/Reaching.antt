@@ -11,10 +11,9 @@ use Rattle.std.specs.Int.Bits.{bit_or}
 use Rattle.std.proofs.Math.ListN.{length, get_or-eq_default}
 use Rattle.std.proofs.Math.Seq.{get_or-take, length-take-le}
 use Rattle.std.proofs.Math.Dec.{eqb}
-use Rattle.lists.specs.Lists.{any, mask, each_below}
+use Rattle.lists.specs.Lists.{any, mask}
 use Rattle.lists.specs.Smallest.{at, rounds, smallest}
-use Rattle.lists.specs.Ranges.{each-out}
-use Rattle.lists.specs.Tests.{tell, or-false, eqb-out, ltb-in, ltb_no, cond_yes, cond_no}
+use Rattle.lists.specs.Tests.{tell, or-false, ltb-in, ltb_no}
 use Rattle.lists.specs.Entries.{zeros-at}
 use Rattle.lists.specs.TableLaws.{table_at, table-past}
 use Rattle.lists.specs.Masks.{mask-or, mask_one, mask-none, mask-same}
@@ -22,7 +21,7 @@ use Rattle.rules.specs.Limits.{most_variables}
 use Rattle.rules.specs.Chains.{lead_rule, leads, reach}
 use Rattle.rules.specs.Model.{equation_in, names_in}
 use Rattle.rules.specs.declared.Equation.{Equation}
-use Rattle.model_chains.specs.Filled.{Filled, filled-below, filled-past, filled_next, same_entries}
+use Rattle.model_chains.specs.Filled.{Filled, filled-below, filled-past, filled_next}
 
 -- One set of the next round: x itself, and all that is in the sets of those that its equation names.
 unfoldable pub row_of : List ℕ → Equation → ℕ → ℕ
@@ -64,23 +63,6 @@ pub round-next : (es : List Equation) (old new₀ new last : List ℕ) (x : ℕ)
     → v ≡ row_of old e x → last ≡ set new x v → Round es old new₀ (x + 1) last
 round-next es old new₀ new last x e v r l q f g =
     filled_next (λ y. row_of old (equation_in es y) y) new₀ x new last v r l (f ∙ ap (λ (d : Equation). row_of old d x) q) g
-
--- The first k sets of two rounds are the same.
-unfoldable pub same_sets : List ℕ → List ℕ → ℕ → Bool
-same_sets old new k = each_below k (λ x. eqb (get_or old x 0) (get_or new x 0))
-
--- One set more, from what code has in hand; and where all are the same, so are the lists.
-pub same_more : (old new : List ℕ) (x : ℕ) (still : Bool) → still ≡ same_sets old new x → (still && eqb (get_or old x 0) (get_or new x 0)) ≡ same_sets old new (x + 1)
-unfolding same_sets
-same_more old new x still e =
-    ap (λ (b : Bool). b && eqb (get_or old x 0) (get_or new x 0)) e ∙ ap (λ (k : ℕ). each_below k (λ y. eqb (get_or old y 0) (get_or new y 0))) (sym (add-one x))
-
-same_lists : (old new : List ℕ) (k : ℕ) → length old ≡ k → length new ≡ k → same_sets old new k ≡ true → old ≡ new
-unfolding same_sets
-same_lists old new k e f t = same_entries old new (e ∙ sym f) (λ x. elim (dec_lt x k) [
-  | yes h ↦ eqb-out (get_or old x 0) (get_or new x 0) (each-out k (λ y. eqb (get_or old y 0) (get_or new y 0)) t x h)
-  | no h ↦ get_or-eq_default old 0 (omega arith) ∙ sym (get_or-eq_default new 0 (omega arith))
-])
 
 -- What is asked of x by the rule that tells what leads to y, and x leads to y as far as k rounds tell.
 abbrev toward : List Equation → ℕ → (ℕ → Bool) → ℕ → Bool
@@ -162,24 +144,20 @@ module _ (es : List Equation) where
   rounded-stays zero k l d r = subst (λ (i : ℕ). Rounded es i l) (omega arith) r
   rounded-stays (suc j) k l d r = subst (λ (i : ℕ). Rounded es i l) (omega arith) (rounded-next (j + k) l l (rounded-stays j k l d r) d)
 
-  -- A round more, from what code has in hand: the sets stand for all rounds, where it has changed none.
-  pub rounded-counted : (n k : ℕ) (old new : List ℕ) (still : Bool) (j : ℕ) → n ≡ length es → k ≤ n → Rounded es k old → Round es old none n new
-      → still ≡ same_sets old new (length old) → j ≡ cond still (n + 1) (k + 1) → Rounded es j new
-  rounded-counted n k old new still j c h r d e f =
-      let round : Round es old none (length es) new = subst (λ (m : ℕ). Round es old none m new) c d in
-      elim (tell true still) [
-        | inl t ↦
-            let same : old ≡ new = same_lists old new (length old) refl (d.size ∙ sym r.size) (sym e ∙ t) in
-            let stays = rounded-stays (n + 1 - k) k new (subst (λ (l : List ℕ). Round es l none (length es) new) same round) (subst (Rounded es k) same r) in
-            let all : n + 1 - k + k ≡ j = let c = f ∙ cond_yes (n + 1) (k + 1) t in omega arith in
-            subst (λ (i : ℕ). Rounded es i new) all stays
-        | inr t ↦ subst (λ (i : ℕ). Rounded es i new) (sym (f ∙ cond_no (n + 1) (k + 1) t)) (rounded-next k old new r round)
-      ]
+  -- A round more, from what code has in hand: n is the number of equations.
+  pub rounded-more : (n k : ℕ) (old new : List ℕ) → n ≡ length es → Rounded es k old → Round es old none n new → Rounded es (k + 1) new
+  rounded-more n k old new c r d = rounded-next k old new r (subst (λ (m : ℕ). Round es old none m new) c d)
 
   -- After the last round it is what each variable leads to.
   pub rounded-reaches : (k : ℕ) (l : List ℕ) → Rounded es k l → k ≡ suc (length es) → Reaches es l
   unfolding reach leads smallest
   rounded-reaches k l r e = record { sets = (subst (λ (j : ℕ). Rounded es j l) e r).sets }
+
+  -- And where a round has changed none, no more are needed.
+  pub rounded-same : (n k : ℕ) (old new : List ℕ) → n ≡ length es → k ≤ n → Rounded es k old → Round es old none n new → new ≡ old → Reaches es old
+  rounded-same n k old new c h r d e =
+      let still : Round es old none (length es) old = subst (λ (l : List ℕ). Round es old none (length es) l) e (subst (λ (m : ℕ). Round es old none m new) c d) in
+      rounded-reaches (suc (length es) - k + k) old (rounded-stays (suc (length es) - k) k old still r) (omega arith)
 
   -- So it is in the first n sets, where n is the number of equations.
   pub reaches-cut : (n : ℕ) (l : List ℕ) → n ≡ length es → n ≤ length l → Reaches es l → Reaches es (take n l)

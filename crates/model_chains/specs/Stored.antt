@@ -1,12 +1,13 @@
 -- The equations that stored words hold, and what is asked of their chains and numbers: the code's test is the rules'.
 -- Assumes nothing.
-use Rattle.std.specs.Prelude.{◌≡◌, Bool, not, ◌&&◌, List, map, ℕ, ◌≤◌, length, get_or, take, eqb}
-use Rattle.std.proofs.Common.{sym, ap, ap₂, ◌∙◌, arith, length-take}
+use Rattle.std.specs.Prelude.{◌≡◌, refl, Bool, cond, not, ◌&&◌, List, [], ◌∷◌, map, ℕ, suc, ◌+◌, ◌≤◌, length, get_or, take, eqb}
+use Rattle.std.specs.List.{prefix_len}
+use Rattle.std.proofs.Common.{sym, ap, ap₂, ◌∙◌, add-one, arith, length-take}
 use Rattle.std.proofs.lemmas.List.{length-map}
 use Rattle.std.proofs.Math.ListN.{get_or-map}
 use Rattle.lists.specs.Lists.{some_below, each_below, lowest}
 use Rattle.lists.specs.Ranges.{some_same, lowest-same, each_same, none-lowest}
-use Rattle.rules.specs.Model.{equation_in, guilty, component_in}
+use Rattle.rules.specs.Model.{equation_in, run_of, guilty, component_in}
 use Rattle.rules.specs.declared.Equation.{Equation}
 use Rattle.rules.specs.Session.{unword}
 use Rattle.model_chains.specs.Reaching.{Reaches}
@@ -46,3 +47,12 @@ unfolding lowest_by
 lowest_by_lem es l n low r long c e =
     e ∙ ap (λ (k : ℕ). lowest k (guilty_by es l)) long ∙ lowest-same (length es) (guilty_by es l) (guilty es) (guilty-is es l r long)
     ∙ ap (λ (k : ℕ). lowest k (guilty es)) (sym c)
+
+-- A run of words whose equations stand in the block with number b - 1 is a run of those equations.
+pub run_is : (b : ℕ) (ws : List ℕ) → prefix_len (λ w. eqb ((unword w).block + 1) b) ws ≡ run_of b (map unword ws)
+run_is b [] = refl
+run_is b (w ∷ ws) =
+    ap₂ (λ (k r : ℕ). cond (eqb k b) r 0) (add-one (unword w).block) (ap (λ (r : ℕ). 1 + r) (run_is b ws) ∙ one-add (run_of b (map unword ws)))
+  where
+    one-add : (n : ℕ) → 1 + n ≡ suc n
+    one-add n = omega arith

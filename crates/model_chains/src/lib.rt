@@ -3,17 +3,25 @@
 // their number at the doors, so that their length tells it.
 #![tactic(auto)]
 
-ghost use Rattle.std.specs.Prelude.{◌≡◌, cond, ◌&&◌, map, ◌+◌, ◌/◌, ◌%◌, ◌^◌, ◌≤◌, ◌<◌, eqb, ltb, get_or, length};
-ghost use Rattle.lists.specs.Lists.{bit, fill, mask, lowest};
+ghost use Rattle.std.specs.Prelude.{◌≡◌, ◌&&◌, map, ◌+◌, ◌/◌, ◌%◌, ◌^◌, ◌≤◌, ◌<◌, eqb, ltb, get_or, length};
+ghost use Rattle.lists.specs.Lists.{fill, mask, lowest};
 ghost use Rattle.rules.specs.Limits.{most_variables};
-ghost use Rattle.rules.specs.Model.{equation_in, guilty, placed};
+ghost use Rattle.rules.specs.Model.{equation_in, run_of, guilty, placed};
 ghost use Rattle.rules.specs.Session.{word, unword};
-ghost use Rattle.model_chains.specs.Reaching.{row_of, Round, Reaches, same_sets};
-ghost use Rattle.model_chains.specs.Numbering.{stands_by, component_by, guilty_by, lower_by, lowest_by, numbers_by};
+ghost use Rattle.model_chains.specs.Reaching.{row_of, Round, Reaches};
+ghost use Rattle.model_chains.specs.Numbering.{stands_by, component_by, guilty_by, lowest_by, numbers_by};
 ghost use Rattle.model_chains.specs.Stored.{held, chains_ok};
 ghost use Rattle.laws.specs.chains.Placed.{with_block};
 
 use rules::Equation;
+
+// Equations, and what each of their variables leads to, as a set of bits.
+#[derive(Clone, Copy)]
+struct Reached<'a> {
+    equations: &'a [u32],
+    reach: &'a [u32],
+    ghost long: { length reach.now ≡ length equations.now },
+}
 
 // The equation of variable x.
 pub fn equation_at(equations: &[u32], x: usize) -> Equation
@@ -21,6 +29,16 @@ pub fn equation_at(equations: &[u32], x: usize) -> Equation
     ensures { result ≡ equation_in (map unword equations.now) x }
 {
     words::equation_in(equations[x])
+}
+
+// How many equations, from the first on, stand in the block with number b - 1.
+pub fn run_of(equations: &[u32], b: u32) -> usize
+    ensures { (result ≡ run_of b (map unword equations.now)) × (result ≤ length equations.now) }
+{
+    equations
+        .iter()
+        .take_while(|w| u32::from(words::equation_in(**w).block) + 1 == b)
+        .count()
 }
 
 // The set of one variable.
@@ -31,7 +49,7 @@ fn only(x: usize) -> u32
     1u32 << x
 }
 
-// What variable x with equation e leads to, where `old` has what the others lead to.
+// What variable x with equation e leads to, where `old` has what the others lead to. The operator is asked by its number, as `row_of` does.
 fn row(e: Equation, x: usize, old: &[u32]) -> u32
     requires { x < most_variables }
     ensures { result ≡ row_of old.now e x }
@@ -40,8 +58,8 @@ fn row(e: Equation, x: usize, old: &[u32]) -> u32
     if e.operator < 4 {
         return own;
     }
-    let first = rooms::word_at(old, e.first as usize);
-    let second = rooms::word_at(old, e.second as usize);
+    let first = rooms::at_or(old, usize::from(e.first), 0);
+    let second = rooms::at_or(old, usize::from(e.second), 0);
     if e.operator < 6 {
         return own | first | second;
     }
@@ -53,36 +71,9 @@ fn round(equations: &[u32], old: &[u32], new: &mut [u32])
     requires { (length equations.now ≤ most_variables) × (length equations.now ≤ length new.old) }
     ensures { Round (map unword equations.now) old.now new.old (length equations.now) new.new }
 {
-    let mut x: usize = 0;
-    while x < equations.len() {
+    for x in 0..equations.len() {
         new[x] = row(equation_at(equations, x), x, old);
-        x = x + 1;
     }
-}
-
-// Whether a round has left all sets as they were.
-fn same(old: &[u32], new: &[u32]) -> bool
-    requires { length old.now ≡ length new.now }
-    ensures { result ≡ same_sets old.now new.now (length old.now) }
-{
-    let mut x: usize = 0;
-    let mut still = true;
-    while x < old.len() {
-        still = still & (old[x] == new[x]);
-        x = x + 1;
-    }
-    still
-}
-
-// How many rounds the sets of n variables stand for after one more than k: all, where the round has left them as they were.
-fn counted(n: usize, k: usize, still: bool) -> usize
-    requires { (n ≤ most_variables) × (k ≤ n) }
-    ensures { (result ≡ cond still (n + 1) (k + 1)) × (k < result) × (result ≤ n + 1) }
-{
-    if still {
-        return n + 1;
-    }
-    k + 1
 }
 
 // What each variable leads to: one round more than there are variables suffices, and the first that changes nothing is the last.
@@ -90,13 +81,13 @@ fn reaches(equations: &[u32]) -> [u32; 32]
     requires { length equations.now ≤ most_variables }
     ensures { Reaches (map unword equations.now) result }
 {
-    let n = equations.len();
     let mut old = [0u32; 32];
-    let mut k: usize = 0;
-    while k <= n {
+    for _k in 0..equations.len() + 1 {
         let mut new = [0u32; 32];
         round(equations, &old, &mut new);
-        k = counted(n, k, same(&old, &new));
+        if new == old {
+            return old;
+        }
         old = new;
     }
     old
@@ -107,25 +98,7 @@ fn stands(reach: &[u32], x: usize) -> bool
     requires { x < length reach.now }
     ensures { result ≡ stands_by reach.now x }
 {
-    let own = reach[x];
-    let mut y: usize = 0;
-    let mut found = false;
-    while y < x {
-        found = found | (own == reach[y]);
-        y = y + 1;
-    }
-    !found
-}
-
-// A set of variables before x, with x where that is asked for.
-fn joined(set: u32, x: usize, asked: bool) -> u32
-    requires { (x < most_variables) × (set < 2 ^ x) }
-    ensures { result ≡ set + cond asked (2 ^ x) 0 }
-{
-    if asked {
-        return set + only(x);
-    }
-    set
+    !reach[..x].contains(&reach[x])
 }
 
 // Those variables that stand for their components, as a set of bits.
@@ -133,24 +106,21 @@ fn standing(reach: &[u32]) -> u32
     requires { length reach.now ≤ most_variables }
     ensures { result ≡ mask (length reach.now) (stands_by reach.now) }
 {
-    let mut x: usize = 0;
     let mut set: u32 = 0;
-    while x < reach.len() {
-        set = joined(set, x, stands(reach, x));
-        x = x + 1;
+    for x in 0..reach.len() {
+        if stands(reach, x) {
+            set += only(x);
+        }
     }
     set
 }
 
-// 1 where y is in the set and has a smaller reach than `own`.
-fn before(reach: &[u32], set: u32, own: u32, y: usize) -> u8
+// Whether y is in the set and has a smaller reach than `own`.
+fn before(reach: &[u32], set: u32, own: u32, y: usize) -> bool
     requires { y < most_variables }
-    ensures { (result ≡ bit (eqb (set / 2 ^ y % 2) 1 && ltb (get_or reach.now y 0) own)) × (result ≤ 1) }
+    ensures { result ≡ (eqb (set / 2 ^ y % 2) 1 && ltb (get_or reach.now y 0) own) }
 {
-    if ((set >> y) % 2 == 1) & (rooms::word_at(reach, y) < own) {
-        return 1;
-    }
-    0
+    ((set >> y) % 2 == 1) & (rooms::at_or(reach, y, 0) < own)
 }
 
 // The number of x's component, where `set` has those variables that stand for theirs.
@@ -158,60 +128,30 @@ fn component_of(reach: &[u32], set: u32, x: usize) -> u8
     requires { (length reach.now ≤ most_variables) × (set ≡ mask (length reach.now) (stands_by reach.now)) }
     ensures { (result ≡ component_by reach.now x) × (result ≤ most_variables) }
 {
-    let own = rooms::word_at(reach, x);
-    let mut y: usize = 0;
-    let mut count: u8 = 0;
-    while y < reach.len() {
-        count = count + before(reach, set, own, y);
-        y = y + 1;
-    }
-    count
+    let own = rooms::at_or(reach, x, 0);
+    (0..reach.len())
+        .filter(|y| before(reach, set, own, *y))
+        .count() as u8
 }
 
 // Whether x is on a closed chain that holds both signs.
-fn is_guilty(equations: &[u32], reach: &[u32], x: usize) -> bool
-    requires { (length reach.now ≡ length equations.now) × (x < length equations.now) }
-    ensures { result ≡ guilty_by (map unword equations.now) reach.now x }
+fn is_guilty(chains: &Reached, x: usize) -> bool
+    requires { x < length chains.now.equations.now }
+    ensures { result ≡ guilty_by (map unword chains.now.equations.now) chains.now.reach.now x }
 {
-    let e = equation_at(equations, x);
-    let kind = e.kind;
+    let equations = chains.equations;
+    let reach = chains.reach;
+    let kind = equation_at(equations, x).kind;
     let own = reach[x];
-    let mut y: usize = 0;
-    let mut found = false;
-    while y < reach.len() {
-        let other = equation_at(equations, y);
-        found = found | ((own == reach[y]) & (kind != other.kind));
-        y = y + 1;
-    }
-    found
-}
-
-// The lowest of those up to x, where `best` is the lowest of those before x, or x.
-fn lower(equations: &[u32], reach: &[u32], x: usize, best: usize) -> usize
-    requires { (length reach.now ≡ length equations.now) × (x < length equations.now) }
-    ensures { result ≡ lower_by (map unword equations.now) reach.now x best }
-{
-    if best < x {
-        return best;
-    }
-    if is_guilty(equations, reach, x) {
-        return x;
-    }
-    x + 1
+    (0..reach.len()).any(|y| (own == reach[y]) & (kind != equation_at(equations, y).kind))
 }
 
 // The lowest equation on a closed chain that holds both signs; one past the last where there is none.
-fn lowest_guilty(equations: &[u32], reach: &[u32]) -> usize
-    requires { length reach.now ≡ length equations.now }
-    ensures { result ≡ lowest_by (map unword equations.now) reach.now }
+fn lowest_guilty(chains: &Reached) -> usize
+    ensures { result ≡ lowest_by (map unword chains.now.equations.now) chains.now.reach.now }
 {
-    let mut x: usize = 0;
-    let mut best: usize = 0;
-    while x < reach.len() {
-        best = lower(equations, reach, x, best);
-        x = x + 1;
-    }
-    best
+    let n = chains.reach.len();
+    (0..n).position(|x| is_guilty(chains, x)).unwrap_or(n)
 }
 
 // The same of the equations alone.
@@ -221,10 +161,14 @@ fn guilty_of(equations: &[u32]) -> usize
 {
     let n = equations.len();
     let reach = reaches(equations);
-    lowest_guilty(equations, &reach[..n])
+    lowest_guilty(&Reached {
+        equations,
+        reach: &reach[..n],
+    })
 }
 
 // The lowest of the first n equations that is on a closed chain that holds both signs; n where there is none.
+// n stands beside the room, since the contract speaks of the first n words of a longer one.
 pub fn first_guilty(equations: &[u32], n: usize) -> usize
     requires { (n ≤ most_variables) × (n ≤ length equations.now) }
     ensures { result ≡ lowest n (guilty (held n equations.now)) }
@@ -233,19 +177,14 @@ pub fn first_guilty(equations: &[u32], n: usize) -> usize
 }
 
 // Whether each equation holds the number of its component.
-fn numbers_ok(equations: &[u32], reach: &[u32]) -> bool
-    requires { (length reach.now ≡ length equations.now) × (length equations.now ≤ most_variables) }
-    ensures { result ≡ numbers_by (map unword equations.now) reach.now (length reach.now) }
+fn numbers_ok(chains: &Reached) -> bool
+    requires { length chains.now.equations.now ≤ most_variables }
+    ensures { result ≡ numbers_by (map unword chains.now.equations.now) chains.now.reach.now (length chains.now.reach.now) }
 {
+    let equations = chains.equations;
+    let reach = chains.reach;
     let set = standing(reach);
-    let mut x: usize = 0;
-    let mut ok = true;
-    while x < reach.len() {
-        let e = equation_at(equations, x);
-        ok = ok & (e.block == component_of(reach, set, x));
-        x = x + 1;
-    }
-    ok
+    (0..reach.len()).all(|x| equation_at(equations, x).block == component_of(reach, set, x))
 }
 
 // What the session check asks of equations with signs, besides their numbers in range: no closed chain holds both signs,
@@ -256,9 +195,11 @@ pub fn chains_ok(equations: &[u32]) -> bool
 {
     let n = equations.len();
     let reach = reaches(equations);
-    let low = lowest_guilty(equations, &reach[..n]);
-    let ok = numbers_ok(equations, &reach[..n]);
-    (low == n) & ok
+    let chains = Reached {
+        equations,
+        reach: &reach[..n],
+    };
+    (lowest_guilty(&chains) == n) & numbers_ok(&chains)
 }
 
 // The word of an equation with another number for its component.
@@ -267,14 +208,7 @@ fn with_number(w: u32, c: u8) -> u32
     ensures { result ≡ word (with_block c (unword w)) }
 {
     let e = words::equation_in(w);
-    let placed = Equation {
-        operator: e.operator,
-        first: e.first,
-        second: e.second,
-        block: c,
-        kind: e.kind,
-    };
-    words::word_of(placed)
+    words::word_of(Equation { block: c, ..e })
 }
 
 // Each equation gets the number of its component.
@@ -285,15 +219,14 @@ fn number_each(equations: &mut [u32])
     let n = equations.len();
     let reach = reaches(equations);
     let set = standing(&reach[..n]);
-    let mut x: usize = 0;
-    while x < n {
+    for x in 0..n {
         let c = component_of(&reach[..n], set, x);
         equations[x] = with_number(equations[x], c);
-        x = x + 1;
     }
 }
 
 // The first n equations do: the last thing that a load of equations with signs does.
+// n stands beside the room, since the contract speaks of the first n words of a longer one.
 pub fn number_all(equations: &mut [u32], n: usize)
     requires { (n ≤ most_variables) × (n ≤ length equations.old) }
     ensures { equations.new ≡ fill (map word (placed (held n equations.old))) equations.old }

@@ -11,15 +11,14 @@ use Rattle.rules.specs.Rooms.{Lengths}
 use Rattle.rules.specs.declared.Record.{Record}
 use Rattle.rules.specs.declared.Refusal.TheVariants as Why
 use Rattle.bytes_read.specs.PartsAt.{parts_at}
-use Rattle.bytes_read.specs.Places.{record_at}
-use Rattle.bytes_read.specs.declared.Read.{Read}
+use Rattle.bytes_read.specs.Places.{record_at, Read}
 use Rattle.model_judge.specs.Progress.{sofar_of, KeptIn}
 use Rattle.model_judge.specs.Passing.{Forwarded}
-use Rattle.model_judge.specs.Turning.{Summary, summary_after, moves_of, Turned}
-use Rattle.model_judge.specs.declared.Progress.{Progress}
-use Rattle.model_judge.specs.declared.ReadModel.TheVariants as M
-use Rattle.model_judge.specs.declared.OneTurn.{OneTurn}
-use Rattle.model_judge.specs.declared.OneTurn.TheVariants as T
+use Rattle.model_judge.specs.Turning.{summary_after, moves_of, Turned, OneTurn, stop}
+use Rattle.model_judge.specs.declared.progress.Progress.{Progress}
+use Rattle.model_judge.specs.declared.Summary.{Summary}
+use Rattle.model_judge.specs.declared.HalfRead.{HalfRead}
+use Rattle.std.specs.declared.ops.ControlFlow.TheVariants.{Continue, Break}
 
 -- What reading on in a state from a place comes to, chains and all.
 unfoldable pub whole_on : Lengths → List ℕ → State → ℕ → Outcome Model
@@ -57,17 +56,20 @@ abbrev pub lowest_to : List ℕ → ℕ → ℕ → ℕ
 lowest_to s n k = lowest k (guilty (signs_to s n k))
 
 -- The turn after the question: a refusal at the record of the lowest guilty equation, or the turn as it was.
-abbrev pub answered_turn : List ℕ → Record → Progress → ℕ → ℕ → OneTurn
-answered_turn s r y n k = cond (ltb (lowest_to s n k) k) (T.Stop (M.Refused Why.Tangled (n - 5 * (k - lowest_to s n k)))) (T.Go r y n)
+abbrev pub answered_turn : List ℕ → HalfRead → OneTurn
+answered_turn s h =
+    let k = h.so_far.sizes.variables in
+    cond (ltb (lowest_to s h.at k) k) (stop Why.Tangled (h.at - 5 * (k - lowest_to s h.at k))) (Continue h)
 
 abbrev pub asked_turn : List ℕ → OneTurn → OneTurn
-asked_turn s (T.Stop a) = T.Stop a
-asked_turn s (T.Go r y n) = cond (asks_after r y) (answered_turn s r y n y.sizes.variables) (T.Go r y n)
+asked_turn s (Break a) = Break a
+asked_turn s (Continue h) = cond (asks_after h.last h.so_far) (answered_turn s h) (Continue h)
 
 -- What the question is handed: where it is asked, the records stand in the bytes.
 abbrev pub Askable : List ℕ → OneTurn → Type 0
-Askable s (T.Stop a) = Unit {0}
-Askable s (T.Go r y n) = (y.sizes.variables ≤ most_variables) × (n ≤ length s) × (asks_after r y ≡ true → Spelled s n y.sizes.variables)
+Askable s (Break a) = Unit {0}
+Askable s (Continue h) =
+    (h.so_far.sizes.variables ≤ most_variables) × (h.at ≤ length s) × (asks_after h.last h.so_far ≡ true → Spelled s h.at h.so_far.sizes.variables)
 
 -- In a model with signs, the records of the equations read so far end at the place of the next, up to the last of them.
 abbrev pub SpelledSofar : List ℕ → Progress → ℕ → Type 0
@@ -80,10 +82,10 @@ pub record Reading (s : List ℕ) (read : Read) (x : Progress) (n : ℕ) : Type 
   pub spelled : SpelledSofar s x n
 
 abbrev pub Ready : List ℕ → Read → OneTurn → Type 0
-Ready s read (T.Stop a) = Unit {0}
-Ready s read (T.Go r x n) = Reading s read x n
+Ready s read (Break a) = Unit {0}
+Ready s read (Continue h) = Reading s read h.so_far h.at
 
 -- What it answers: the turn of the reading without chains, with its question, moved on past labels or moves that follow.
 abbrev pub Asked : Lengths → List ℕ → OneTurn → OneTurn → Type 0
-Asked l s (T.Stop a) u = u ≡ T.Stop a
-Asked l s (T.Go r x n) u = (v : OneTurn) × Turned l s (inside (sofar_of x)) n v × Forwarded l s (asked_turn s v) u
+Asked l s (Break a) u = u ≡ Break a
+Asked l s (Continue h) u = (v : OneTurn) × Turned l s (inside (sofar_of h.so_far)) h.at v × Forwarded l s (asked_turn s v) u

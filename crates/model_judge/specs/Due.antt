@@ -11,7 +11,7 @@ use Rattle.rules.specs.declared.Sizes.{Sizes}
 use Rattle.model_judge.specs.Demands.{fails}
 use Rattle.model_judge.specs.Plain.{plain}
 use Rattle.model_judge.specs.Progress.{sofar_of, Kept, KeptIn, LabelsDue, BlockDue, MovesDue}
-use Rattle.model_judge.specs.declared.Progress.{Progress}
+use Rattle.model_judge.specs.declared.progress.Progress.{Progress}
 use Rattle.laws.specs.bytes.Kinds.{Other, other-kinds}
 
 -- Whether a record is due after the sizes, by its kind k.

@@ -1,5 +1,5 @@
 -- From turn to turn the whole keeps its answer, and each turn comes nearer to the end. Assumes nothing.
-use Rattle.std.specs.Prelude.{◌≡◌, refl, true, false, cond, List, [], ◌∷◌, ◌++◌, ℕ, suc, ◌+◌, ◌-◌, ◌*◌, ◌≤◌, ◌<◌, eqb, ltb, length, get_or}
+use Rattle.std.specs.Prelude.{◌≡◌, refl, true, false, cond, List, [], ◌∷◌, ◌++◌, ℕ, suc, ◌+◌, ◌-◌, ◌*◌, ◌≤◌, ◌<◌, eqb, ltb, length, get_or, Result}
 use Rattle.std.proofs.Common.{sym, ap, ap₂, ◌∙◌, subst, inl, inr, arith}
 use Rattle.lists.specs.Lists.{some_below, lowest}
 use Rattle.lists.specs.Tests.{tests, tell, and_is, eqb_is, eqb_no, eqb-off, ltb-is, leb-is, ltb-out, eqb-in}
@@ -11,46 +11,43 @@ use Rattle.rules.specs.Records.{Rec, Turn, back, next, Outcome, refused, accepte
 use Rattle.rules.specs.Rooms.{Lengths}
 use Rattle.rules.specs.declared.Record.{Record}
 use Rattle.bytes_read.specs.PartsAt.{parts_at}
-use Rattle.bytes_read.specs.Places.{record_at}
-use Rattle.bytes_read.specs.declared.Read.{Read}
+use Rattle.bytes_read.specs.Places.{record_at, Read}
 use Rattle.model_judge.specs.Asking.{whole_on, whole, sign_at, signs_to, Spelled, is_signed, asks_after, lowest_to, asked_turn, Askable, SpelledSofar, Ready, Asked}
 use Rattle.model_judge.specs.Beside.{Beside, goes, asks, beside, stops_same, stops-before}
 use Rattle.model_judge.specs.Due.{no_blocks}
-use Rattle.model_judge.specs.Going.{place_of, answer_of, KeptTurn, Inside, InsideTurn, Onward, Going, left}
+use Rattle.model_judge.specs.Going.{place_of, Inside, InsideTurn, Onward, Going, left}
 use Rattle.model_judge.specs.Passing.{Passed, here, on, Forwarded}
 use Rattle.model_judge.specs.Plain.{plain, with_signs}
 use Rattle.model_judge.specs.Progress.{sofar_of, Kept, KeptIn}
 use Rattle.model_judge.specs.SignsRead.{signed-there, signs-length, one_more, spelled_none, spelled-more}
 use Rattle.model_judge.specs.RecordTurns.{Stepped, label, block, equation, move, lives, sign, stepped, counted-by, first-is}
-use Rattle.model_judge.specs.Turning.{read_says, summary, summary_after, read_on, Goes, Turned}
-use Rattle.model_judge.specs.declared.Progress.{Progress}
-use Rattle.model_judge.specs.declared.OneTurn.{OneTurn}
-use Rattle.model_judge.specs.declared.OneTurn.TheVariants as T
+use Rattle.model_judge.specs.Turning.{read_says, summary, summary_after, read_on, Goes, Turned, OneTurn, go}
+use Rattle.model_judge.specs.declared.progress.Progress.{Progress}
+use Rattle.rules.specs.declared.Refused.{Refused}
+use Rattle.model_judge.specs.declared.Summary.{Summary}
+use Rattle.model_judge.specs.declared.HalfRead.{HalfRead}
+use Rattle.std.specs.declared.ops.ControlFlow.TheVariants.{Continue, Break}
 
--- What a turn hands on is inside the limits.
-pub inside-kept : (s : List ℕ) (t : OneTurn) → InsideTurn s t → KeptTurn t
-inside-kept s (T.Stop a) g = tt
-inside-kept s (T.Go r x n) g = g.kept
-
-pub inside-go : (s : List ℕ) (t : OneTurn) (r : Record) (x : Progress) (n : ℕ) → t ≡ T.Go r x n → InsideTurn s t → Inside s x n
-inside-go s t r x n e i = rw e at i
+pub inside-go : (s : List ℕ) (t : OneTurn) (h : HalfRead) → t ≡ Continue h → InsideTurn s t → Inside s h.so_far h.at
+inside-go s t h e i = rw e at i
 
 -- A turn that goes on stands in the bytes past the place before, and is nearer to the end.
 pub turned-inside : (l : Lengths) (s : List ℕ) (st : State) (n : ℕ) (u : OneTurn) → Turned l s st n u → InsideTurn s u
-turned-inside l s st n (T.Stop a) t = tt
-turned-inside l s st n (T.Go r y k) t = record { kept = t.kept; begun = let h = t.on in omega arith; inside_bytes = t.inside_bytes }
+turned-inside l s st n (Break a) t = tt
+turned-inside l s st n (Continue h) t = record { kept = t.kept; begun = let o = t.on in omega arith; inside_bytes = t.inside_bytes }
 
-pub nearer-on : (l : Lengths) (s : List ℕ) (r : Record) (x : Progress) (n : ℕ) (u : OneTurn) → Turned l s (inside (sofar_of x)) n u → left s u < left s (T.Go r x n)
-nearer-on l s r x n (T.Stop a) t = omega arith
-nearer-on l s r x n (T.Go q y k) t = let h = t.on in let j = t.inside_bytes in omega arith
+pub nearer-on : (l : Lengths) (s : List ℕ) (r : Record) (x : Progress) (n : ℕ) (u : OneTurn) → Turned l s (inside (sofar_of x)) n u → left s u < left s (go r x n)
+nearer-on l s r x n (Break a) t = omega arith
+nearer-on l s r x n (Continue h) t = let o = t.on in let j = t.inside_bytes in omega arith
 
 -- Asking brings it no further from the end.
 asked-nearer : (s : List ℕ) (u : OneTurn) (m : ℕ) → left s u < m → left s (asked_turn s u) < m
-asked-nearer s (T.Stop a) m h = h
-asked-nearer s (T.Go r y n) m h =
-    elim (tell true (asks_after r y)) [
+asked-nearer s (Break a) m h = h
+asked-nearer s (Continue g) m h =
+    let y = g.so_far in
+    elim (tell true (asks_after g.last y)) [
       | inr e ↦ rw e h
-      | inl e ↦ rw e (elim (tell true (ltb (lowest_to s n y.sizes.variables) y.sizes.variables)) [
+      | inl e ↦ rw e (elim (tell true (ltb (lowest_to s g.at y.sizes.variables) y.sizes.variables)) [
         | inr f ↦ rw f h
         | inl f ↦ rw f (omega arith)
       ])
@@ -118,7 +115,7 @@ module _ (l : Lengths) (s : List ℕ) (x : Progress) (n : ℕ) (q : Record) (y :
   how = rw t.steps at (stepped l (sofar_of x) q)
 
   here-next : Inside s y k
-  here-next = turned-inside l s (inside (sofar_of x)) n (T.Go q y k) t
+  here-next = turned-inside l s (inside (sofar_of x)) n (go q y k) t
 
   -- After an equation with a sign its record stands with those before it.
   signed-next : SpelledSofar s x n → (numbers_of q).kind ≡ 11 → (k ≡ n + 5) × (sign_of (numbers_of q) ≡ sign_at s n) × Spelled s k y.blocks.equations × (5 * x.blocks.equations ≤ n)
@@ -140,7 +137,7 @@ module _ (l : Lengths) (s : List ℕ) (x : Progress) (n : ℕ) (q : Record) (y :
       ]
 
   -- After a record that is no equation with a sign, nothing is asked.
-  other-asks : ((numbers_of q).kind ≡ 11 → ⊥) → asked_turn s (T.Go q y k) ≡ T.Go q y k
+  other-asks : ((numbers_of q).kind ≡ 11 → ⊥) → asked_turn s (go q y k) ≡ go q y k
   other-asks f = rw ((eqb_no (numbers_of q).kind 11).1 f) refl
 
   module _ (g : Onward l s x n) where
@@ -177,7 +174,7 @@ module _ (l : Lengths) (s : List ℕ) (x : Progress) (n : ℕ) (q : Record) (y :
 
     -- The question, asked of the last.
     asked-last : (numbers_of q).kind ≡ 11 → y.blocks.equations ≡ y.sizes.variables → step l (inside (with_signs g.signs (sofar_of x))) (numbers_of q) ≡ ask_chains (with_signs more (sofar_of y))
-        → Going l s (asked_turn s (T.Go q y k))
+        → Going l s (asked_turn s (go q y k))
     asked-last e z f =
         let v = y.sizes.variables in
         let a = signed-next g.spelled e in
@@ -197,7 +194,7 @@ module _ (l : Lengths) (s : List ℕ) (x : Progress) (n : ℕ) (q : Record) (y :
               rw (lowest-found v (guilty (signs_to s k v)), h) (ap (refused 5) r ∙ sym p ∙ sym g.same)
         ])
 
-    asked-on : (u : Turn State) → step l (inside (with_signs g.signs (sofar_of x))) (numbers_of q) ≡ u → Beside g.signs (numbers_of q) (next (inside (sofar_of y))) u → Going l s (asked_turn s (T.Go q y k))
+    asked-on : (u : Turn State) → step l (inside (with_signs g.signs (sofar_of x))) (numbers_of q) ≡ u → Beside g.signs (numbers_of q) (next (inside (sofar_of y))) u → Going l s (asked_turn s (go q y k))
     asked-on u f (goes h) = rw (other-asks h) (other-on h f)
     asked-on u f (asks e) =
         elim (tell true (eqb y.blocks.equations y.sizes.variables)) [
@@ -209,7 +206,7 @@ module _ (l : Lengths) (s : List ℕ) (x : Progress) (n : ℕ) (q : Record) (y :
               rw (eqb-in (numbers_of q).kind 11 e, z) (signed-goes e (f ∙ not_yet (with_signs more (sofar_of y)) lt))
         ]
 
-    pub asked-going : Going l s (asked_turn s (T.Go q y k))
+    pub asked-going : Going l s (asked_turn s (go q y k))
     asked-going = asked-on (step l (inside (with_signs g.signs (sofar_of x))) (numbers_of q)) refl (rw t.steps at (beside l g.signs (sofar_of x) (numbers_of q)))
 
     -- After any other record.
@@ -226,8 +223,10 @@ passed-nearer l s x n y k h here = (omega arith, h)
 passed-nearer l s x n y k h (on z w i j r p f t) = let b = passed-nearer l s x n z i h p in let o = t.on in (omega arith, t.inside_bytes)
 
 forwarded-going : (l : Lengths) (s : List ℕ) (t u : OneTurn) (m : ℕ) → Going l s t → left s t < m → Forwarded l s t u → Going l s u × (left s u < m)
-forwarded-going l s (T.Stop a) u m g h f = rw f (g, h)
-forwarded-going l s (T.Go r x n) u m g h f =
+forwarded-going l s (Break a) u m g h f = rw f (g, h)
+forwarded-going l s (Continue t) u m g h f =
+    let x = t.so_far in
+    let n = t.at in
     let p = f.3 in
     let b = passed-nearer l s x n f.0 f.1 g.here.inside_bytes p in
     rw f.2 (passed-going l s x n f.0 f.1 g p, omega arith)
@@ -235,13 +234,16 @@ forwarded-going l s (T.Go r x n) u m g h f =
 -- A turn that follows one that goes on.
 follows_on : (l : Lengths) (s : List ℕ) (x : Progress) (n : ℕ) (u : OneTurn) → Onward l s x n → Turned l s (inside (sofar_of x)) n u → Going l s (asked_turn s u)
 unfolding read_on whole_on
-follows_on l s x n (T.Stop a) g t = t.0 ∙ ap (summary_after x.moves.count) (stops_same l g.signs (sofar_of x) (parts_at s n) t.1) ∙ sym g.same
-follows_on l s x n (T.Go q y k) g t = asked-going l s x n q y k t g
+follows_on l s x n (Break a) g t = t.0 ∙ ap (summary_after x.moves.count) (stops_same l g.signs (sofar_of x) (parts_at s n) t.1) ∙ sym g.same
+follows_on l s x n (Continue h) g t = asked-going l s x n h.last h.so_far h.at t g
 
 -- What the question is handed after a turn.
 pub askable-next : (l : Lengths) (s : List ℕ) (x : Progress) (n : ℕ) (u : OneTurn) → SpelledSofar s x n → Turned l s (inside (sofar_of x)) n u → Askable s u
-askable-next l s x n (T.Stop a) sp t = tt
-askable-next l s x n (T.Go q y k) sp t =
+askable-next l s x n (Break a) sp t = tt
+askable-next l s x n (Continue u) sp t =
+    let q = u.last in
+    let y = u.so_far in
+    let k = u.at in
     let h = t.kept in (
       h.variables,
       t.inside_bytes,
@@ -262,35 +264,36 @@ first_on l s y n r g = rw (g.stands, g.steps) (by-outcome (run (step l) put last
 
 pub going-first : (l : Lengths) (s : List ℕ) (u : OneTurn) → Turned l s before 0 u → Going l s u
 unfolding read_on whole_on
-going-first l s (T.Stop a) t = t.0 ∙ ap (summary_after 0) (stops-before l (parts_at s 0) t.1)
-going-first l s (T.Go r y n) t =
+going-first l s (Break a) t = t.0 ∙ ap (summary_after 0) (stops-before l (parts_at s 0) t.1)
+going-first l s (Continue h) t =
+    let r = h.last in
+    let y = h.so_far in
+    let n = h.at in
     let e : y.blocks.equations ≡ 0 = ap (λ (x : Sofar). x.blocks.equations) (first-is l (numbers_of r) (sofar_of y) t.steps) in
     record {
-      here = turned-inside l s before 0 (T.Go r y n) t;
+      here = turned-inside l s before 0 (Continue h) t;
       spelled = λ b h. subst (Spelled s n) (sym e) (spelled_none s n);
       signs = [];
       held = λ b h. ap (signs_to s n) (sym e);
       same = first_on l s y n r t;
     }
 
--- What a turn hands on.
-
+-- What a turn is handed.
 pub going-ready : (l : Lengths) (s : List ℕ) (t : OneTurn) (read : Read) → Going l s t → read ≡ record_at s (place_of t) → Ready s read t
-going-ready l s (T.Stop a) read g e = tt
-going-ready l s (T.Go r x n) read g e = record { kept = g.here.kept; read_there = e; spelled = g.spelled }
+going-ready l s (Break a) read g e = tt
+going-ready l s (Continue h) read g e = record { kept = g.here.kept; read_there = e; spelled = g.spelled }
 
--- A turn that is not over has a place, and one follows it.
-pub going_next : (l : Lengths) (s : List ℕ) (t u : OneTurn) → Going l s t → (place_of t ≡ 0 → ⊥) → Asked l s t u → Going l s u × (left s u < left s t)
-going_next l s (T.Stop a) u g f w = absurd (f refl)
-going_next l s (T.Go r x n) u g f w =
-    forwarded-going l s (asked_turn s w.0) u (left s (T.Go r x n)) (follows_on l s x n w.0 g w.1) (asked-nearer s w.0 (left s (T.Go r x n)) (nearer-on l s r x n w.0 w.1)) w.2
+-- After a turn that goes on another follows, nearer to the end.
+pub going_next : (l : Lengths) (s : List ℕ) (t u : OneTurn) (h : HalfRead) → t ≡ Continue h → Going l s t → Asked l s (Continue h) u → Going l s u × (left s u < left s t)
+going_next l s t u h is g w =
+    let here : Onward l s h.so_far h.at = rw is at g in
+    rw is (forwarded-going l s (asked_turn s w.0) u (left s (Continue h)) (follows_on l s h.so_far h.at w.0 here w.1) (asked-nearer s w.0 (left s (Continue h)) (nearer-on l s h.last h.so_far h.at w.0 w.1)) w.2)
 
 -- Where it is over, it has the answer.
 settled-summary : (o : Outcome Model) → summary (onto settle_style o) ≡ summary o
 settled-summary (refused n p) = refl
 settled-summary (accepted m) = refl
 
-pub going-over : (l : Lengths) (s : List ℕ) (t : OneTurn) → Going l s t → place_of t ≡ 0 → read_says (answer_of t) ≡ summary (read_model l s)
+pub going-over : (l : Lengths) (s : List ℕ) (t : OneTurn) (a : Result Summary Refused) → t ≡ Break a → Going l s t → read_says a ≡ summary (read_model l s)
 unfolding read_model whole_on
-going-over l s (T.Stop a) g e = g ∙ sym (settled-summary (run (step l) put last before (parts_at s 0)))
-going-over l s (T.Go r x n) g e = let h = g.here.begun in absurd (omega arith)
+going-over l s t a is g = let h : read_says a ≡ whole l s before 0 = rw is at g in h ∙ sym (settled-summary (run (step l) put last before (parts_at s 0)))

@@ -1,3 +1,4 @@
+pub mod Kept
 pub mod Progress
 pub mod Plain
 pub mod OneRecord

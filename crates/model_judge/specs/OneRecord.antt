@@ -9,7 +9,7 @@ use Rattle.rules.specs.declared.State as Of
 use Rattle.words.specs.Words.{pack_of}
 use Rattle.model_judge.specs.Plain.{plain, without}
 use Rattle.model_judge.specs.Progress.{sofar_of}
-use Rattle.model_judge.specs.declared.Progress.{Progress}
+use Rattle.model_judge.specs.declared.progress.Progress.{Progress}
 
 -- A label of a state with the set v.
 abbrev pub label_step : Progress → Of.State → ℕ → Turn State

@@ -1,51 +1,31 @@
 -- What the code holds of a model half read, as the rules have it. Definitions only.
-use Rattle.std.specs.Prelude.{◌≡◌, Bool, true, [], ℕ, ◌+◌, ◌-◌, ◌*◌, ◌≤◌, ◌<◌}
+use Rattle.std.specs.Prelude.{◌≡◌, Bool, true, ℕ, ◌<◌, Result, Ok, Err, Option, Some, None}
 use Rattle.rules.specs.Answers.{number_of}
-use Rattle.rules.specs.Limits.{most_states, most_actions, most_variables, most_blocks, most_moves}
 use Rattle.rules.specs.Load.{Sofar, State, inside, block_fits, moves_due, all_moving}
 use Rattle.rules.specs.Model.{signed}
 use Rattle.rules.specs.Records.{Turn, no, next, over}
-use Rattle.model_judge.specs.declared.Progress.{Progress}
-use Rattle.model_judge.specs.declared.Judged.{Judged}
-use Rattle.model_judge.specs.declared.Judged.TheVariants as J
+use Rattle.rules.specs.declared.Refusal.{Refusal}
+use Rattle.model_judge.specs.declared.progress.Progress.{Progress}
+use Rattle.model_judge.specs.Kept.{sofar_by}
+pub use Rattle.model_judge.specs.Kept.{Kept}
 
--- What has been read so far. The equations with signs are not held: they stand in the bytes.
+-- What has been read so far, of what the code holds.
 abbrev pub sofar_of : Progress → Sofar
-sofar_of x =
-    record {
-      sizes = x.sizes;
-      live = x.live;
-      labels = x.labels;
-      blocks = record { count = x.blocks.count; kind = x.blocks.kind; due = x.blocks.due; equations = x.blocks.equations };
-      signs = [];
-      moves = record { count = x.moves.count; least = x.moves.least; moving = x.moves.moving };
-    }
+sofar_of x = sofar_by x.sizes x.live x.labels x.blocks x.moves
 
--- What one record does.
-abbrev pub judged_says : Judged → Turn State
-judged_says (J.Refused e) = no (number_of e)
-judged_says (J.Next y) = next (inside (sofar_of y))
-judged_says J.Over = over
+-- What one record does: one after which the model goes on, the end, and any.
+abbrev pub next_says : Result Progress Refusal → Turn State
+next_says (Err e) = no (number_of e)
+next_says (Ok y) = next (inside (sofar_of y))
 
--- What holds of every state on the way: no number grows past its limit. In a model with blocks equations are due, and have
--- been read, only once a block has begun, and those of the last block are all that remain. The first block or equation passes
--- all states.
-pub record Kept (x : Sofar) : Type 0 where
-  pub states : x.sizes.states ≤ most_states
-  pub some_state : 1 ≤ x.sizes.states
-  pub actions : x.sizes.actions ≤ most_actions
-  pub variables : x.sizes.variables ≤ most_variables
-  pub some : 1 ≤ x.sizes.variables
-  pub few_blocks : x.sizes.blocks ≤ most_blocks
-  pub labels : x.labels ≤ x.sizes.states
-  pub passed : x.sizes.states ≤ x.labels + most_states * (1 - (x.blocks.count + x.blocks.equations))
-  pub count : x.blocks.count ≤ x.sizes.blocks
-  pub kind : x.blocks.kind ≤ 1
-  pub equations : x.blocks.equations + x.blocks.due ≤ x.sizes.variables
-  pub begun : x.blocks.due ≤ most_variables * x.blocks.count
-  pub read : x.blocks.equations ≤ most_variables * x.blocks.count + most_variables * (1 - x.sizes.blocks)
-  pub remain : x.sizes.variables ≤ x.blocks.equations + x.blocks.due + most_variables * (x.sizes.blocks - x.blocks.count) + most_variables * (1 - x.sizes.blocks)
-  pub moves : x.moves.count ≤ most_moves
+abbrev pub end_says : Result (Unit {0}) Refusal → Turn State
+end_says (Err e) = no (number_of e)
+end_says (Ok u) = over
+
+abbrev pub judged_says : Result (Option Progress) Refusal → Turn State
+judged_says (Err e) = no (number_of e)
+judged_says (Ok (Some y)) = next (inside (sofar_of y))
+judged_says (Ok None) = over
 
 -- What has been read is inside the limits.
 abbrev pub KeptIn : Progress → Type 0

@@ -1,7 +1,7 @@
 -- One turn of the reading without chains, by what the record at the place is and how it was judged. Assumes nothing.
 use Rattle.std.proofs.Math.Path.{◌≡◌, refl}
 use Rattle.std.proofs.Common.{sym, ◌∙◌, inl, inr, arith, lt-ltb}
-use Rattle.std.specs.Prelude.{Bool, true, cond, List, [], ◌∷◌, ℕ, suc, ◌+◌, min, eqb, ltb, length}
+use Rattle.std.specs.Prelude.{Bool, true, cond, List, [], ◌∷◌, ℕ, suc, ◌+◌, ◌≤◌, ◌<◌, min, eqb, ltb, length, Some, None}
 use Rattle.rules.specs.declared.Sizes.{Sizes}
 use Rattle.lists.specs.Tests.{tests, tell, and_is, or-out, eqb_is, ltb-is, leb-is}
 use Rattle.rules.specs.Answers.{number_of}
@@ -21,16 +21,12 @@ use Rattle.laws.specs.bytes.Kinds.{Other, other-kind}
 use Rattle.laws.specs.bytes.RecordLaws.{Met, judged}
 use Rattle.laws.specs.bytes.Walks.{small}
 use Rattle.bytes_read.specs.PartsAt.{parts_at, PartsBy, parts-at}
-use Rattle.bytes_read.specs.Places.{record_at}
-use Rattle.bytes_read.specs.declared.Read.{Read}
-use Rattle.bytes_read.specs.declared.Read.TheVariants.{Got, Broken}
+use Rattle.bytes_read.specs.Places.{record_at, Read}
 use Rattle.model_judge.specs.Demands.{Fails, Meets, raised, fails, meets}
 use Rattle.model_judge.specs.Plain.{plain, unasked, without}
 use Rattle.model_judge.specs.Progress.{sofar_of, Kept, KeptIn}
-use Rattle.model_judge.specs.Turning.{summary_after, read_on, end_turn, Goes, Stops, Turned}
-use Rattle.model_judge.specs.declared.Progress.{Progress}
-use Rattle.model_judge.specs.declared.ReadModel.TheVariants as M
-use Rattle.model_judge.specs.declared.OneTurn.TheVariants as T
+use Rattle.model_judge.specs.Turning.{summary_after, read_on, end_turn, Goes, Stops, Turned, stop}
+use Rattle.model_judge.specs.declared.progress.Progress.{Progress}
 
 -- How a record after the sizes was judged.
 pub data Stepped (l : Lengths) (x : Sofar) : Record → Turn State → Type 0 where
@@ -66,21 +62,23 @@ stepped l x (R.Delete m) = refusal
 stepped l x R.Live = by l x R.Live (live_demands x) (next (inside (after_live x))) lives
 stepped l x (R.Signed k o a b) = by l x (R.Signed k o a b) (signed_demands x (signed_of k o a b)) (unasked (after_signed x (signed_of k o a b))) (sign k o a b)
 
--- A step keeps the numbers inside their limits.
+-- A block that fits keeps the numbers inside their limits, and so does every step.
+pub block-kept : (x : Sofar) (a n : ℕ) → Kept x → (x.blocks.due ≡ 0) × (x.blocks.count < x.sizes.blocks) → block_fits x n ≡ true → a ≤ 1 → Kept (after_block x a n)
+unfolding block_fits
+block-kept x a n k q m j =
+    let f = simp and_is at m in
+    let h = (leb-is (x.blocks.equations + n) x.sizes.variables).0 f.0.1 in
+    elim (or-out (ltb (suc x.blocks.count) x.sizes.blocks) (eqb (x.blocks.equations + n) x.sizes.variables) f.1) [
+      | inl e ↦ let g = (ltb-is (suc x.blocks.count) x.sizes.blocks).0 e in omega arith
+      | inr e ↦ let g = (eqb_is (x.blocks.equations + n) x.sizes.variables).0 e in omega arith
+    ]
+
 kept_by : (l : Lengths) (x y : Sofar) (r : Record) → Kept x → Stepped l x r (next (inside y)) → Kept y
 unfolding block_fits
 kept_by l x y r k (label s v m) =
     let q = simp tests at m.0 in
     let h = (ltb-is s.0 x.sizes.states).0 (simp and_is at m.1.0).0.0 in omega arith
-kept_by l x y r k (block a n m) =
-    let q = simp tests at m.0 in
-    let f = simp and_is at m.1.0 in
-    let h = (leb-is (x.blocks.equations + n) x.sizes.variables).0 f.0.1 in
-    let j = (leb-is a 1).0 m.1.1.0 in
-    elim (or-out (ltb (suc x.blocks.count) x.sizes.blocks) (eqb (x.blocks.equations + n) x.sizes.variables) f.1) [
-      | inl e ↦ let g = (ltb-is (suc x.blocks.count) x.sizes.blocks).0 e in omega arith
-      | inr e ↦ let g = (eqb_is (x.blocks.equations + n) x.sizes.variables).0 e in omega arith
-    ]
+kept_by l x y r k (block a n m) = let q = simp tests at m.0 in block-kept x a n k (q.0, q.1) m.1.0 ((leb-is a 1).0 m.1.1.0)
 kept_by l x y r k (equation o a b m) = let h = (ltb-is 0 x.blocks.due).0 m.0 in omega arith
 kept_by l x y r k (lives m) = omega arith
 kept_by l x y r k (sign c o a b m) = let q = simp tests at m.0 in omega arith
@@ -106,7 +104,7 @@ stop-by : (l : Lengths) (st : State) (t u : Parts) (p : ℕ) (r : Rec) → t ≡
 stop-by l st t u p r e f q r' v st' h k = let w : r ≡ r' = cc in f st' (rw w k)
 
 -- Nothing to read at the place.
-pub turned-broken : (l : Lengths) (s : List ℕ) (st : State) (at : ℕ) → record_at s at ≡ Broken → Turned l s st at (T.Stop (M.Refused Why.Broken at))
+pub turned-broken : (l : Lengths) (s : List ℕ) (st : State) (at : ℕ) → record_at s at ≡ None → Turned l s st at (stop Why.Broken at)
 unfolding read_on run
 turned-broken l s st at e =
     let h : parts_at s at ≡ cond (ltb at (length s)) (broken at) (ends at) = rw e at (parts-at s at) in
@@ -115,12 +113,12 @@ turned-broken l s st at e =
       | inr t ↦ let k : parts_at s at ≡ ends at = h ∙ rw t refl in (rw k refl, λ p r u st' w z. let b : ◌≡◌ {A = ℕ} 0 1 = cc in absurd (omega arith))
     ]
 
-module _ (l : Lengths) (s : List ℕ) (st : State) (at n : ℕ) (r : Record) (got : record_at s at ≡ Got r n) where
-  there : PartsBy s at (Got r n)
+module _ (l : Lengths) (s : List ℕ) (st : State) (at n : ℕ) (r : Record) (got : record_at s at ≡ Some (r, n)) where
+  there : PartsBy s at (Some (r, n))
   there = rw got at (parts-at s at)
 
   -- A record that is refused.
-  pub turned-no : (e : Refusal) → plain l st (numbers_of r) ≡ no (number_of e) → Turned l s st at (T.Stop (M.Refused e at))
+  pub turned-no : (e : Refusal) → plain l st (numbers_of r) ≡ no (number_of e) → Turned l s st at (stop e at)
   unfolding read_on run
   turned-no e h = (
     rw (there.2, h) refl,
@@ -134,15 +132,15 @@ module _ (l : Lengths) (s : List ℕ) (st : State) (at n : ℕ) (r : Record) (go
 -- What stands after the end record.
 after-end : (l : Lengths) (s : List ℕ) (st : State) (n : ℕ) (rd : Read) → PartsBy s n rd
     → at_end (plain l) put last st (parts_at s n) ≡ cond (ltb n (length s)) (refused 2 n) (accepted (last st))
-after-end l s st n (Got r k) h = rw (h.2, lt-ltb n (length s) (omega arith)) refl
-after-end l s st n Broken h =
+after-end l s st n (Some (r, k)) h = rw (h.2, lt-ltb n (length s) (omega arith)) refl
+after-end l s st n None h =
     elim (tell true (ltb n (length s))) [
       | inl t ↦ rw (h, t) refl
       | inr t ↦ rw (h, t) refl
     ]
 
 -- The end record.
-pub turned-over : (l : Lengths) (s : List ℕ) (x : Progress) (at n : ℕ) (r : Record) → record_at s at ≡ Got r n → plain l (inside (sofar_of x)) (numbers_of r) ≡ over
+pub turned-over : (l : Lengths) (s : List ℕ) (x : Progress) (at n : ℕ) (r : Record) → record_at s at ≡ Some (r, n) → plain l (inside (sofar_of x)) (numbers_of r) ≡ over
     → Turned l s (inside (sofar_of x)) at (end_turn x n (length s))
 unfolding read_on run end_turn last
 turned-over l s x at n r got h =

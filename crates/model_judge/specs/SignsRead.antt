@@ -1,5 +1,5 @@
 -- Equations with signs, read back from the bytes: one record more is one equation more. Assumes nothing.
-use Rattle.std.specs.Prelude.{◌≡◌, refl, true, List, [], ◌∷◌, ◌++◌, ℕ, zero, suc, ◌+◌, ◌-◌, ◌*◌, ◌≤◌, ◌<◌, length, get_or, set, replicate}
+use Rattle.std.specs.Prelude.{◌≡◌, refl, true, List, [], ◌∷◌, ◌++◌, ℕ, zero, suc, ◌+◌, ◌-◌, ◌*◌, ◌≤◌, ◌<◌, length, get_or, set, replicate, Some}
 use Rattle.std.proofs.Common.{sym, ap, ap₂, ◌∙◌, subst, inl, inr, le_of_suc-le-suc, eq-or-lt_of_le, not-suc-le-zero, arith, length-set, get_or-set_same, get_or-set_other}
 use Rattle.std.proofs.Math.Decide.{ℕ_discrete}
 use Rattle.lists.specs.Tests.{eqb_is}
@@ -14,11 +14,10 @@ use Rattle.rules.specs.declared.Record.{Record}
 use Rattle.rules.specs.declared.Record.TheVariants as R
 use Rattle.bytes_read.specs.PartsAt.{read_there}
 use Rattle.bytes_read.specs.Places.{body_len, record_of, record_at}
-use Rattle.bytes_read.specs.declared.Read.TheVariants.{Got}
 use Rattle.model_judge.specs.Asking.{sign_at, signs_from, signs_to, Spelled, is_signed}
 
 -- The record of an equation with a sign has 5 bytes, and says what they say.
-pub signed-there : (s : List ℕ) (n k : ℕ) (r : Record) → record_at s n ≡ Got r k → is_signed r ≡ true → (k ≡ n + 5) × (sign_of (numbers_of r) ≡ sign_at s n)
+pub signed-there : (s : List ℕ) (n k : ℕ) (r : Record) → record_at s n ≡ Some (r, k) → is_signed r ≡ true → (k ≡ n + 5) × (sign_of (numbers_of r) ≡ sign_at s n)
 unfolding record_of body_len widths
 signed-there s n k r got is =
     let t = read_there s n k r got in

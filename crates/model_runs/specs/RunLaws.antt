@@ -29,6 +29,6 @@ pub equation-more : (s : List ℕ) (z : Sizes) (end : ℕ) (x y w : EquationRun)
     → ((w.at ≤ length s) × Equated s z end x w) × (length s - w.at < length s - y.at)
 equation-more s z end x y w = one_more (λ v. v.at) (length s) (GoodEquation s z end) with_equation (λ v g. let h = g.inside_bytes in (omega arith, h)) x y w
 
-pub move-more : (s : List ℕ) (z : Sizes) (room : ℕ) (x y w : MoveRun) → (y.at ≤ length s) × Moved s z room x y → (y.count < room) × GoodMove s z y → w ≡ with_move s y
+pub move-more : (s : List ℕ) (z : Sizes) (room : ℕ) (x y w : MoveRun) → (y.at ≤ length s) × Moved s z room x y → (y.moves.count < room) × GoodMove s z y → w ≡ with_move s y
     → ((w.at ≤ length s) × Moved s z room x w) × (length s - w.at < length s - y.at)
-move-more s z room x y w = one_more (λ v. v.at) (length s) (λ v. (v.count < room) × GoodMove s z v) (with_move s) (λ v g. let h = g.1.inside_bytes in (omega arith, h)) x y w
+move-more s z room x y w = one_more (λ v. v.at) (length s) (λ v. (v.moves.count < room) × GoodMove s z v) (with_move s) (λ v g. let h = g.1.inside_bytes in (omega arith, h)) x y w

@@ -52,18 +52,20 @@ pub record GoodMove (s : List ℕ) (z : Sizes) (x : MoveRun) : Type 0 where
   pub inside_bytes : x.at + 6 ≤ length s
   pub kind : get_or s x.at 0 ≡ 5
   pub fits : move_ok z (move_at s (x.at + 1)).source.0 (move_at s (x.at + 1)).action.0 (move_at s (x.at + 1)).target.0 ≡ true
-  pub order : x.least ≤ pack_of (move_at s (x.at + 1))
+  pub order : x.moves.least ≤ pack_of (move_at s (x.at + 1))
 
 -- Past it.
 abbrev pub with_move : List ℕ → MoveRun → MoveRun
 with_move s x =
     record {
-      count = suc x.count;
-      least = suc (pack_of (move_at s (x.at + 1)));
-      moving = moving_with x.moving (move_at s (x.at + 1)).source.0;
+      moves = record {
+        count = suc x.moves.count;
+        least = suc (pack_of (move_at s (x.at + 1)));
+        moving = moving_with x.moves.moving (move_at s (x.at + 1)).source.0;
+      };
       at = x.at + 6;
     }
 
 -- From one place to another there are good moves and nothing else, and room for each.
 abbrev pub Moved : List ℕ → Sizes → ℕ → MoveRun → MoveRun → Type 0
-Moved s z room x y = Steps (λ w. (w.count < room) × GoodMove s z w) (with_move s) x y
+Moved s z room x y = Steps (λ w. (w.moves.count < room) × GoodMove s z w) (with_move s) x y

@@ -2,41 +2,41 @@
 // order: some of them read in one go. What a run passes is good; that it passes all that are good is not promised.
 #![tactic(auto)]
 
-ghost use Rattle.std.specs.Prelude.{◌≡◌, true, ℕ, ◌+◌, ◌*◌, ◌^◌, ◌≤◌, ◌<◌, length};
+ghost use Rattle.std.specs.Prelude.{◌≡◌, true, ℕ, ◌+◌, ◌*◌, ◌^◌, ◌≤◌, ◌<◌, length, IfSome};
 ghost use Rattle.rules.specs.Limits.{most_moves};
 ghost use Rattle.model_runs.specs.Runs.{GoodLabel, GoodEquation, GoodMove, with_label, with_equation, with_move, Labelled, Equated, Moved};
 
-use rules::{Sizes, State};
+use bytes_read::Kind;
+use rules::Sizes;
 
 // Where labels are read: they have passed the states below `labels`, and the next record stands at a place.
-#[derive(Clone, Copy)]
+#[derive(Clone, Copy, Debug, PartialEq, Eq)]
 pub struct LabelRun {
     pub labels: u32,
     pub at: usize,
 }
 
 // Where equations of a block are read: how many are due, and where the next record stands.
-#[derive(Clone, Copy)]
+#[derive(Clone, Copy, Debug, PartialEq, Eq)]
 pub struct EquationRun {
     pub due: u32,
     pub at: usize,
 }
 
-// Where moves are read: how many so far, the least number that the next may have, how many states, from the first on, have a
-// move each, and where the next record stands.
-#[derive(Clone, Copy)]
-pub struct MoveRun {
+// Of the moves so far: how many, the least number that the next may have, and how many states, from the first on, have a move
+// each.
+#[derive(Clone, Copy, Debug, PartialEq, Eq, Default)]
+pub struct MovesRead {
     pub count: u32,
     pub least: u64,
     pub moving: u32,
-    pub at: usize,
 }
 
-// Past one move or some: whether all of them are good, and where the next is read.
-#[derive(Clone, Copy)]
-struct Passed {
-    good: bool,
-    run: MoveRun,
+// Where moves are read: what has been read of them, and where the next record stands.
+#[derive(Clone, Copy, Debug, PartialEq, Eq)]
+pub struct MoveRun {
+    pub moves: MovesRead,
+    pub at: usize,
 }
 
 // Whether a good label stands next: where the answer is yes, it does.
@@ -50,7 +50,11 @@ pub fn good_label(bytes: &[u8], z: Sizes, x: LabelRun) -> bool
     }
     let s = bytes_read::u16_at(bytes, at + 1);
     let v = bytes_read::u32_at(bytes, at + 3);
-    (bytes[at] == 2) & (s < z.states) & (0 < v) & limits::label_ok(z, v) & (x.labels <= s as u32)
+    (bytes[at] == Kind::Label as u8)
+        & (s < z.states)
+        & (0 < v)
+        & limits::label_ok(z, v)
+        & (x.labels <= s as u32)
 }
 
 // Past the label that stands next.
@@ -60,11 +64,11 @@ pub fn with_label(bytes: &[u8], x: LabelRun) -> LabelRun
 {
     let at = x.at;
     let labels = bytes_read::u16_at(bytes, at + 1) as u32 + 1;
-    LabelRun {
-        labels: labels,
-        at: at + 7,
-    }
+    LabelRun { labels, at: at + 7 }
 }
+
+// Each of the three runs has a loop of its own: one over a trait would need three ghost members, a law and three impls, for a
+// loop of one line.
 
 // Past good labels that stand next. It may stop before the last of them; who reads on meets the next as any other record.
 pub fn labels_run(bytes: &[u8], z: Sizes, x: LabelRun) -> LabelRun
@@ -90,7 +94,9 @@ pub fn good_equation(bytes: &[u8], z: Sizes, end: usize, x: EquationRun) -> bool
     let o = bytes[at + 1];
     let a = bytes[at + 2];
     let b = bytes[at + 3];
-    (bytes[at] == 4) & limits::operands_ok(z, o, a, b) & limits::names_ok(end, o, a, b)
+    (bytes[at] == Kind::Equation as u8)
+        & limits::operands_ok(z, o, a, b)
+        & limits::names_ok(end, o, a, b)
 }
 
 // Past the equation that stands next.
@@ -98,9 +104,8 @@ pub fn with_equation(x: EquationRun) -> EquationRun
     requires { (0 < x.due) × (x.at + 4 < 2 ^ 64) }
     ensures { result ≡ with_equation x }
 {
-    let due = x.due - 1;
     EquationRun {
-        due: due,
+        due: x.due - 1,
         at: x.at + 4,
     }
 }
@@ -117,45 +122,48 @@ pub fn equations_run(bytes: &[u8], z: Sizes, end: usize, x: EquationRun) -> Equa
     y
 }
 
-// Past the whole move that stands next, and whether it is good: without a branch.
-fn pass(bytes: &[u8], z: Sizes, x: MoveRun) -> Passed
-    requires { (x.at + 6 ≤ length bytes.now) × (x.count < most_moves) }
-    ensures { (result.run ≡ with_move bytes.now x) × (result.good ≡ true → GoodMove bytes.now z x) }
+// Whether the whole move that stands next is good, without a branch: where the answer is yes, it is.
+fn good_move(bytes: &[u8], z: Sizes, x: MoveRun) -> bool
+    requires { x.at + 6 ≤ length bytes.now }
+    ensures { result ≡ true → GoodMove bytes.now z x }
 {
     let at = x.at;
     let m = bytes_read::move_at(bytes, at + 1);
-    let good = (bytes[at] == 5) & limits::move_ok(z, m) & (x.least <= words::packed(m));
-    let count = x.count + 1;
+    (bytes[at] == Kind::Move as u8) & limits::move_ok(z, m) & (x.moves.least <= words::packed(m))
+}
+
+// Past the whole move that stands next.
+fn with_move(bytes: &[u8], x: MoveRun) -> MoveRun
+    requires { (x.at + 6 ≤ length bytes.now) × (x.moves.count < most_moves) }
+    ensures { result ≡ with_move bytes.now x }
+{
+    let at = x.at;
+    let m = bytes_read::move_at(bytes, at + 1);
     let least = words::packed(m) + 1;
-    let moving = limits::moving_with(x.moving, m.source);
-    let end = at + 6;
-    let run = MoveRun {
-        count: count,
-        least: least,
-        moving: moving,
-        at: end,
-    };
-    Passed {
-        good: good,
-        run: run,
+    let moving = limits::moving_with(x.moves.moving, m.source);
+    MoveRun {
+        moves: MovesRead {
+            count: x.moves.count + 1,
+            least,
+            moving,
+        },
+        at: at + 6,
     }
 }
 
-// Past the next n moves, each of which stands whole, and whether all of them are good.
-fn pass_all(bytes: &[u8], z: Sizes, x: MoveRun, n: usize) -> Passed
-    requires { (x.at + 6 * n ≤ length bytes.now) × (x.count + n ≤ most_moves) }
-    ensures { (room : ℕ) → x.count + n ≤ room → result.good ≡ true → Moved bytes.now z room x result.run }
+// Past the next n moves, each of which stands whole, where all of them are good; the loop has no branch, and all are asked at
+// once after it.
+fn pass_all(bytes: &[u8], z: Sizes, x: MoveRun, n: usize) -> Option<MoveRun>
+    requires { (x.at + 6 * n ≤ length bytes.now) × (x.moves.count + n ≤ most_moves) }
+    ensures { (room : ℕ) → x.moves.count + n ≤ room → IfSome result (λ y. Moved bytes.now z room x y) }
 {
     let mut good = true;
     let mut y = x;
-    let mut k: usize = 0;
-    while k < n {
-        let p = pass(bytes, z, y);
-        good = good & p.good;
-        y = p.run;
-        k = k + 1;
+    for _ in 0..n {
+        good = good & good_move(bytes, z, y);
+        y = with_move(bytes, y);
     }
-    Passed { good: good, run: y }
+    good.then_some(y)
 }
 
 // Past good moves that stand next and have room, one after another, not always all of them.
@@ -164,24 +172,10 @@ fn one_by_one(bytes: &[u8], z: Sizes, room: usize, x: MoveRun) -> MoveRun
     ensures { Moved bytes.now z room x result }
 {
     let mut y = x;
-    while ((y.count as usize) < room) & (6 <= bytes.len() - y.at) {
-        let p = pass(bytes, z, y);
-        if !p.good {
-            return y;
-        }
-        y = p.run;
+    while ((y.moves.count as usize) < room) && (6 <= bytes.len() - y.at) && good_move(bytes, z, y) {
+        y = with_move(bytes, y);
     }
     y
-}
-
-// The lower of two numbers.
-fn lower(a: usize, b: usize) -> usize
-    ensures { (result ≤ a) × (result ≤ b) }
-{
-    if a < b {
-        return a;
-    }
-    b
 }
 
 // Past good moves that stand next and have room, not always all of them: at once where all that stand there are good, one
@@ -190,16 +184,13 @@ pub fn moves_run(bytes: &[u8], z: Sizes, room: usize, x: MoveRun) -> MoveRun
     requires { (x.at ≤ length bytes.now) × (room ≤ most_moves) }
     ensures { Moved bytes.now z room x result }
 {
-    let at = x.at;
-    let count = x.count as usize;
+    let count = x.moves.count as usize;
     if room < count {
         return x;
     }
-    let n = lower(room - count, (bytes.len() - at) / 6);
-    let all = pass_all(bytes, z, x, n);
-    if all.good {
-        let run = all.run;
-        return run;
+    let n = (room - count).min((bytes.len() - x.at) / 6);
+    match pass_all(bytes, z, x, n) {
+        Some(run) => run,
+        None => one_by_one(bytes, z, room, x),
     }
-    one_by_one(bytes, z, room, x)
 }

@@ -1,6 +1,6 @@
 -- Labels, equations and moves stored in one go: each label and each equation of a block as by a turn of its own, and all moves
 -- up to the end. Assumes nothing.
-use Rattle.std.specs.Prelude.{◌≡◌, List, [], ◌∷◌, ltb, length, set}
+use Rattle.std.specs.Prelude.{◌≡◌, List, [], ◌∷◌, ltb, length, set, Some, None, Result}
 use Rattle.std.proofs.Math.Path.{refl, sym, ap}
 use Rattle.std.proofs.Common.{◌∙◌, length-set}
 use Rattle.std.proofs.Math.Logic.{inl, inr}
@@ -21,9 +21,7 @@ use Rattle.rules.specs.declared.Record.TheVariants as R
 use Rattle.rules.specs.declared.Sizes.{Sizes}
 use Rattle.laws.specs.bytes.RecordLaws.{un-onto, never}
 use Rattle.bytes_read.specs.PartsAt.{parts_at, PartsBy, parts-at, read_there}
-use Rattle.bytes_read.specs.Places.{le16, le32, move_at, body_len, record_of, record_at}
-use Rattle.bytes_read.specs.declared.Read.{Read}
-use Rattle.bytes_read.specs.declared.Read.TheVariants.{Got, Broken}
+use Rattle.bytes_read.specs.Places.{le16, le32, move_at, body_len, record_of, record_at, Read}
 use Rattle.model_runs.specs.Runs.{GoodLabel, with_label, GoodEquation, with_equation, Equated}
 use Rattle.model_runs.specs.Runs as Run
 use Rattle.model_runs.specs.declared.LabelRun.{LabelRun}
@@ -31,16 +29,16 @@ use Rattle.model_runs.specs.declared.EquationRun.{EquationRun}
 use Rattle.model_judge.specs.Due.{all_read}
 use Rattle.model_judge.specs.Going.{Inside, InsideTurn, Follows}
 use Rattle.model_judge.specs.GoingLaws.{turned-inside}
-use Rattle.model_judge.specs.Passing.{label_run, with_labels, block_end, equation_at, equation_run, with_equations}
-use Rattle.model_judge.specs.PassingLaws.{label-goes, equations-inside, equation-goes}
+use Rattle.model_judge.specs.Passing.{LabelsKept, EquationsKept, label_run, with_labels, block_end, equation_at, equation_run, with_equations}
+use Rattle.model_judge.specs.PassingLaws.{label-goes, equated-on, equations-kept, equations-inside, equation-goes}
 use Rattle.model_judge.specs.Plain.{plain}
-use Rattle.model_judge.specs.Progress.{sofar_of, Kept, KeptIn, LabelsDue, MovesDue}
+use Rattle.model_judge.specs.Progress.{sofar_of, Kept, LabelsDue, MovesDue}
 use Rattle.model_judge.specs.RecordTurns.{Stepped, label, block, equation, move, end, lives, sign, refusal, stepped, step_kept}
-use Rattle.model_judge.specs.Turning.{read_on}
-use Rattle.model_judge.specs.declared.Progress.{Progress}
-use Rattle.model_judge.specs.declared.OneTurn.{OneTurn}
-use Rattle.model_judge.specs.declared.OneTurn.TheVariants as T
-use Rattle.model_judge.specs.declared.ReadModel.{ReadModel}
+use Rattle.model_judge.specs.Turning.{read_on, OneTurn, go}
+use Rattle.model_judge.specs.declared.progress.Progress.{Progress}
+use Rattle.model_judge.specs.declared.Summary.{Summary}
+use Rattle.std.specs.declared.ops.ControlFlow.TheVariants.{Continue, Break}
+use Rattle.rules.specs.declared.Refused.{Refused}
 use Rattle.model_store.specs.StoreLaws.{here-goes, storing-next, storable-next}
 use Rattle.model_store.specs.Stored.{Stored, three, put_rooms, put_turn, laid, Here, StoresAt, Stores, StorableTurn, RunStored, RunOver, label_put, LabelsPut, EquationsPut, moves_from, equation_put}
 use Rattle.model_store.specs.Stored as Put
@@ -80,31 +78,41 @@ equations-more s x n y w es fs ks h g e =
     rw (e.0, e.1) ((k, omega arith, simp length-set h.2, Put.more y fs h.3 g), omega arith)
 
 -- A good label more.
-label-here : (l : Lengths) (s : List ℕ) (t₀ : Stored) (x : Progress) (y : LabelRun) (ls es ms : List ℕ) → KeptIn (with_labels x y) → LabelsDue x → GoodLabel s x.sizes y
-    → Here l s t₀ (sofar_of (with_labels x y)) y.at (three ls es ms)
-    → KeptIn (with_labels x (with_label s y)) × Here l s t₀ (sofar_of (with_labels x (with_label s y))) (y.at + 7) (three (label_put s y ls) es ms)
+label-here : (l : Lengths) (s : List ℕ) (t₀ : Stored) (x : Progress) (y : LabelRun) (ls es ms : List ℕ) (p : LabelsKept x y) → LabelsDue x → GoodLabel s x.sizes y
+    → Here l s t₀ (sofar_of (with_labels x y p)) y.at (three ls es ms)
+    → (q : LabelsKept x (with_label s y)) × Here l s t₀ (sofar_of (with_labels x (with_label s y) q)) (y.at + 7) (three (label_put s y ls) es ms)
 unfolding put_rooms
-label-here l s t₀ x y ls es ms k due g h =
-    let w = label-goes l s (with_labels x y) y.at k due g in
-    (w.kept, here-goes l s t₀ (with_labels x y) (with_labels x (with_label s y)) y.at (y.at + 7) (R.Label (record { 0 = le16 s (y.at + 1) }) (le32 s (y.at + 3))) (three ls es ms) h k w)
+label-here l s t₀ x y ls es ms p due g h =
+    let w = label-goes l s (with_labels x y p) y.at due g in
+    (w.0, here-goes l s t₀ (with_labels x y p) (with_labels x (with_label s y) w.0) y.at (y.at + 7) (R.Label (record { 0 = le16 s (y.at + 1) }) (le32 s (y.at + 3))) (three ls es ms) h p w.1)
 
 -- All good labels.
 labels-here : (l : Lengths) (s : List ℕ) (t₀ : Stored) (x : Progress) (n : ℕ) (ls es ms : List ℕ) (y : LabelRun) (ks : List ℕ) → Inside s x n → LabelsDue x
     → LabelsPut s x.sizes (label_run x n) ls y ks → Here l s t₀ (sofar_of x) n (three ls es ms)
-    → Inside s (with_labels x y) y.at × (n ≤ y.at) × Here l s t₀ (sofar_of (with_labels x y)) y.at (three ks es ms)
-labels-here l s t₀ x n ls es ms y ks i due Put.none h = (i, omega arith, h)
+    → (p : LabelsKept x y) × Inside s (with_labels x y p) y.at × (n ≤ y.at) × Here l s t₀ (sofar_of (with_labels x y p)) y.at (three ks es ms)
+labels-here l s t₀ x n ls es ms y ks i due Put.none h = (x.kept, i, omega arith, h)
 labels-here l s t₀ x n ls es ms y ks i due (Put.more z js p g) h =
     let a = labels-here l s t₀ x n ls es ms z js i due p h in
-    let b = label-here l s t₀ x z js es ms a.0.kept due g a.2 in
-    let o = a.1 in
-    (record { kept = b.0; begun = omega arith; inside_bytes = g.inside_bytes }, omega arith, b.1)
+    let b = label-here l s t₀ x z js es ms a.0 due g a.3 in
+    let o = a.2 in
+    let w = a.1.begun in
+    (b.0, record { kept = b.0; begun = omega arith; inside_bytes = g.inside_bytes }, omega arith, b.1)
 
-pub labels-stored : (s : List ℕ) (r : Record) (x : Progress) (n : ℕ) (ls es ms : List ℕ) (y : LabelRun) (ks : List ℕ) → Inside s x n → LabelsDue x
-    → LabelsPut s x.sizes (label_run x n) ls y ks → RunStored s (T.Go r x n) (three ls es ms) (T.Go r (with_labels x y) y.at) (three ks es ms)
-labels-stored s r x n ls es ms y ks i due p l t₀ g =
+pub labels-stored : (s : List ℕ) (r : Record) (x : Progress) (n : ℕ) (ls es ms : List ℕ) (y : LabelRun) (q : LabelsKept x y) (ks : List ℕ) → Inside s x n → LabelsDue x
+    → LabelsPut s x.sizes (label_run x n) ls y ks → RunStored s (go r x n) (three ls es ms) (go r (with_labels x y q) y.at) (three ks es ms)
+labels-stored s r x n ls es ms y q ks i due p l t₀ g =
     let a = labels-here l s t₀ x n ls es ms y ks i due p g.holds in
-    let o = a.1 in
-    (record { inside = a.0; holds = a.2 }, omega arith)
+    let o = a.2 in
+    let b = a.1.begun in
+    let j = a.1.inside_bytes in
+    (record { inside = record { kept = q; begun = b; inside_bytes = j }; holds = a.3 }, omega arith)
+
+-- Labels that are put leave the numbers inside their limits.
+pub put-labels-kept : (s : List ℕ) (x : Progress) (n : ℕ) (ls : List ℕ) (y : LabelRun) (ks : List ℕ) → LabelsDue x → LabelsPut s x.sizes (label_run x n) ls y ks → LabelsKept x y
+put-labels-kept s x n ls y ks due Put.none = x.kept
+put-labels-kept s x n ls y ks due (Put.more z js p g) =
+    let k = put-labels-kept s x n ls z js due p in
+    let h = g.state in omega arith
 
 -- Equations that are put are good.
 put-equated : (s : List ℕ) (x : Progress) (n : ℕ) (es : List ℕ) (y : EquationRun) (fs : List ℕ) → EquationsPut s x n es y fs → Equated s x.sizes (block_end x) (equation_run x n) y
@@ -112,26 +120,31 @@ put-equated s x n es y fs Put.none = Run.none
 put-equated s x n es y fs (Put.more z gs p g) = Run.more z (put-equated s x n es z gs p) g
 
 -- After them the reading stands between two turns.
-pub put-inside : (s : List ℕ) (x : Progress) (n : ℕ) (es : List ℕ) (y : EquationRun) (fs : List ℕ) → Inside s x n → EquationsPut s x n es y fs → (y.due ≤ x.blocks.due) × (n ≤ y.at) × Inside s (with_equations x y) y.at
-put-inside s x n es y fs i p = equations-inside s x n y i (put-equated s x n es y fs p)
+pub put-inside : (s : List ℕ) (x : Progress) (n : ℕ) (es : List ℕ) (y : EquationRun) (q : EquationsKept x y) (fs : List ℕ) → Inside s x n → EquationsPut s x n es y fs → (y.due ≤ x.blocks.due) × (n ≤ y.at) × Inside s (with_equations x y q) y.at
+put-inside s x n es y q fs i p = equations-inside s x n y q i (put-equated s x n es y fs p)
+
+-- No more equations are due than before.
+pub put-fewer : (s : List ℕ) (x : Progress) (n : ℕ) (es : List ℕ) (y : EquationRun) (fs : List ℕ) → Inside s x n → EquationsPut s x n es y fs → y.due ≤ x.blocks.due
+put-fewer s x n es y fs i p = (equated-on s x n y (put-equated s x n es y fs p) i.inside_bytes).0
 
 -- All good equations of a block.
-equations-here : (l : Lengths) (s : List ℕ) (t₀ : Stored) (x : Progress) (n : ℕ) (ls es ms : List ℕ) (y : EquationRun) (fs : List ℕ) → Inside s x n → EquationsPut s x n es y fs
-    → Here l s t₀ (sofar_of x) n (three ls es ms) → Here l s t₀ (sofar_of (with_equations x y)) y.at (three ls fs ms)
+equations-here : (l : Lengths) (s : List ℕ) (t₀ : Stored) (x : Progress) (n : ℕ) (ls es ms : List ℕ) (y : EquationRun) (q : EquationsKept x y) (fs : List ℕ) → Inside s x n → EquationsPut s x n es y fs
+    → Here l s t₀ (sofar_of x) n (three ls es ms) → Here l s t₀ (sofar_of (with_equations x y q)) y.at (three ls fs ms)
 unfolding put_rooms
-equations-here l s t₀ x n ls es ms y fs i Put.none h = let e : block_end x - x.blocks.due ≡ x.blocks.equations = omega arith in rw e h
-equations-here l s t₀ x n ls es ms y fs i (Put.more z gs p g) h =
-    let a = put-inside s x n es z gs i p in
-    here-goes l s t₀ (with_equations x z) (with_equations x (with_equation z)) z.at (z.at + 4) (equation_at s z.at) (three ls gs ms)
-    (equations-here l s t₀ x n ls es ms z gs i p h) a.2.kept (equation-goes l s x z i.kept a.0 g)
+equations-here l s t₀ x n ls es ms y q fs i Put.none h = let e : block_end x - x.blocks.due ≡ x.blocks.equations = omega arith in rw e h
+equations-here l s t₀ x n ls es ms y q fs i (Put.more z gs p g) h =
+    let a = put-fewer s x n es z gs i p in
+    let w = equations-kept x z a in
+    here-goes l s t₀ (with_equations x z w) (with_equations x (with_equation z) q) z.at (z.at + 4) (equation_at s z.at) (three ls gs ms)
+    (equations-here l s t₀ x n ls es ms z w gs i p h) w (equation-goes l s x z w q a g)
 
 -- Stored in one go, they move the turn on.
-pub equations-stored : (s : List ℕ) (r : Record) (x : Progress) (n : ℕ) (ls es ms : List ℕ) (y : EquationRun) (fs : List ℕ) → Inside s x n → EquationsPut s x n es y fs
-    → RunStored s (T.Go r x n) (three ls es ms) (T.Go r (with_equations x y) y.at) (three ls fs ms)
-equations-stored s r x n ls es ms y fs i p l t₀ g =
-    let a = put-inside s x n es y fs i p in
+pub equations-stored : (s : List ℕ) (r : Record) (x : Progress) (n : ℕ) (ls es ms : List ℕ) (y : EquationRun) (q : EquationsKept x y) (fs : List ℕ) → Inside s x n → EquationsPut s x n es y fs
+    → RunStored s (go r x n) (three ls es ms) (go r (with_equations x y q) y.at) (three ls fs ms)
+equations-stored s r x n ls es ms y q fs i p l t₀ g =
+    let a = put-inside s x n es y q fs i p in
     let o = a.1 in
-    (record { inside = a.2; holds = equations-here l s t₀ x n ls es ms y fs i p g.holds }, omega arith)
+    (record { inside = a.2; holds = equations-here l s t₀ x n ls es ms y q fs i p g.holds }, omega arith)
 
 -- A model of moves and nothing else.
 abbrev moves_only : Sofar → List ℕ → Model
@@ -145,15 +158,15 @@ module _ (l : Lengths) (s : List ℕ) where
   -- Nothing stands after the end record.
   at-end : (x : Sofar) (k : ℕ) (n : Model) (rd : Read) → PartsBy s k rd → at_end (plain l) put last (inside x) (parts_at s k) ≡ accepted n → (length s ≤ k) × (n ≡ moves_only x [])
   unfolding last
-  at-end x k n (Got r j) h e = absurd (never (rw h.2 at e))
-  at-end x k n Broken h e =
+  at-end x k n (Some (r, j)) h e = absurd (never (rw h.2 at e))
+  at-end x k n None h e =
       elim (tell true (ltb k (length s))) [
         | inl t ↦ absurd (never (rw (h, t) at e))
         | inr t ↦ let w : accepted (moves_only x []) ≡ accepted n = rw (h, t) at e in ((ltb_no k (length s)).0 t, cc)
       ]
 
   -- One record of such a rest: a move, or the end.
-  rest-turn : (f : ℕ) → Rest f → (x : Sofar) (p k : ℕ) (n : Model) (r : Record) (t : Turn State) → Kept x → moves_due x ≡ true → length s < p + suc f → record_at s p ≡ Got r k → p < k → k ≤ length s
+  rest-turn : (f : ℕ) → Rest f → (x : Sofar) (p k : ℕ) (n : Model) (r : Record) (t : Turn State) → Kept x → moves_due x ≡ true → length s < p + suc f → record_at s p ≡ Some (r, k) → p < k → k ≤ length s
       → plain l (inside x) (numbers_of r) ≡ t → Stepped l x r t
       → on_turn (plain l) put last (λ st. run (plain l) put last st (parts_at s k)) (inside x) p (numbers_of r) (parts_at s k) t ≡ accepted n → n ≡ moves_only x (moves_from s p ((length s - p) / 6))
   unfolding read_on put move_ok body_len widths record_of
@@ -184,9 +197,9 @@ module _ (l : Lengths) (s : List ℕ) where
   rest_read : (f : ℕ) → Rest f → (x : Sofar) (p : ℕ) (n : Model) (rd : Read) → Kept x → moves_due x ≡ true → length s < p + suc f → record_at s p ≡ rd → PartsBy s p rd → read_on l s (inside x) p ≡ accepted n
       → n ≡ moves_only x (moves_from s p ((length s - p) / 6))
   unfolding read_on run
-  rest_read f ih x p n (Got r k) kept due h got w e =
+  rest_read f ih x p n (Some (r, k)) kept due h got w e =
       rest-turn f ih x p k n r (plain l (inside x) (numbers_of r)) kept due h got w.0 w.1 refl (stepped l x r) (rw w.2 at e)
-  rest_read f ih x p n Broken kept due h got w e =
+  rest_read f ih x p n None kept due h got w e =
       elim (tell true (ltb p (length s))) [
         | inl t ↦ absurd (never (rw (w, t) at e))
         | inr t ↦ absurd (never (rw (w, t) at e))
@@ -194,8 +207,8 @@ module _ (l : Lengths) (s : List ℕ) where
 
   rest-past : (x : Sofar) (p : ℕ) (n : Model) (rd : Read) → length s < p + 0 → PartsBy s p rd → read_on l s (inside x) p ≡ accepted n → ⊥
   unfolding read_on run
-  rest-past x p n (Got r k) h w e = let a = w.0 in let b = w.1 in omega arith
-  rest-past x p n Broken h w e =
+  rest-past x p n (Some (r, k)) h w e = let a = w.0 in let b = w.1 in omega arith
+  rest-past x p n None h w e =
       elim (tell true (ltb p (length s))) [
         | inl t ↦ never (rw (w, t) at e)
         | inr t ↦ never (rw (w, t) at e)
@@ -206,8 +219,8 @@ module _ (l : Lengths) (s : List ℕ) where
   rest-is (suc f) x p n kept due h e = rest_read f (rest-is f) x p n (record_at s p) kept due h refl (parts-at s p) e
 
 -- All moves, stored in one go: the reading is over.
-pub moves-stored : (s : List ℕ) (r : Record) (x : Progress) (n : ℕ) (ls es ms : List ℕ) (a : ReadModel) → Inside s x n → MovesDue x
-    → RunStored s (T.Go r x n) (three ls es ms) (T.Stop a) (three ls es (sets ms x.moves.count (moves_from s n ((length s - n) / 6))))
+pub moves-stored : (s : List ℕ) (r : Record) (x : Progress) (n : ℕ) (ls es ms : List ℕ) (a : Result Summary Refused) → Inside s x n → MovesDue x
+    → RunStored s (go r x n) (three ls es ms) (Break a) (three ls es (sets ms x.moves.count (moves_from s n ((length s - n) / 6))))
 unfolding laid
 moves-stored s r x n ls es ms a i due l t₀ g = (
   record {
@@ -235,12 +248,12 @@ stored_more s u v w h k m f e l t₀ g =
 
 -- A turn, and what is stored after it.
 pub follows-inside : (l : Lengths) (s : List ℕ) (read : Read) (t u : OneTurn) → StoresAt s read t → Follows l read t (length s) u → InsideTurn s u
-follows-inside l s read (T.Stop a) u d f = rw f tt
-follows-inside l s read (T.Go r x n) u d f = turned-inside l s (inside (sofar_of x)) n u (f s d.1 refl)
+follows-inside l s read (Break a) u d f = rw f tt
+follows-inside l s read (Continue h) u d f = turned-inside l s (inside (sofar_of h.so_far)) h.at u (f s d.1 refl)
 
 pub follows-storable : (l : Lengths) (s : List ℕ) (read : Read) (t u : OneTurn) → StoresAt s read t → Follows l read t (length s) u → StorableTurn u
-follows-storable l s read (T.Stop a) u d f = rw f tt
-follows-storable l s read (T.Go r x n) u d f = storable-next l s x n u d.0.1 (f s d.1 refl)
+follows-storable l s read (Break a) u d f = rw f tt
+follows-storable l s read (Continue h) u d f = storable-next l s h.so_far h.at u d.0.1 (f s d.1 refl)
 
 pub stores-turn : (l : Lengths) (s : List ℕ) (read : Read) (t u v : OneTurn) (h k m : Stored) → StoresAt s read t → Follows l read t (length s) u → k ≡ put_turn t u h
     → RunOver s u k v m → Stores l s t h v m

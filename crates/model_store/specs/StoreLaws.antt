@@ -2,7 +2,7 @@
 use Rattle.std.proofs.Math.Path.{◌≡◌, refl, sym, ap}
 use Rattle.std.proofs.Common.{ap₂, ◌∙◌, subst, true≢false, append_assoc, zero-add, arith, take_at, drop_at}
 use Rattle.std.proofs.Math.Logic.{inl, inr}
-use Rattle.std.specs.Prelude.{Bool, true, false, cond, ◌&&◌, List, [], ◌∷◌, ◌++◌, map, ℕ, suc, ◌+◌, ◌-◌, ◌≤◌, ◌<◌, eqb, length, drop, set, replicate}
+use Rattle.std.specs.Prelude.{Bool, true, false, cond, ◌&&◌, List, [], ◌∷◌, ◌++◌, map, ℕ, suc, ◌+◌, ◌-◌, ◌≤◌, ◌<◌, eqb, length, drop, set, replicate, Result, Ok, Err}
 use Rattle.std.proofs.lemmas.List.{length-replicate, length-map}
 use Rattle.std.proofs.lemmas.List.Edits.{sets, sets-eq}
 use Rattle.lists.specs.Lists.{fill}
@@ -28,23 +28,20 @@ use Rattle.laws.specs.bytes.Kinds.{Other, other-kinds}
 use Rattle.laws.specs.bytes.RecordLaws.{AreBytes, judged, un-onto, never}
 use Rattle.laws.specs.bytes.ReadSpells.{read-spelling}
 use Rattle.bytes_read.specs.PartsAt.{parts_at}
-use Rattle.bytes_read.specs.Places.{record_at}
-use Rattle.bytes_read.specs.declared.Read.{Read}
+use Rattle.bytes_read.specs.Places.{record_at, Read}
 use Rattle.bytes_write.specs.Written.{sets-append}
 use Rattle.model_judge.specs.Plain.{plain, read_plain}
 use Rattle.model_judge.specs.Progress.{sofar_of, Kept, KeptIn, moves_due_in}
 use Rattle.model_judge.specs.Going.{place_of, Follows, InsideTurn, left}
 use Rattle.model_judge.specs.GoingLaws.{turned-inside, nearer-on}
-use Rattle.model_judge.specs.Turning.{read_on, read_says, Summary, summary, Goes, Stops, Turned}
-use Rattle.model_judge.specs.declared.OneTurn.{OneTurn}
-use Rattle.model_judge.specs.declared.OneTurn.TheVariants as T
-use Rattle.model_judge.specs.declared.ReadModel.{ReadModel}
-use Rattle.model_judge.specs.declared.ReadModel.TheVariants as M
+use Rattle.model_judge.specs.Turning.{read_on, read_says, summary, Goes, Stops, Turned, OneTurn, go}
+use Rattle.model_judge.specs.declared.Summary.{Summary}
+use Rattle.std.specs.declared.ops.ControlFlow.TheVariants.{Continue, Break}
+use Rattle.rules.specs.declared.Refused.{Refused}
 use Rattle.rules.specs.Answers.{number_of}
-use Rattle.rules.specs.declared.Refusal.{Refusal}
 use Rattle.rules.specs.declared.Sizes.{Sizes}
 use Rattle.model_judge.specs.RecordTurns.{Stepped, label, block, equation, move, lives, sign, stepped, first-is}
-use Rattle.model_judge.specs.declared.Progress.{Progress}
+use Rattle.model_judge.specs.declared.progress.Progress.{Progress}
 use Rattle.model_store.specs.Stored.{Stored, Here, Holds, Reached, NoMoves, Storing, Storable, StorableTurn, StoredWhole, put_rooms, put_turn, laid, with_components, stored_by, Spans, ReadInto}
 
 -- One zero of a run of zeros.
@@ -143,38 +140,38 @@ module _ (l : Lengths) (s : List ℕ) (t₀ : Stored) where
 
   -- After the sizes no move is due.
   first-undue : (u : OneTurn) → Turned l s before 0 u → NoMoves u
-  first-undue (T.Stop a) w = tt
-  first-undue (T.Go r y n) w = no-moves-yet y w.kept (ap (λ (x : Sofar). x.blocks.equations) (first-is l (numbers_of r) (sofar_of y) w.steps))
+  first-undue (Break a) w = tt
+  first-undue (Continue h) w = no-moves-yet h.so_far w.kept (ap (λ (x : Sofar). x.blocks.equations) (first-is l (numbers_of h.last) (sofar_of h.so_far) w.steps))
 
   -- The first turn, which stores nothing.
   holds-first : (u : OneTurn) → Turned l s before 0 u → Holds l s t₀ u t₀
-  holds-first (T.Stop a) w = here-none w.1
-  holds-first (T.Go r y n) w = here-first y n r w
+  holds-first (Break a) w = here-none w.1
+  holds-first (Continue h) w = here-first h.so_far h.at h.last w
 
   pub storing-first : (u : OneTurn) → Turned l s before 0 u → Storing l s t₀ u t₀
   storing-first u w = record { going = (turned-inside l s before 0 u w, first-undue u w); holds = holds-first u w }
 
   -- A turn that follows one that goes on.
-  holds_on : (r : Record) (x : Progress) (n : ℕ) (u : OneTurn) (t : Stored) → KeptIn x → Here l s t₀ (sofar_of x) n t → Turned l s (inside (sofar_of x)) n u → Holds l s t₀ u (put_turn (T.Go r x n) u t)
-  holds_on r x n (T.Stop a) t k h w = here-stops (sofar_of x) n t h w.1
-  holds_on r x n (T.Go q y j) t k h w = here-goes x y n j q t h k w
+  holds_on : (r : Record) (x : Progress) (n : ℕ) (u : OneTurn) (t : Stored) → KeptIn x → Here l s t₀ (sofar_of x) n t → Turned l s (inside (sofar_of x)) n u → Holds l s t₀ u (put_turn (go r x n) u t)
+  holds_on r x n (Break a) t k h w = here-stops (sofar_of x) n t h w.1
+  holds_on r x n (Continue u) t k h w = here-goes x u.so_far n u.at u.last t h k w
 
   holds-next : (x u : OneTurn) (t : Stored) (read : Read) → Storing l s t₀ x t → (place_of x ≡ 0 → ⊥) → read ≡ record_at s (place_of x) → Follows l read x (length s) u → Holds l s t₀ u (put_turn x u t)
-  holds-next (T.Stop a) u t read g f e w = absurd (f refl)
-  holds-next (T.Go r x n) u t read g f e w = holds_on r x n u t g.going.0.kept g.holds (w s e refl)
+  holds-next (Break a) u t read g f e w = absurd (f refl)
+  holds-next (Continue h) u t read g f e w = holds_on h.last h.so_far h.at u t g.going.0.kept g.holds (w s e refl)
 
   -- A turn that is not over has a place, and one follows it, nearer to the end.
   pub storing-next : (x u : OneTurn) (t : Stored) (read : Read) → Storing l s t₀ x t → (place_of x ≡ 0 → ⊥) → read ≡ record_at s (place_of x) → Follows l read x (length s) u
       → Reached l s t₀ u (put_turn x u t) × (left s u < left s x)
-  storing-next (T.Stop a) u t read g f e w = absurd (f refl)
-  storing-next (T.Go r x n) u t read g f e w =
+  storing-next (Break a) u t read g f e w = absurd (f refl)
+  storing-next (Continue h) u t read g f e w =
       let d = w s e refl in
-      (record { inside = turned-inside l s (inside (sofar_of x)) n u d; holds = holds-next (T.Go r x n) u t read g f e w }, nearer-on l s r x n u d)
+      (record { inside = turned-inside l s (inside (sofar_of h.so_far)) h.at u d; holds = holds-next (Continue h) u t read g f e w }, nearer-on l s h.last h.so_far h.at u d)
 
   -- Where it is over, the whole is stored.
   over_by : (x : OneTurn) (t : Stored) → InsideTurn s x → Holds l s t₀ x t → place_of x ≡ 0 → StoredWhole l s t₀ t
-  over_by (T.Stop a) t g h e = h
-  over_by (T.Go r x n) t g h e = let k = g.begun in absurd (omega arith)
+  over_by (Break a) t g h e = h
+  over_by (Continue u) t g h e = let k = g.begun in absurd (omega arith)
 
   pub storing-over : (x : OneTurn) (t : Stored) → Storing l s t₀ x t → place_of x ≡ 0 → StoredWhole l s t₀ t
   storing-over x t g e = over_by x t g.going.0 g.holds e
@@ -195,8 +192,8 @@ storable-by l x y r u (move v m) = (λ e. true≢false (sym m.0 ∙ u), λ e. ab
 storable-by l x y r u (sign c o a b m) = (λ e. omega arith, λ e. (leb-is c 1).0 (simp and_is at m.1.0).0)
 
 pub storable-next : (l : Lengths) (s : List ℕ) (x : Progress) (n : ℕ) (u : OneTurn) → moves_due_in x ≡ false → Turned l s (inside (sofar_of x)) n u → StorableTurn u
-storable-next l s x n (T.Stop a) h t = tt
-storable-next l s x n (T.Go r y k) h t = storable-by l (sofar_of x) (sofar_of y) r h (rw t.steps at (stepped l (sofar_of x) r))
+storable-next l s x n (Break a) h t = tt
+storable-next l s x n (Continue u) h t = storable-by l (sofar_of x) (sofar_of u.so_far) u.last h (rw t.steps at (stepped l (sofar_of x) u.last))
 
 -- The numbers of an equation with a sign that is stored by itself fit its word.
 pub sign_fits : (r : Record) (k o a b : ℕ) (e : Equation) → r ≡ R.Signed k o a b → Storable r → e ≡ signed_of k o a b → (e.block < 128) × (e.kind ≤ 1)
@@ -284,19 +281,21 @@ good-stores : (o : Outcome Model) (b : Summary) (t u : Stored) → accepted b �
 good-stores (refused k q) b t u h f = absurd (never (sym h))
 good-stores (accepted m) b t u h f = f m refl cc
 
-pub read-refused : (s : List ℕ) (l : Lengths) (t : Stored) (r : ReadModel) (e : Refusal) (p : ℕ) → r ≡ M.Refused e p
-    → read_says r ≡ summary (read_model l s) → ReadInto s l t r t
-read-refused s l t r e p q h =
-    record { says = h; stores = refused-stores (read_model l s) (number_of e) p t (rw q at h) }
+pub read-refused : (s : List ℕ) (l : Lengths) (t : Stored) (r : Result Summary Refused) (e : Refused) → r ≡ Err e
+    → read_says r ≡ summary (read_model l s) → ReadInto s l t (Err e) t
+read-refused s l t r e q h =
+    let w : refused (number_of e.why) e.place ≡ summary (read_model l s) = rw q at h in
+    record { says = w; stores = refused-stores (read_model l s) (number_of e.why) e.place t w }
 
-pub read-good : (s : List ℕ) (l : Lengths) (t u : Stored) (out : List ℕ) (r : ReadModel) (z : Sizes) (live n : ℕ) → AreBytes s → Spans l t → r ≡ M.Good z live n
+pub read-good : (s : List ℕ) (l : Lengths) (t u : Stored) (out : List ℕ) (r : Result Summary Refused) (b : Summary) → AreBytes s → Spans l t → r ≡ Ok b
     → read_says r ≡ summary (read_model l s)
-    → StoredWhole l s t u → out ≡ with_components z u.equations
-    → ReadInto s l t (M.Good z live n) (record { labels = u.labels; equations = out; moves = u.moves })
-read-good s l t u out r z live n b sp q h f c =
+    → StoredWhole l s t u → out ≡ with_components b.sizes u.equations
+    → ReadInto s l t (Ok b) (record { labels = u.labels; equations = out; moves = u.moves })
+read-good s l t u out r k b sp q h f c =
+    let w : accepted k ≡ summary (read_model l s) = rw q at h in
     record {
-      says = rw q at h;
-      stores = good-stores (read_model l s) (record { sizes = z; live = live; moves = n }) t _ (rw q at h) (λ m e g.
+      says = w;
+      stores = good-stores (read_model l s) k t _ w (λ m e g.
           let d = plain-accepts l s m e in
           ap (λ (ws : List ℕ). record { labels = u.labels; equations = ws; moves = u.moves }) c
           ∙ ap₂ completed g (f d.0 d.1) ∙ stored-whole s l t m d.0 b sp e d.2);
@@ -307,6 +306,8 @@ good-fits : (o : Outcome Model) (b : Summary) (t : Stored) → accepted b ≡ su
 good-fits (refused k q) b t h f = absurd (never (sym h))
 good-fits (accepted m) b t h f = let e : b.sizes ≡ m.sizes = cc in rw e (f m refl)
 
-pub read_fits : (s : List ℕ) (l : Lengths) (t : Stored) (r : ReadModel) (z : Sizes) (live n : ℕ) → AreBytes s → Spans l t → r ≡ M.Good z live n → read_says r ≡ summary (read_model l s) → Fitting z t
-read_fits s l t r z live n b sp q h =
-    good-fits (read_model l s) (record { sizes = z; live = live; moves = n }) t (rw q at h) (λ m e. accepted-fits s l t m b sp e)
+pub read_fits : (s : List ℕ) (l : Lengths) (t : Stored) (r : Result Summary Refused) (b : Summary) → AreBytes s → Spans l t → r ≡ Ok b → read_says r ≡ summary (read_model l s)
+    → Fitting b.sizes t
+read_fits s l t r k b sp q h =
+    let w : accepted k ≡ summary (read_model l s) = rw q at h in
+    good-fits (read_model l s) k t w (λ m e. accepted-fits s l t m b sp e)

@@ -1,12 +1,11 @@
 -- What a model leaves in the rooms for labels, equations and moves. Definitions only.
-use Rattle.std.specs.Prelude.{◌≡◌, false, cond, List, [], ◌∷◌, map, ℕ, zero, suc, ◌+◌, ◌-◌, ◌≤◌, ◌<◌, length, get_or, set, replicate, eqb}
+use Rattle.std.specs.Prelude.{◌≡◌, false, cond, List, [], ◌∷◌, map, ℕ, zero, suc, ◌+◌, ◌-◌, ◌≤◌, ◌<◌, length, get_or, set, replicate, eqb, Result}
 use Rattle.std.proofs.lemmas.List.Edits.{sets}
 use Rattle.lists.specs.Lists.{fill}
 use Rattle.rules.specs.Load.{Sofar, inside, started, equation_of, signed_of, sign_of, read_model}
 use Rattle.rules.specs.Rooms.{Lengths}
 use Rattle.words.specs.Words.{pack_of}
-use Rattle.bytes_read.specs.Places.{le16, le32, move_at, record_at}
-use Rattle.bytes_read.specs.declared.Read.{Read}
+use Rattle.bytes_read.specs.Places.{le16, le32, move_at, record_at, Read}
 use Rattle.model_runs.specs.Runs.{GoodLabel, with_label, GoodEquation, with_equation}
 use Rattle.model_runs.specs.declared.LabelRun.{LabelRun}
 use Rattle.model_runs.specs.declared.EquationRun.{EquationRun}
@@ -14,11 +13,11 @@ use Rattle.model_judge.specs.Going.{place_of, InsideTurn, left}
 use Rattle.model_judge.specs.Passing.{block_end, equation_run}
 use Rattle.model_judge.specs.Plain.{read_plain}
 use Rattle.model_judge.specs.Progress.{sofar_of, moves_due_in}
-use Rattle.model_judge.specs.Turning.{read_on, read_says, summary}
-use Rattle.model_judge.specs.declared.Progress.{Progress}
-use Rattle.model_judge.specs.declared.OneTurn.{OneTurn}
-use Rattle.model_judge.specs.declared.OneTurn.TheVariants as T
-use Rattle.model_judge.specs.declared.ReadModel.{ReadModel}
+use Rattle.model_judge.specs.Turning.{read_on, read_says, summary, OneTurn}
+use Rattle.model_judge.specs.declared.progress.Progress.{Progress}
+use Rattle.model_judge.specs.declared.Summary.{Summary}
+use Rattle.rules.specs.declared.Refused.{Refused}
+use Rattle.std.specs.declared.ops.ControlFlow.TheVariants.{Continue, Break}
 use Rattle.rules.specs.Model.{Model, signed, placed}
 use Rattle.rules.specs.Moves.{wrap, pack}
 use Rattle.rules.specs.Records.{Outcome, refused, accepted, numbers_of, field}
@@ -66,14 +65,14 @@ abbrev pub Storable : Record → Type 0
 Storable r = ((numbers_of r).kind ≡ 5 → ⊥) × ((numbers_of r).kind ≡ 11 → (sign_of (numbers_of r)).kind ≤ 1)
 
 abbrev pub StorableTurn : OneTurn → Type 0
-StorableTurn (T.Stop a) = Unit {0}
-StorableTurn (T.Go r x n) = Storable r
+StorableTurn (Break a) = Unit {0}
+StorableTurn (Continue h) = Storable h.last
 
 -- What the record of a turn does to them, after what the turn before it had read.
 abbrev pub put_turn : OneTurn → OneTurn → Stored → Stored
-put_turn (T.Stop a) u t = t
-put_turn (T.Go r x n) (T.Stop a) t = t
-put_turn (T.Go r x n) (T.Go q y k) t = put_record x q t
+put_turn (Break a) u t = t
+put_turn (Continue h) (Break a) t = t
+put_turn (Continue h) (Continue k) t = put_record h.so_far k.last t
 
 -- What is still to come, written from where the reading stands on.
 unfoldable pub laid : Sofar → Model → Stored → Stored
@@ -105,7 +104,7 @@ pub record Spans (l : Lengths) (t : Stored) : Type 0 where
   pub moves : l.moves ≡ length t.moves
 
 -- A reading into rooms t that answers r and leaves u: it says what the rules' reading comes to, and stores the model.
-pub record ReadInto (s : List ℕ) (l : Lengths) (t : Stored) (r : ReadModel) (u : Stored) : Type 0 where
+pub record ReadInto (s : List ℕ) (l : Lengths) (t : Stored) (r : Result Summary Refused) (u : Stored) : Type 0 where
   pub says : read_says r ≡ summary (read_model l s)
   pub stores : u ≡ stored_by (read_model l s) t
 
@@ -116,8 +115,8 @@ Here l s t₀ x at t =
 
 -- Between two turns: what was stored so far, and where the reading is over, the whole.
 abbrev pub Holds : Lengths → List ℕ → Stored → OneTurn → Stored → Type 0
-Holds l s t₀ (T.Stop a) t = StoredWhole l s t₀ t
-Holds l s t₀ (T.Go r x n) t = Here l s t₀ (sofar_of x) n t
+Holds l s t₀ (Break a) t = StoredWhole l s t₀ t
+Holds l s t₀ (Continue h) t = Here l s t₀ (sofar_of h.so_far) h.at t
 
 -- After a turn, before what follows it is stored.
 pub record Reached (l : Lengths) (s : List ℕ) (t₀ : Stored) (u : OneTurn) (t : Stored) : Type 0 where
@@ -126,8 +125,8 @@ pub record Reached (l : Lengths) (s : List ℕ) (t₀ : Stored) (u : OneTurn) (t
 
 -- No move is due: where moves are, they are stored at once, and the reading is over.
 abbrev pub NoMoves : OneTurn → Type 0
-NoMoves (T.Stop a) = Unit {0}
-NoMoves (T.Go r x n) = moves_due_in x ≡ false
+NoMoves (Break a) = Unit {0}
+NoMoves (Continue h) = moves_due_in h.so_far ≡ false
 
 abbrev pub Between : List ℕ → OneTurn → Type 0
 Between s u = InsideTurn s u × NoMoves u

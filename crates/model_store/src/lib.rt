@@ -8,26 +8,26 @@ ghost use Rattle.rules.specs.Moves.{wrap};
 ghost use Rattle.rules.specs.Session.{word};
 ghost use Rattle.words.specs.Words.{pack_of};
 ghost use Rattle.limits.specs.Lent.{lengths_by};
-ghost use Rattle.model_judge.specs.Progress.{KeptIn, LabelsDue, MovesDue};
-ghost use Rattle.model_judge.specs.Going.{KeptTurn, Inside, InsideTurn};
-ghost use Rattle.model_judge.specs.declared.OneTurn.TheVariants.{Go};
+ghost use Rattle.model_judge.specs.Progress.{LabelsDue, MovesDue};
+ghost use Rattle.model_judge.specs.Going.{Inside, InsideTurn};
+ghost use Rattle.std.specs.declared.ops.ControlFlow.TheVariants.{Continue};
 ghost use Rattle.model_runs.specs.Runs.{with_label, with_equation};
 ghost use Rattle.model_store.specs.Stored.{three, equation_by, put_record, put_turn, Storable, StorableTurn, StoredWhole, with_components, Spans, ReadInto, StoresAt, Stores, RunOver, label_put, LabelsPut, equation_put, EquationsPut, moves_from};
 
-use bytes_read::Read;
+use bytes_read::Reader;
 use limits::Lent;
-use model_judge::{OneTurn, Progress, ReadModel};
+use model_judge::{HalfRead, OneTurn, Progress, Summary};
 use model_runs::{EquationRun, LabelRun};
-use rules::{Equation, Move, Record, Sizes};
+use rules::{Equation, Move, Record, Refused, Sizes};
+use std::ops::ControlFlow;
 
 // Zeros from one place up to another.
+// `fill` of std would be no plainer: the places may lie past the room, where nothing is written.
 fn zeros(room: &mut [u32], from: usize, to: usize)
     ensures { room.new ≡ sets room.old from (replicate (to - from) 0) }
 {
-    let mut i = from;
-    while i < to {
-        rooms::set_word(room, i, 0);
-        i = i + 1;
+    for i in from..to {
+        rooms::put(room, i, 0);
     }
 }
 
@@ -36,32 +36,21 @@ fn put_label(labels: &mut [u32], from: usize, s: usize, v: u32)
     ensures { labels.new ≡ set (sets labels.old from (replicate (s - from) 0)) s v }
 {
     zeros(labels, from, s);
-    rooms::set_word(labels, s, v);
-}
-
-// One less, and 0 at 0.
-fn less_one(n: u32) -> u32
-    ensures { result ≡ n - 1 }
-{
-    if n == 0 {
-        return 0;
-    }
-    n - 1
+    rooms::put(labels, s, v);
 }
 
 // The word of an equation of the block that is read.
 fn equation_word(x: Progress, o: u8, a: u8, b: u8) -> u32
-    requires { KeptIn x }
     ensures { result ≡ word (equation_by x o a b) }
 {
-    let block = less_one(x.blocks.count) as u8;
+    let block = x.blocks.count.saturating_sub(1) as u8;
     let kind = x.blocks.kind as u8;
     words::word_of(Equation {
         operator: o,
         first: a,
         second: b,
-        block: block,
-        kind: kind,
+        block,
+        kind,
     })
 }
 
@@ -74,7 +63,7 @@ fn packed(m: Move) -> u32
 
 // What one record of a model says, stored. It is no move: moves are stored all at once.
 fn put_record(labels: &mut [u32], equations: &mut [u32], x: Progress, r: Record)
-    requires { KeptIn x × Storable r }
+    requires { Storable r }
     ensures { (ms : List ℕ) → three labels.new equations.new ms ≡ put_record x r (three labels.old equations.old ms) }
 {
     match r {
@@ -86,12 +75,12 @@ fn put_record(labels: &mut [u32], equations: &mut [u32], x: Progress, r: Record)
         }
         Record::Equation(o, a, b) => {
             let w = equation_word(x, o, a, b);
-            rooms::set_word(equations, x.blocks.equations as usize, w);
+            rooms::put(equations, x.blocks.equations as usize, w);
         }
         Record::Signed(k, o, a, b) => {
             zeros(labels, x.labels as usize, x.sizes.states as usize);
             let w = words::word_of(model_judge::signed_of(k, o, a, b));
-            rooms::set_word(equations, x.blocks.equations as usize, w);
+            rooms::put(equations, x.blocks.equations as usize, w);
         }
         _ => {}
     }
@@ -99,16 +88,16 @@ fn put_record(labels: &mut [u32], equations: &mut [u32], x: Progress, r: Record)
 
 // What a turn's record says, stored after what the turn before it had read.
 fn put_turn(labels: &mut [u32], equations: &mut [u32], t: OneTurn, u: OneTurn)
-    requires { KeptTurn t × StorableTurn u }
+    requires { StorableTurn u }
     ensures { (ms : List ℕ) → three labels.new equations.new ms ≡ put_turn t u (three labels.old equations.old ms) }
 {
-    let OneTurn::Go(_, x, _) = t else {
+    let ControlFlow::Continue(before) = t else {
         return;
     };
-    let OneTurn::Go(rec, _, _) = u else {
+    let ControlFlow::Continue(after) = u else {
         return;
     };
-    put_record(labels, equations, x, rec);
+    put_record(labels, equations, before.so_far, after.last);
 }
 
 // The label that stands next, stored: past it.
@@ -124,6 +113,7 @@ fn put_label_at(bytes: &[u8], labels: &mut [u32], x: LabelRun) -> LabelRun
 }
 
 // Good labels that stand next, stored: past them.
+// The walk is that of `model_runs::labels_run`; a closure that is lent the room there would have to be told of at each step.
 fn put_labels(bytes: &[u8], labels: &mut [u32], z: Sizes, x: LabelRun) -> LabelRun
     requires { x.at ≤ length bytes.now }
     ensures { LabelsPut bytes.now z x labels.old result labels.new }
@@ -137,17 +127,18 @@ fn put_labels(bytes: &[u8], labels: &mut [u32], z: Sizes, x: LabelRun) -> LabelR
 
 // The equation of the block that stands next, stored: past it.
 fn put_equation_at(bytes: &[u8], equations: &mut [u32], x: Progress, y: EquationRun) -> EquationRun
-    requires { KeptIn x × (0 < y.due) × (y.due ≤ x.blocks.due) × (y.at + 4 ≤ length bytes.now) }
+    requires { (0 < y.due) × (y.due ≤ x.blocks.due) × (y.at + 4 ≤ length bytes.now) }
     ensures { (result ≡ with_equation y) × (equations.new ≡ equation_put bytes.now x y equations.old) }
 {
     let at = y.at;
     let place = x.blocks.equations + x.blocks.due - y.due;
     let w = equation_word(x, bytes[at + 1], bytes[at + 2], bytes[at + 3]);
-    rooms::set_word(equations, place as usize, w);
+    rooms::put(equations, place as usize, w);
     model_runs::with_equation(y)
 }
 
 // Good equations of the block that stand next, stored: past them.
+// The walk is that of `model_runs::equations_run`; a closure that is lent the room there would have to be told of at each step.
 fn put_equations(bytes: &[u8], equations: &mut [u32], x: Progress, at: usize) -> EquationRun
     requires { Inside bytes.now x at }
     ensures { EquationsPut bytes.now x at equations.old result equations.new }
@@ -156,7 +147,7 @@ fn put_equations(bytes: &[u8], equations: &mut [u32], x: Progress, at: usize) ->
     let end = (x.blocks.equations + x.blocks.due) as usize;
     let mut y = EquationRun {
         due: x.blocks.due,
-        at: at,
+        at,
     };
     while model_runs::good_equation(bytes, z, end, y) {
         y = put_equation_at(bytes, equations, x, y);
@@ -170,66 +161,63 @@ fn put_moves(bytes: &[u8], moves: &mut [u32], at: usize, from: usize)
     ensures { moves.new ≡ sets moves.old from (moves_from bytes.now at ((length bytes.now - at) / 6)) }
 {
     let n = (bytes.len() - at) / 6;
-    let mut i: usize = 0;
-    while i < n {
+    for i in 0..n {
         let m = bytes_read::move_at(bytes, at + 6 * i + 1);
-        rooms::set_word(moves, from + i, packed(m));
-        i = i + 1;
+        rooms::put(moves, from + i, packed(m));
     }
 }
 
 // Where labels are due: good ones that stand next, stored, and the turn moved on past them.
-fn store_labels(bytes: &[u8], labels: &mut [u32], rec: Record, x: Progress, at: usize) -> OneTurn
-    requires { Inside bytes.now x at × LabelsDue x }
-    ensures { (es ms : List ℕ) → RunOver bytes.now (Go rec x at) (three labels.old es ms) result (three labels.new es ms) }
+fn store_labels(bytes: &[u8], labels: &mut [u32], h: HalfRead) -> OneTurn
+    requires { Inside bytes.now h.so_far h.at × LabelsDue h.so_far }
+    ensures { (es ms : List ℕ) → RunOver bytes.now (Continue h) (three labels.old es ms) result (three labels.new es ms) }
 {
-    let z = x.sizes;
-    let blocks = x.blocks;
-    let moves = x.moves;
+    let x = h.so_far;
     let start = LabelRun {
         labels: x.labels,
-        at: at,
+        at: h.at,
     };
-    let run = put_labels(bytes, labels, z, start);
-    let y = Progress {
-        sizes: z,
-        live: x.live,
-        labels: run.labels,
-        blocks: blocks,
-        moves: moves,
-    };
-    OneTurn::Go(rec, y, run.at)
+    let run = put_labels(bytes, labels, x.sizes, start);
+    let mut so_far = x;
+    so_far.labels = run.labels;
+    ControlFlow::Continue(HalfRead {
+        so_far,
+        at: run.at,
+        ..h
+    })
 }
 
 // Where moves are due: all of them, stored. That is the rest of a good model, so the reading is over.
-fn store_moves(bytes: &[u8], moves: &mut [u32], x: Progress, at: usize) -> OneTurn
-    requires { Inside bytes.now x at × MovesDue x }
-    ensures { (rec : Record) (ls es : List ℕ) → RunOver bytes.now (Go rec x at) (three ls es moves.old) result (three ls es moves.new) }
+fn store_moves(bytes: &[u8], moves: &mut [u32], h: HalfRead) -> OneTurn
+    requires { Inside bytes.now h.so_far h.at × MovesDue h.so_far }
+    ensures { (ls es : List ℕ) → RunOver bytes.now (Continue h) (three ls es moves.old) result (three ls es moves.new) }
 {
-    let z = x.sizes;
-    put_moves(bytes, moves, at, x.moves.count as usize);
-    OneTurn::Stop(ReadModel::Good(z, x.live, x.moves.count))
+    let x = h.so_far;
+    put_moves(bytes, moves, h.at, x.moves.count as usize);
+    ControlFlow::Break(Ok(Summary {
+        sizes: x.sizes,
+        live: x.live,
+        moves: x.moves.count,
+    }))
 }
 
 // Inside a block: its equations that stand next, stored, and the turn moved on past them; after the last equation of all the
 // moves too.
-fn store_equations(
-    bytes: &[u8],
-    equations: &mut [u32],
-    moves: &mut [u32],
-    rec: Record,
-    x: Progress,
-    at: usize,
-) -> OneTurn
-    requires { Inside bytes.now x at }
-    ensures { (ls : List ℕ) → RunOver bytes.now (Go rec x at) (three ls equations.old moves.old) result (three ls equations.new moves.new) }
+fn store_equations(bytes: &[u8], equations: &mut [u32], moves: &mut [u32], h: HalfRead) -> OneTurn
+    requires { Inside bytes.now h.so_far h.at }
+    ensures { (ls : List ℕ) → RunOver bytes.now (Continue h) (three ls equations.old moves.old) result (three ls equations.new moves.new) }
 {
-    let run = put_equations(bytes, equations, x, at);
-    let y = model_judge::with_equations(x, run);
-    if model_judge::moves_due(y) {
-        return store_moves(bytes, moves, y, run.at);
+    let run = put_equations(bytes, equations, h.so_far, h.at);
+    let so_far = model_judge::with_equations(h.so_far, run);
+    let on = HalfRead {
+        so_far,
+        at: run.at,
+        ..h
+    };
+    if model_judge::moves_due(so_far) {
+        return store_moves(bytes, moves, on);
     }
-    OneTurn::Go(rec, y, run.at)
+    ControlFlow::Continue(on)
 }
 
 // The labels, the equations of a block or the moves that stand next, stored, and the turn moved on past them.
@@ -243,17 +231,16 @@ fn store_run(
     requires { InsideTurn bytes.now u }
     ensures { RunOver bytes.now u (three labels.old equations.old moves.old) result (three labels.new equations.new moves.new) }
 {
-    let OneTurn::Go(rec, x, at) = u else {
-        return u;
-    };
+    let h = u?;
+    let x = h.so_far;
     if (x.blocks.count == 0) & (x.blocks.equations == 0) {
-        return store_labels(bytes, labels, rec, x, at);
+        return store_labels(bytes, labels, h);
     }
     if 0 < x.blocks.due {
-        return store_equations(bytes, equations, moves, rec, x, at);
+        return store_equations(bytes, equations, moves, h);
     }
     if model_judge::moves_due(x) {
-        return store_moves(bytes, moves, x, at);
+        return store_moves(bytes, moves, h);
     }
     u
 }
@@ -266,7 +253,7 @@ fn store_turn(
     labels: &mut [u32],
     equations: &mut [u32],
     moves: &mut [u32],
-    read: Read,
+    read: Option<(Record, usize)>,
     t: OneTurn,
 ) -> OneTurn
     requires { StoresAt bytes.now read t }
@@ -282,19 +269,16 @@ fn store_turn(
 fn store_model(bytes: &[u8], l: Lent, labels: &mut [u32], equations: &mut [u32], moves: &mut [u32])
     ensures { StoredWhole (lengths_by l) bytes.now (three labels.old equations.old moves.old) (three labels.new equations.new moves.new) }
 {
-    let mut r = bytes_read::reader_at(bytes, 0);
-    let mut t = model_judge::first_turn(bytes_read::next(r), l);
-    loop {
-        let at = model_judge::place_of(t);
-        if at == 0 {
-            break;
-        }
-        r.at = at;
-        t = store_turn(bytes, l, labels, equations, moves, bytes_read::next(r), t);
+    let mut r = Reader::new(bytes, 0);
+    let mut t = model_judge::first_turn(r.read(), l);
+    while let ControlFlow::Continue(h) = t {
+        r.at = h.at;
+        t = store_turn(bytes, l, labels, equations, moves, r.read(), t);
     }
 }
 
 // In a model with signs each equation gets the number of its component; in one with blocks nothing changes.
+#[tactic(auto, unfolding(crate::specs::Stored::with_components))]
 fn put_components(equations: &mut [u32], z: Sizes)
     requires { (z.variables ≤ most_variables) × (z.variables ≤ length equations.old) }
     ensures { equations.new ≡ with_components z equations.old }
@@ -311,15 +295,12 @@ pub fn read_model(
     labels: &mut [u32],
     equations: &mut [u32],
     moves: &mut [u32],
-) -> ReadModel
+) -> Result<Summary, Refused>
     requires { Spans (lengths_by lent) (three labels.old equations.old moves.old) }
     ensures { ReadInto bytes.now (lengths_by lent) (three labels.old equations.old moves.old) result (three labels.new equations.new moves.new) }
 {
-    let answer = model_judge::judge_model(bytes, lent);
-    let ReadModel::Good(z, _, _) = answer else {
-        return answer;
-    };
+    let summary = model_judge::judge_model(bytes, lent)?;
     store_model(bytes, lent, labels, equations, moves);
-    put_components(equations, z);
-    answer
+    put_components(equations, summary.sizes);
+    Ok(summary)
 }

@@ -4,9 +4,9 @@ use Rattle.std.proofs.lemmas.List.Edits.{sets}
 use Rattle.rules.specs.Model.{Model, run_of}
 use Rattle.rules.specs.declared.Equation.{Equation}
 use Rattle.rules.specs.declared.Session.{Session}
-use Rattle.rules.specs.Records.{bytes, bytes_of}
+use Rattle.rules.specs.Records.{bytes_of}
 use Rattle.rules.specs.Session.{unword}
-use Rattle.rules.specs.Spelling.{live_recs, label_recs, block_rec, equation_rec, equation_recs, signed_rec, signed_recs, move_recs}
+use Rattle.rules.specs.Spelling.{live_recs, label_recs, block_rec, equation_rec, equation_recs, signed_recs, move_recs}
 use Rattle.laws.specs.bytes.SpellingLength.{labelled, equation_size}
 
 -- A room that holds these bytes from a place on.
@@ -40,10 +40,7 @@ unfoldable pub in_block : ℕ → Equation → List Equation → List ℕ
 in_block b e l =
     bytes_of (cond (eqb (suc e.block) b) (equation_rec e ∷ []) (block_rec e.kind (suc (run_of (suc e.block) l)) ∷ equation_rec e ∷ []))
 
--- One equation's bytes where equations have signs, or else as in its block; and those of the equations from variable i on.
-unfoldable pub one_equation : Bool → ℕ → Equation → List Equation → List ℕ
-one_equation signs b e l = cond signs (bytes (signed_rec e)) (in_block b e l)
-
+-- The bytes of the equations from variable i on, each with its sign or, after b blocks, in its block.
 unfoldable pub equation_bytes : Bool → ℕ → List Equation → ℕ → List ℕ
 equation_bytes signs b es i = bytes_of (cond signs (signed_recs (drop i es)) (equation_recs b (drop i es)))
 

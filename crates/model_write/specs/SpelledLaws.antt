@@ -2,20 +2,22 @@
 use Rattle.std.specs.Prelude.{◌≡◌, refl, Bool, true, false, not, List, [], ◌∷◌, ◌++◌, map, ℕ, zero, suc, ◌+◌, ◌≤◌, ◌<◌, eqb, get_or, drop}
 use Rattle.std.proofs.Common.{sym, ◌∙◌, inl, inr, append_assoc, append-nil, add-zero, zero-add, add-one, arith, drop_of_length-le, length-append, drop-cons}
 use Rattle.std.proofs.Math.Path.{ap}
-use Rattle.std.proofs.Math.ListN.{length}
+use Rattle.std.proofs.Math.ListN.{length, length-map, get_or-map}
+use Rattle.std.proofs.lemmas.List.{drop-map}
+use Rattle.std.specs.List.{filter}
 use Rattle.std.proofs.lemmas.List.Edits.{sets-eq}
 use Rattle.std.proofs.Math.Seq.{length-sets}
-use Rattle.lists.specs.Lists.{bit, fill}
-use Rattle.lists.specs.Tests.{tell, eqb_is, eqb_no, cond_yes, cond_no}
+use Rattle.lists.specs.Lists.{fill}
+use Rattle.lists.specs.Tests.{tell, eqb_is, eqb_no}
 use Rattle.rules.specs.Model.{nothing, equation_in, run_of, signed}
 use Rattle.rules.specs.declared.Equation.{Equation}
 use Rattle.rules.specs.Records.{Rec, bytes, bytes_of, widths}
 use Rattle.rules.specs.Session.{unword}
-use Rattle.rules.specs.Spelling.{live_rec, live_recs, label_recs, block_rec, equation_rec, equation_recs, signed_rec, style_recs, move_rec, move_recs, end_rec, sizes_rec, records, encode}
+use Rattle.rules.specs.Spelling.{live_recs, label_recs, block_rec, equation_rec, equation_recs, signed_rec, style_recs, move_rec, move_recs, end_rec, sizes_rec, records, encode}
 use Rattle.rules.specs.declared.Session.{Session}
 use Rattle.laws.specs.bytes.SpellingLength.{labelled}
 use Rattle.bytes_write.specs.Written.{label_rec, sets-append}
-use Rattle.model_write.specs.Spelled.{HasRoom, Wrote, Writing, live_bytes, one_label, label_bytes, in_block, one_equation, equation_bytes, move_bytes, held_in}
+use Rattle.model_write.specs.Spelled.{HasRoom, Wrote, Writing, live_bytes, one_label, label_bytes, in_block, equation_bytes, move_bytes, held_in}
 
 -- What is left from place i on is the entry there, and what is left after it.
 left-more : {A : Type 0} (l : List A) (i : ℕ) (d : A) → i < length l → drop i l ≡ get_or l i d ∷ drop (i + 1) l
@@ -66,15 +68,6 @@ bytes-append : (rs ts : List Rec) → bytes_of (rs ++ ts) ≡ bytes_of rs ++ byt
 bytes-append [] ts = refl
 bytes-append (r ∷ rs) ts = rw (bytes-append rs ts) (sym (append_assoc (bytes r) (bytes_of rs) (bytes_of ts)))
 
--- The record of a live model, by what code has in hand.
-pub live-said : (n : ℕ) → n ≡ 1 → live_bytes n ≡ bytes live_rec
-unfolding live_bytes widths
-live-said n e = rw e refl
-
-pub live-unsaid : (n : ℕ) → (n ≡ 1 → ⊥) → live_bytes n ≡ []
-unfolding live_bytes
-live-unsaid n e = rw ((eqb_no n 1).1 e) refl
-
 -- One label, and the labels after it.
 pub no_label : (s v : ℕ) → v ≡ 0 → one_label s v ≡ []
 no_label s v e = rw e refl
@@ -99,45 +92,8 @@ pub label-length : (s v : ℕ) → length (bytes (label_rec s v)) ≡ 7
 unfolding widths
 label-length s v = refl
 
--- The run of one block's equations, by the equation e at place i.
-module _ (es : List Equation) (b i : ℕ) where
-  pub run-same : (e : Equation) → i < length es → e ≡ equation_in es i → e.block + 1 ≡ b → run_of b (drop i es) ≡ suc (run_of b (drop (i + 1) es))
-  run-same e h d f =
-      rw (left-more es i nothing h, (eqb_is (suc (equation_in es i).block) b).1 (ap (λ (x : Equation). suc x.block) (sym d) ∙ sym (add-one e.block) ∙ f)) refl
-
-  pub run-other : (e : Equation) → i < length es → e ≡ equation_in es i → (e.block + 1 ≡ b → ⊥) → run_of b (drop i es) ≡ 0
-  run-other e h d f =
-      rw (left-more es i nothing h, (eqb_no (suc (equation_in es i).block) b).1 (λ g. f (add-one e.block ∙ ap (λ (x : Equation). suc x.block) d ∙ g))) refl
-
-  pub run_end : length es ≤ i → run_of b (drop i es) ≡ 0
-  run_end h = rw (drop_of_length-le es h) refl
-
--- An equation of the block before it, and one of another. The one takes four bytes, the other three more.
-module _ (b : ℕ) (e : Equation) (l : List Equation) where
-  pub block_same : e.block + 1 ≡ b → in_block b e l ≡ bytes (equation_rec e)
-  unfolding in_block
-  block_same f = rw ((eqb_is (suc e.block) b).1 (sym (add-one e.block) ∙ f)) (append-nil (bytes (equation_rec e)))
-
-  pub block_new : (e.block + 1 ≡ b → ⊥) → in_block b e l ≡ bytes (block_rec e.kind (suc (run_of (suc e.block) l))) ++ bytes (equation_rec e)
-  unfolding in_block
-  block_new f = rw ((eqb_no (suc e.block) b).1 (λ g. f (add-one e.block ∙ g))) (rw (append-nil (bytes (equation_rec e))) refl)
-
-  pub same_size : e.block + 1 ≡ b → length (in_block b e l) ≡ 4
-  unfolding widths
-  same_size f = ap length (block_same f)
-
-  pub new-size : (e.block + 1 ≡ b → ⊥) → length (in_block b e l) ≡ 7
-  unfolding widths
-  new-size f = ap length (block_new f)
-
--- An equation in either style, by what code has in hand.
-pub equation-signed : (signs : Bool) (b : ℕ) (e : Equation) (l : List Equation) → signs ≡ true → one_equation signs b e l ≡ bytes (signed_rec e)
-unfolding one_equation
-equation-signed signs b e l t = cond_yes (bytes (signed_rec e)) (in_block b e l) t
-
-pub equation-block : (signs : Bool) (b : ℕ) (e : Equation) (l : List Equation) → signs ≡ false → one_equation signs b e l ≡ in_block b e l
-unfolding one_equation
-equation-block signs b e l t = cond_no (bytes (signed_rec e)) (in_block b e l) t
+-- What put_label is found to do by.
+pub ruleset label_laws = (no_label, a-label, label-length)
 
 -- One equation, and the equations after it.
 block-split : (b : ℕ) (e : Equation) (l : List Equation) → bytes_of (equation_recs b (e ∷ l)) ≡ in_block b e l ++ bytes_of (equation_recs (suc e.block) l)
@@ -148,16 +104,24 @@ block-split b e l =
       | inr t ↦ rw t (bytes-append (block_rec e.kind (suc (run_of (suc e.block) l)) ∷ equation_rec e ∷ []) (equation_recs (suc e.block) l))
     ]
 
-equation-split : (signs : Bool) (b : ℕ) (es : List Equation) (i : ℕ) → i < length es → let e = equation_in es i in
-    equation_bytes signs b es i ≡ one_equation signs b e (drop (i + 1) es) ++ equation_bytes signs (e.block + 1) es (i + 1)
-unfolding equation_bytes one_equation
-equation-split true b es i h = rw (left-more es i nothing h) refl
-equation-split false b es i h = rw (left-more es i nothing h, add-one (equation_in es i).block) (block-split b (equation_in es i) (drop (i + 1) es))
+-- Equations that words hold: one with its sign, and one in its block, and those after it.
+module _ (ws : List ℕ) (i : ℕ) (e : Equation) (h : i < length ws) (d : e ≡ unword (get_or ws i 0)) where
+  there : e ≡ equation_in (map unword ws) i
+  there = d ∙ sym (get_or-map unword ws i 0)
 
-pub equation-step : (signs : Bool) (b : ℕ) (es : List Equation) (i : ℕ) (e : Equation) → i < length es → e ≡ equation_in es i
-    → equation_bytes signs b es i ≡ one_equation signs b e (drop (i + 1) es) ++ equation_bytes signs (e.block + 1) es (i + 1)
-equation-step signs b es i e h d =
-    equation-split signs b es i h ∙ ap (λ (x : Equation). one_equation signs b x (drop (i + 1) es) ++ equation_bytes signs (x.block + 1) es (i + 1)) (sym d)
+  inside : i < length (map unword ws)
+  inside = let long = length-map ws unword in omega arith
+
+  pub signed-step : equation_bytes true 0 (map unword ws) i ≡ bytes (signed_rec e) ++ equation_bytes true 0 (map unword ws) (i + 1)
+  unfolding equation_bytes
+  signed-step = rw (left-more (map unword ws) i nothing inside, there) refl
+
+  pub block-step : (b : ℕ)
+      → equation_bytes false b (map unword ws) i ≡ in_block b e (map unword (drop (i + 1) ws)) ++ equation_bytes false (e.block + 1) (map unword ws) (i + 1)
+  unfolding equation_bytes
+  block-step b =
+      let es = map unword ws in
+      rw (left-more es i nothing inside, ← there, add-one e.block, ← (drop-map unword (i + 1) ws)) (block-split b e (drop (i + 1) es))
 
 pub equation-end : (signs : Bool) (b : ℕ) (es : List Equation) (i : ℕ) → length es ≤ i → equation_bytes signs b es i ≡ []
 unfolding equation_bytes
@@ -177,21 +141,14 @@ pub end-length : (l : List ℕ) (i : ℕ) → length l ≤ i → length (move_by
 unfolding widths
 end-length l i h = ap length (move-end l i h)
 
--- A label more is counted.
-pub labelled_step : (l : List ℕ) (i : ℕ) → i < length l → labelled (drop i l) ≡ labelled (get_or l i 0 ∷ []) + labelled (drop (i + 1) l)
-labelled_step l i h = ap labelled (left-more l i 0 h) ∙ split (get_or l i 0) (drop (i + 1) l)
-  where
-    split : (v : ℕ) (l : List ℕ) → labelled (v ∷ l) ≡ labelled (v ∷ []) + labelled l
-    split zero l = omega arith
-    split (suc v) l = omega arith
-
-pub labelled-end : (l : List ℕ) (i : ℕ) → length l ≤ i → labelled (drop i l) ≡ 0
-labelled-end l i h = rw (drop_of_length-le l h) refl
-
--- A set is counted where it is not empty.
-pub labelled-bit : (v : ℕ) → bit (not (eqb v 0)) ≡ labelled (v ∷ [])
-labelled-bit zero = refl
-labelled-bit (suc v) = rw ((eqb_no (suc v) 0).1 (λ e. omega arith)) refl
+-- The states with a label are those whose set is not empty.
+pub labelled_by : (l : List ℕ) → length (filter (λ v. not (eqb v 0)) l) ≡ labelled l
+labelled_by [] = refl
+labelled_by (zero ∷ l) = labelled_by l
+labelled_by (suc v ∷ l) =
+    let e : not (eqb (suc v) 0) ≡ true = rw ((eqb_no (suc v) 0).1 (λ h. omega arith)) refl in
+    let k = labelled_by l in
+    rw e (omega arith)
 
 -- The spelling is the sizes, whether the model is live, the labels, the equations, and the moves with the end.
 pub spelled : (s : Session) (labels equations moves : List ℕ)

@@ -13,30 +13,20 @@ ghost use Rattle.moves.specs.Stamps.{weight_of};
 use rules::{Action, State};
 
 // A part of the list: the place of its first move, and the place past its last.
-#[derive(Clone, Copy)]
+#[derive(Clone, Copy, Debug, PartialEq, Eq)]
 pub struct Part {
     pub from: usize,
     pub end: usize,
-}
-
-// The smaller of two numbers.
-pub fn least(a: usize, b: usize) -> usize
-    ensures { result ≡ min a b }
-{
-    if a < b {
-        return a;
-    }
-    b
 }
 
 // What so many moves add to the stamp, wrapping, by the sums of their sources, actions and targets.
 fn weighed(sources: u32, actions: u32, targets: u32, n: u32) -> u32
     ensures { result ≡ wrap (weight_of sources actions targets n) }
 {
-    let w = 65537 * (sources as u64)
-        + 4099 * (actions as u64)
-        + 257 * (targets as u64)
-        + (n as u64);
+    let w = 65537 * u64::from(sources)
+        + 4099 * u64::from(actions)
+        + 257 * u64::from(targets)
+        + u64::from(n);
     (w % 4294967296) as u32
 }
 
@@ -47,43 +37,40 @@ pub fn weight_of(m: u32) -> u32
     let from = words::source_of(m);
     let by = words::action_of(m);
     let to = words::target_of(m);
-    weighed(from.0 as u32, by.0 as u32, to.0 as u32, 1)
+    weighed(u32::from(from.0), u32::from(by.0), u32::from(to.0), 1)
 }
 
 // The stamp with one move more.
 pub fn stamp_with(stamp: u32, m: u32) -> u32
     ensures { result ≡ wrap (stamp + weight m) }
 {
-    std::num::wrapping_add_u32(stamp, weight_of(m))
+    stamp.wrapping_add(weight_of(m))
 }
 
 // The stamp with one move less.
 pub fn stamp_without(stamp: u32, m: u32) -> u32
     ensures { result ≡ wrap (stamp + (4294967296 - wrap (weight m))) }
 {
-    std::num::wrapping_sub_u32(stamp, weight_of(m))
+    stamp.wrapping_sub(weight_of(m))
 }
 
 // The stamp of the moves: sources, actions and targets are summed apart, and weighed once.
 pub fn stamp_of(moves: &[u32]) -> u32
     ensures { result ≡ stamp_of moves.now }
 {
-    let mut i: usize = 0;
     let mut sources: u32 = 0;
     let mut actions: u32 = 0;
     let mut targets: u32 = 0;
-    while i < moves.len() {
-        let m = moves[i];
-        sources = std::num::wrapping_add_u32(sources, words::source_of(m).0 as u32);
-        actions = std::num::wrapping_add_u32(actions, words::action_of(m).0 as u32);
-        targets = std::num::wrapping_add_u32(targets, words::target_of(m).0 as u32);
-        i = i + 1;
+    for m in moves {
+        sources = sources.wrapping_add(u32::from(words::source_of(*m).0));
+        actions = actions.wrapping_add(u32::from(words::action_of(*m).0));
+        targets = targets.wrapping_add(u32::from(words::target_of(*m).0));
     }
-    weighed(sources, actions, targets, (i % 4294967296) as u32)
+    weighed(sources, actions, targets, (moves.len() % 4294967296) as u32)
 }
 
 // How far a search is: the place that it goes on from, and how many tests it took.
-#[derive(Clone, Copy)]
+#[derive(Clone, Copy, Debug, PartialEq, Eq)]
 struct Found {
     at: usize,
     tests: usize,
@@ -95,7 +82,7 @@ fn tested(moves: &[u32], found: Found, middle: usize, key: u64) -> Found
     ensures { (result.at ≡ (if nat_lt (slice_index moves.now middle) key then middle + 1 else found.at)) × (result.tests ≡ found.tests + 1) }
 {
     let tests = found.tests + 1;
-    if (moves[middle] as u64) < key {
+    if u64::from(moves[middle]) < key {
         return Found {
             at: middle + 1,
             tests: tests,
@@ -109,6 +96,7 @@ fn tested(moves: &[u32], found: Found, middle: usize, key: u64) -> Found
 
 // The place of the first of the moves, from `from` on, that does not lie below the key, in an ascending list, found by halving: it is
 // where the search is or one of the `left` places after it, and each test, made in the middle of these, leaves half of them.
+// The contract of std's `partition_point` says nothing of the number of tests, which `tests_for` tells here.
 fn search(moves: &[u32], from: usize, key: u64) -> Found
     requires { (ascends 0 moves.now ≡ true) × (from ≤ length moves.now) }
     ensures { (result.at ≡ from + leading key (drop from moves.now)) × (result.tests ≡ tests_for (length (drop from moves.now))) }
@@ -124,11 +112,13 @@ fn search(moves: &[u32], from: usize, key: u64) -> Found
 }
 
 // The place of the first of the moves that is not below q.
+// That the moves ascend is a clause, here and below: each caller cuts its slice anew, so a type that says so would be built at every call.
 pub fn place_of(moves: &[u32], q: u32) -> usize
     requires { ascends 0 moves.now ≡ true }
-    ensures { result ≡ below q moves.now }
+    ensures place { result ≡ below q moves.now }
+    ensures inside { result ≤ length moves.now }
 {
-    let found = search(moves, 0, q as u64);
+    let found = search(moves, 0, u64::from(q));
     found.at
 }
 
@@ -137,8 +127,7 @@ pub fn holds_move(moves: &[u32], q: u32) -> bool
     requires { ascends 0 moves.now ≡ true }
     ensures { result ≡ elem q moves.now }
 {
-    let at = place_of(moves, q);
-    (at < moves.len()) & (rooms::word_at(moves, at) == q)
+    moves.get(place_of(moves, q)) == Some(&q)
 }
 
 // Which part of the moves belongs to a state and an action: two searches find its ends.

@@ -3,70 +3,70 @@
 
 ghost use Rattle.std.specs.Prelude.{◌≡◌, ◌+◌, ◌≤◌, ◌<◌};
 ghost use Rattle.rules.specs.Records.{accepted};
-ghost use Rattle.rules.specs.Answers.{number_of, loaded_says, updated_says};
-ghost use Rattle.model_write.specs.Spelled.{Wrote};
+ghost use Rattle.rules.specs.Answers.{number_of, says};
 ghost use Rattle.program_lines.specs.Lines.{refused_line};
-ghost use Rattle.program_answers.specs.AnswerLines.{load_prints, batch_prints};
+ghost use Rattle.program_lines.specs.Penned.{Penned};
+ghost use Rattle.program_answers.specs.AnswerLines.{TotalsOf, load_prints, batch_prints};
 
-use rules::{Loaded, Refusal, Report, Session, Updated};
+use program_lines::{Pen, Totals};
+use rules::{Refused, Report, Session};
 
 // A refusal's line.
-fn put_refusal(out: &mut [u8], at: usize, why: Refusal, place: usize) -> usize
-    requires { at < 2000000 }
-    ensures { Wrote out.old at (refused_line (number_of why) place) out.new result × (result ≤ at + 96) }
+fn put_refusal(pen: &mut Pen<'_>, refused: Refused)
+    requires { pen.old.at < 2000000 }
+    ensures { Penned pen.old (refused_line (number_of refused.why) refused.place) pen.new × (pen.new.at ≤ pen.old.at + 96) }
 {
-    let number = boundary_numbers::number_of(why) as u64;
-    program_lines::put_refused(out, at, number, place as u64)
+    let number = boundary_numbers::number_of(refused.why);
+    pen.put_refused(u64::from(number), refused.place as u64);
+}
+
+// How many pairs of a session are true by the room of the values, of how many, and the stamp.
+fn totals_of(session: Session, values: &[u8]) -> Totals
+    ensures { TotalsOf session values.now result }
+{
+    let pairs = limits::pairs_of(session.sizes);
+    Totals {
+        trues: engine_values::count_true(values, pairs) as u64,
+        pairs: pairs as u64,
+        stamp: u64::from(session.stamp),
+    }
 }
 
 // The line of an accepted load.
-fn put_session(out: &mut [u8], at: usize, session: Session, values: &[u8]) -> usize
-    requires { at < 2000000 }
-    ensures { Wrote out.old at (load_prints (accepted session) values.now) out.new result × (result ≤ at + 96) }
+fn put_session(pen: &mut Pen<'_>, session: Session, values: &[u8])
+    requires { pen.old.at < 2000000 }
+    ensures { Penned pen.old (load_prints (accepted session) values.now) pen.new × (pen.new.at ≤ pen.old.at + 96) }
 {
-    let n = limits::pairs_of(session.sizes);
-    let t = engine_values::count_true(values, n);
-    program_lines::put_loaded(out, at, t as u64, n as u64, session.stamp as u64)
+    pen.put_loaded(totals_of(session, values));
 }
 
 // The line of an accepted batch.
-fn put_report(out: &mut [u8], at: usize, report: Report, values: &[u8]) -> usize
-    requires { at < 2000000 }
-    ensures { Wrote out.old at (batch_prints (accepted report) values.now) out.new result × (result ≤ at + 96) }
+fn put_report(pen: &mut Pen<'_>, report: Report, values: &[u8])
+    requires { pen.old.at < 2000000 }
+    ensures { Penned pen.old (batch_prints (accepted report) values.now) pen.new × (pen.new.at ≤ pen.old.at + 96) }
 {
-    let session = report.session;
-    let visits = report.visits;
-    let n = limits::pairs_of(session.sizes);
-    let t = engine_values::count_true(values, n);
-    program_lines::put_batch(
-        out,
-        at,
-        report.net,
-        visits,
-        t as u64,
-        n as u64,
-        session.stamp as u64,
-    )
+    let end = totals_of(report.session, values);
+    pen.put_batch(report.net, report.visits, end);
 }
 
-// The line of a load, by its answer.
-pub fn put_load(out: &mut [u8], at: usize, said: Loaded, values: &[u8]) -> usize
-    requires { at < 2000000 }
-    ensures { Wrote out.old at (load_prints (loaded_says said) values.now) out.new result × (result ≤ at + 96) }
+// The line of a load, by its answer. A batch has another line, which is put by another function.
+pub fn put_load(pen: &mut Pen<'_>, said: Result<Session, Refused>, values: &[u8])
+    requires { pen.old.at < 2000000 }
+    ensures { Penned pen.old (load_prints (says said) values.now) pen.new × (pen.new.at ≤ pen.old.at + 96) }
 {
     match said {
-        Loaded::Refused(why, place) => put_refusal(out, at, why, place),
-        Loaded::Accepted(session) => put_session(out, at, session, values),
+        Err(refused) => put_refusal(pen, refused),
+        Ok(session) => put_session(pen, session, values),
     }
 }
 
 // The line of a batch, by its answer.
-pub fn put_update(out: &mut [u8], at: usize, said: Updated, values: &[u8]) -> usize
-    requires { at < 2000000 }
-    ensures { Wrote out.old at (batch_prints (updated_says said) values.now) out.new result × (result ≤ at + 96) }
+pub fn put_update(pen: &mut Pen<'_>, said: Result<Report, Refused>, values: &[u8])
+    requires { pen.old.at < 2000000 }
+    ensures { Penned pen.old (batch_prints (says said) values.now) pen.new × (pen.new.at ≤ pen.old.at + 96) }
 {
     match said {
-        Updated::Refused(why, place) => put_refusal(out, at, why, place),
-        Updated::Accepted(report) => put_report(out, at, report, values),
+        Err(refused) => put_refusal(pen, refused),
+        Ok(report) => put_report(pen, report, values),
     }
 }

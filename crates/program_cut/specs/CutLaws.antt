@@ -1,32 +1,16 @@
 -- The cut, record by record, and what is left after it. Assumes nothing.
-use Rattle.std.specs.Prelude.{◌≡◌, refl, true, cond, ◌&&◌, List, [], ◌∷◌, ℕ, zero, suc, ◌+◌, ◌≤◌, ◌<◌, eqb, ltb, leb, length, take, drop}
+use Rattle.std.specs.Prelude.{◌≡◌, refl, true, false, ◌&&◌, List, [], ◌∷◌, ℕ, zero, suc, ◌+◌, ◌≤◌, ◌<◌, eqb, ltb, leb, length, take, drop, Some, None}
 use Rattle.std.proofs.Common.{sym, ap, ◌∙◌, inl, inr, arith, length-drop}
 use Rattle.lists.specs.Tests.{tell}
 use Rattle.rules.specs.Records.{parts_from, numbers_of, known, body_of, widths}
+use Rattle.rules.specs.declared.Record.{Record}
 use Rattle.bytes_read.specs.PartsAt.{parts_at, PartsBy, parts-at}
-use Rattle.bytes_read.specs.Places.{record_at}
-use Rattle.bytes_read.specs.declared.Read.{Read}
-use Rattle.bytes_read.specs.declared.Read.TheVariants.{Got, Broken}
+use Rattle.bytes_read.specs.Places.{Read, record_at}
 use Rattle.program_cut.specs.Cut.{end_after, cut, pieces, all_pieces}
 
 -- Where the part ends that is being read at a place.
 unfoldable pub end_from : List ℕ → ℕ → ℕ
 end_from s at = end_after (length s) (parts_at s at)
-
--- Where the part goes on after what was read at a place; the place itself where the part ends there.
-unfoldable pub onward_of : Read → ℕ → ℕ
-onward_of (Got r n) at = cond (eqb (numbers_of r).kind 6) at n
-onward_of Broken at = at
-
--- Where the part ends whose last record was read at a place of bytes of a length.
-unfoldable pub end_by : Read → ℕ → ℕ → ℕ
-end_by (Got r n) at len = at + 1
-end_by Broken at len = len
-
--- A record that was read at a place stands within the bytes.
-abbrev pub Stands : Read → ℕ → ℕ → Type 0
-Stands (Got r n) at len = at < len
-Stands Broken at len = Unit {0}
 
 -- A place within the bytes, from which the part ends where the whole does.
 abbrev pub Along : List ℕ → ℕ → Type 0
@@ -37,41 +21,32 @@ pub along-front : (s : List ℕ) → Along s 0
 unfolding end_from cut
 along-front s = (omega arith, refl)
 
--- What was read goes on: further, and along the same part.
-on-by : (s : List ℕ) (at : ℕ) (d : Read) → PartsBy s at d → Along s at → (onward_of d at ≡ at → ⊥) → (at < onward_of d at) × Along s (onward_of d at)
-unfolding end_from end_after onward_of
-on-by s at (Got r n) h a f =
-    elim (tell true (eqb (numbers_of r).kind 6)) [
-      | inl t ↦ absurd (f (rw t refl))
-      | inr t ↦ rw t (h.0, (h.1, (rw (h.2, t) at a.1)))
-    ]
-on-by s at Broken h a f = absurd (f refl)
+-- What was read at a place of the walk, by whether it is the end record.
+module _ (s t : List ℕ) (at : ℕ) (same : t ≡ s) (a : Along s at) where
+  -- What is read there is read there of the same bytes, and says so much of the parts.
+  by-read : (d : Read) → d ≡ record_at t at → PartsBy s at d
+  by-read d e = rw (e ∙ ap (λ (l : List ℕ). record_at l at) same) (parts-at s at)
 
--- The walk goes on.
-pub goes_on_lem : (s : List ℕ) (at n : ℕ) → Along s at → n ≡ onward_of (record_at s at) at → (n ≡ at → ⊥) → (at < n) × Along s n
-goes_on_lem s at n a e f = rw e (on-by s at (record_at s at) (parts-at s at) a (λ k. f (e ∙ k)))
+  module _ (r : Record) (n : ℕ) (e : Some (r, n) ≡ record_at t at) where
+    -- After another record the walk goes on, further along the part.
+    pub goes_on_lem : false ≡ eqb (numbers_of r).kind 6 → (at < n) × Along s n
+    unfolding end_from end_after
+    goes_on_lem k = let h = by-read (Some (r, n)) e in (h.0, (h.1, rw (h.2, sym k) at a.1))
 
--- What was read ends the part.
-end_by_lem : (s : List ℕ) (at : ℕ) (d : Read) → PartsBy s at d → onward_of d at ≡ at → end_from s at ≡ end_by d at (length s)
-unfolding end_from end_after onward_of end_by
-end_by_lem s at (Got r n) h f =
-    elim (tell true (eqb (numbers_of r).kind 6)) [
-      | inl t ↦ let k : suc at ≡ at + 1 = omega arith in rw (h.2, t) k
-      | inr t ↦ let e : n ≡ at = rw t at f in absurd (omega arith)
-    ]
-end_by_lem s at Broken h f = elim (tell true (ltb at (length s))) [ inl t ↦ rw (h, t) refl | inr t ↦ rw (h, t) refl ]
+    -- The end record is the last of its part, and within the bytes.
+    pub ends_there : true ≡ eqb (numbers_of r).kind 6 → (at < length s) × (at + 1 ≡ cut s)
+    unfolding end_from end_after
+    ends_there k =
+        let h = by-read (Some (r, n)) e in
+        let i : at + 1 ≡ suc at = omega arith in
+        (omega arith, i ∙ rw (h.2, sym k) at a.1)
 
--- The walk ends, and the end is the cut.
-pub ends_there : (s : List ℕ) (at n m : ℕ) → Along s at → n ≡ onward_of (record_at s at) at → n ≡ at → m ≡ end_by (record_at s at) at (length s) → m ≡ cut s
-ends_there s at n m a e f k = k ∙ sym (end_by_lem s at (record_at s at) (parts-at s at) (sym e ∙ f)) ∙ a.1
-
--- What was read there stands within the bytes.
-stands_by_lem : (s : List ℕ) (at : ℕ) (d : Read) → PartsBy s at d → Stands d at (length s)
-stands_by_lem s at (Got r n) h = omega arith
-stands_by_lem s at Broken h = tt
-
-pub stands_at : (s : List ℕ) (at : ℕ) (d : Read) → d ≡ record_at s at → Stands d at (length s)
-stands_at s at d e = rw e (stands_by_lem s at (record_at s at) (parts-at s at))
+  -- Where no record can be read, the part is all that is left.
+  pub ends_open : None ≡ record_at t at → length s ≡ cut s
+  unfolding end_from end_after
+  ends_open e =
+      let h = by-read None e in
+      elim (tell true (ltb at (length s))) [ inl k ↦ rw (h, k) at a.1 | inr k ↦ rw (h, k) at a.1 ]
 
 -- The end of a part lies within the bytes, and past the place where the part is read, where a byte stands there.
 record Inside (n p e : ℕ) (s : List ℕ) : Type 0 where

@@ -3,3 +3,4 @@ pub mod DecimalLaws
 pub mod Copies
 pub mod Signs
 pub mod Lengths
+pub mod Penned

@@ -1,113 +1,119 @@
 // The lines that the program prints, written into a lent room of bytes.
 #![tactic(auto)]
 
-ghost use Rattle.std.specs.Prelude.{◌++◌, ◌+◌, ◌≤◌, ◌<◌, length};
-ghost use Rattle.model_write.specs.Spelled.{Wrote};
+ghost use Rattle.std.specs.Prelude.{◌≡◌, ◌+◌, ◌++◌, ◌≤◌, ◌<◌, length};
 ghost use Rattle.program_lines.specs.Lines.{decimal, signed, net_text, totals, loaded_line, batch_line, refused_line};
+ghost use Rattle.program_lines.specs.Penned.{Penned};
 
 use rules::Visits;
 
-// A text copied into a room from a place on.
-fn put_text(out: &mut [u8], at: usize, text: &[u8]) -> usize
-    requires { (at < 10000000) × (length text.now ≤ 20) }
-    ensures { Wrote out.old at text.now out.new result }
-{
-    let n = text.len();
-    let mut i: usize = 0;
-    while i < n {
-        rooms::set_byte(out, at + i, rooms::byte_at(text, i));
-        i = i + 1;
+// A room of bytes and the place in it where the next bytes go.
+#[derive(Drop)]
+pub struct Pen<'a> {
+    pub out: &'a mut [u8],
+    pub at: usize,
+}
+
+// The numbers at the end of a line: how many pairs are true, of how many, and the stamp.
+#[derive(Clone, Copy, Debug, PartialEq, Eq)]
+pub struct Totals {
+    pub trues: u64,
+    pub pairs: u64,
+    pub stamp: u64,
+}
+
+// What each function puts is not printed by `write!`, which may fail by its contract: a line cannot (`put_loaded`, specs/Penned). Each
+// asks for a bound of its own on the place: a piece of a line begins further on than the piece before, so no one bound holds of all pens.
+impl Pen<'_> {
+    // A text.
+    fn put_text(&mut self, text: &[u8])
+        requires { (self.old.at < 10000000) × (length text.now ≤ 20) }
+        ensures { Penned self.old text.now self.new }
+    {
+        for (i, b) in text.iter().enumerate() {
+            rooms::put(self.out, self.at + i, *b);
+        }
+        self.at += text.len();
     }
-    at + n
-}
 
-// A number in decimal.
-fn put_decimal(out: &mut [u8], at: usize, n: u64) -> usize
-    requires { at < 10000000 }
-    ensures { Wrote out.old at (decimal n) out.new result × (result ≤ at + 20) }
-{
-    let mut text = [0u8; 20];
-    let k = io::decimal(n, &mut text);
-    put_text(out, at, &text[..k])
-}
-
-// A number that may lie below zero.
-fn put_signed(out: &mut [u8], at: usize, z: i32) -> usize
-    requires { at < 5000000 }
-    ensures { Wrote out.old at (signed z) out.new result × (result ≤ at + 21) }
-{
-    let wide = z as i64;
-    if wide < 0 {
-        let k = put_text(out, at, b"-");
-        return put_decimal(out, k, (0 - wide) as u64);
+    // A number in decimal.
+    fn put_decimal(&mut self, n: u64)
+        requires { self.old.at < 10000000 }
+        ensures { Penned self.old (decimal n) self.new × (self.new.at ≤ self.old.at + 20) }
+    {
+        let mut text = [0u8; 20];
+        let k = io::decimal(n, &mut text);
+        self.put_text(&text[..k]);
     }
-    put_decimal(out, at, wide as u64)
-}
 
-// A text, and a number after it.
-fn put_number(out: &mut [u8], at: usize, text: &[u8], n: u64) -> usize
-    requires { (at < 4000000) × (length text.now ≤ 20) }
-    ensures { Wrote out.old at (text.now ++ decimal n) out.new result × (result ≤ at + 40) }
-{
-    let k = put_text(out, at, text);
-    put_decimal(out, k, n)
-}
+    // A number that may lie below zero.
+    fn put_signed(&mut self, z: i32)
+        requires { self.old.at < 5000000 }
+        ensures { Penned self.old (signed z) self.new × (self.new.at ≤ self.old.at + 21) }
+    {
+        if z < 0 {
+            self.put_text(b"-");
+        }
+        self.put_decimal(u64::from(z.unsigned_abs()));
+    }
 
-// The end of a line: how many pairs are true, of how many, and the stamp.
-fn put_totals(out: &mut [u8], at: usize, t: u64, n: u64, stamp: u64) -> usize
-    requires { at < 3000000 }
-    ensures { Wrote out.old at (totals t n stamp) out.new result }
-{
-    let a = put_number(out, at, b"true ", t);
-    let b = put_number(out, a, b" of ", n);
-    let c = put_number(out, b, b" stamp ", stamp);
-    put_text(out, c, b"\n")
-}
+    // A text, and a number after it.
+    fn put_number(&mut self, text: &[u8], n: u64)
+        requires { (self.old.at < 4000000) × (length text.now ≤ 20) }
+        ensures { Penned self.old (text.now ++ decimal n) self.new × (self.new.at ≤ self.old.at + 40) }
+    {
+        self.put_text(text);
+        self.put_decimal(n);
+    }
 
-// The line of a load.
-pub fn put_loaded(out: &mut [u8], at: usize, t: u64, n: u64, stamp: u64) -> usize
-    requires { at < 2000000 }
-    ensures { Wrote out.old at (loaded_line t n stamp) out.new result }
-{
-    let a = put_text(out, at, b"loaded ");
-    put_totals(out, a, t, n, stamp)
-}
+    // The end of a line.
+    fn put_totals(&mut self, end: Totals)
+        requires { self.old.at < 3000000 }
+        ensures { Penned self.old (totals end.trues end.pairs end.stamp) self.new }
+    {
+        self.put_number(b"true ", end.trues);
+        self.put_number(b" of ", end.pairs);
+        self.put_number(b" stamp ", end.stamp);
+        self.put_text(b"\n");
+    }
 
-// The line of a refusal.
-pub fn put_refused(out: &mut [u8], at: usize, number: u64, place: u64) -> usize
-    requires { at < 2000000 }
-    ensures { Wrote out.old at (refused_line number place) out.new result }
-{
-    let a = put_number(out, at, b"refused ", number);
-    let b = put_number(out, a, b" at ", place);
-    put_text(out, b, b"\n")
-}
+    // The line of a load.
+    pub fn put_loaded(&mut self, end: Totals)
+        requires { self.old.at < 2000000 }
+        ensures { Penned self.old (loaded_line end.trues end.pairs end.stamp) self.new }
+    {
+        self.put_text(b"loaded ");
+        self.put_totals(end);
+    }
 
-// The first half of the line of a batch.
-fn put_net(out: &mut [u8], at: usize, net: i32) -> usize
-    requires { at < 3000000 }
-    ensures { Wrote out.old at (net_text ++ signed net) out.new result × (result ≤ at + 40) }
-{
-    let a = put_text(out, at, b"batch net ");
-    put_signed(out, a, net)
-}
+    // The line of a refusal.
+    pub fn put_refused(&mut self, number: u64, place: u64)
+        requires { self.old.at < 2000000 }
+        ensures { Penned self.old (refused_line number place) self.new }
+    {
+        self.put_number(b"refused ", number);
+        self.put_number(b" at ", place);
+        self.put_text(b"\n");
+    }
 
-// The line of a batch.
-pub fn put_batch(
-    out: &mut [u8],
-    at: usize,
-    net: i32,
-    visits: Visits,
-    t: u64,
-    n: u64,
-    stamp: u64,
-) -> usize
-    requires { at < 2000000 }
-    ensures { Wrote out.old at (batch_line net visits.shift visits.settle t n stamp) out.new result }
-{
-    let a = put_net(out, at, net);
-    let b = put_number(out, a, b" visits ", visits.shift as u64);
-    let c = put_number(out, b, b" ", visits.settle as u64);
-    let d = put_text(out, c, b" ");
-    put_totals(out, d, t, n, stamp)
+    // The first half of the line of a batch.
+    fn put_net(&mut self, net: i32)
+        requires { self.old.at < 3000000 }
+        ensures { Penned self.old (net_text ++ signed net) self.new × (self.new.at ≤ self.old.at + 40) }
+    {
+        self.put_text(b"batch net ");
+        self.put_signed(net);
+    }
+
+    // The line of a batch.
+    pub fn put_batch(&mut self, net: i32, visits: Visits, end: Totals)
+        requires { self.old.at < 2000000 }
+        ensures { Penned self.old (batch_line net visits.shift visits.settle end.trues end.pairs end.stamp) self.new }
+    {
+        self.put_net(net);
+        self.put_number(b" visits ", u64::from(visits.shift));
+        self.put_number(b" ", u64::from(visits.settle));
+        self.put_text(b" ");
+        self.put_totals(end);
+    }
 }

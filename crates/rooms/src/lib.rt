@@ -1,53 +1,18 @@
-// One place of a lent room, read and written. A place past the end of the room reads 0 and takes nothing, so that no caller
-// has to show that it stays inside.
+// One place of a lent room, read and written. A place past the end of the room reads as what the caller names and takes nothing, so
+// that no caller has to show that it stays inside.
 #![tactic(auto)]
 
 ghost use Rattle.std.specs.Prelude.{◌≡◌, get_or, set};
 
-pub fn byte_at(room: &[u8], at: usize) -> u8
-    ensures { result ≡ get_or room.now at 0 }
+// What stands at a place, or `none` past the end of the room.
+pub fn at_or<T: Copy>(room: &[T], at: usize, none: T) -> T
+    ensures { result ≡ get_or room.now at none }
 {
-    if at < room.len() {
-        return room[at];
-    }
-    0
+    room.get(at).copied().unwrap_or(none)
 }
 
-pub fn half_at(room: &[u16], at: usize) -> u16
-    ensures { result ≡ get_or room.now at 0 }
-{
-    if at < room.len() {
-        return room[at];
-    }
-    0
-}
-
-pub fn word_at(room: &[u32], at: usize) -> u32
-    ensures { result ≡ get_or room.now at 0 }
-{
-    if at < room.len() {
-        return room[at];
-    }
-    0
-}
-
-pub fn set_byte(room: &mut [u8], at: usize, v: u8)
-    ensures { room.new ≡ set room.old at v }
-{
-    if at < room.len() {
-        room[at] = v;
-    }
-}
-
-pub fn set_half(room: &mut [u16], at: usize, v: u16)
-    ensures { room.new ≡ set room.old at v }
-{
-    if at < room.len() {
-        room[at] = v;
-    }
-}
-
-pub fn set_word(room: &mut [u32], at: usize, v: u32)
+// v at a place; nothing past the end of the room.
+pub fn put<T: Copy>(room: &mut [T], at: usize, v: T)
     ensures { room.new ≡ set room.old at v }
 {
     if at < room.len() {

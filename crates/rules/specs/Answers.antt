@@ -1,18 +1,9 @@
 -- The paper's number for each refusal, and the outcome that each case of an answer stands for. Definitions only.
-use Rattle.std.specs.Prelude.{Bool, ℕ}
+use Rattle.std.specs.Prelude.{ℕ, Result, Ok, Err}
 use Rattle.rules.specs.Records.{Outcome, refused, accepted}
 use Rattle.rules.specs.declared.Refusal.{Refusal}
 use Rattle.rules.specs.declared.Refusal.TheVariants as Why
-use Rattle.rules.specs.declared.Session.{Session}
-use Rattle.rules.specs.declared.Report.{Report}
-use Rattle.rules.specs.declared.Loaded.{Loaded}
-use Rattle.rules.specs.declared.Loaded.TheVariants as L
-use Rattle.rules.specs.declared.Updated.{Updated}
-use Rattle.rules.specs.declared.Updated.TheVariants as U
-use Rattle.rules.specs.declared.Written.{Written}
-use Rattle.rules.specs.declared.Written.TheVariants as W
-use Rattle.rules.specs.declared.Asked.{Asked}
-use Rattle.rules.specs.declared.Asked.TheVariants as A
+use Rattle.rules.specs.declared.Refused.{Refused}
 
 -- The refusals: of each its name, the paper's number, and what it says. All that lists refusals or their numbers follows from this
 -- table.
@@ -32,19 +23,7 @@ number_of Why.NotAModel = 12  -- the session is no model that load accepts, or h
 number_of Why.ShortRoom = 13  -- a room is shorter than the sizes need
 number_of Why.Hangs = 16  -- a live model in which some state has no move
 
--- What each answer says.
-abbrev pub loaded_says : Loaded → Outcome Session
-loaded_says (L.Refused r p) = refused (number_of r) p
-loaded_says (L.Accepted s) = accepted s
-
-abbrev pub updated_says : Updated → Outcome Report
-updated_says (U.Refused r p) = refused (number_of r) p
-updated_says (U.Accepted r) = accepted r
-
-abbrev pub written_says : Written → Outcome ℕ
-written_says (W.Refused r p) = refused (number_of r) p
-written_says (W.Accepted n) = accepted n
-
-abbrev pub asked_says : Asked → Outcome Bool
-asked_says (A.Refused r p) = refused (number_of r) p
-asked_says (A.Accepted v) = accepted v
+-- What an answer says.
+abbrev pub says : {B : Type 0} → Result B Refused → Outcome B
+says (Err r) = refused (number_of r.why) r.place
+says (Ok b) = accepted b

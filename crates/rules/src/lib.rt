@@ -1,26 +1,30 @@
-// What every layer speaks of: the numbers of states, actions and variables, moves, sizes, sessions, refusals, and the
-// answers of the four calls. What all of it means stands in specs/.
+// What every layer speaks of: the numbers of states, actions and variables, moves, sizes, sessions, refusals, and what the four
+// calls answer: a `Result`, of which a refusal is the error. What all of it means stands in specs/.
 #![tactic(auto)]
 
+ghost use Rattle.std.specs.Prelude.{◌≡◌};
+
 // A state, an action and a variable: three kinds of number that do not mix.
-#[derive(Clone, Copy)]
+#[derive(Clone, Copy, Debug, PartialEq, Eq)]
 pub struct State(pub u16);
 
-#[derive(Clone, Copy)]
+#[derive(Clone, Copy, Debug, PartialEq, Eq)]
 pub struct Action(pub u8);
 
-#[derive(Clone, Copy)]
+#[derive(Clone, Copy, Debug, PartialEq, Eq)]
 pub struct Variable(pub u8);
 
-#[derive(Clone, Copy)]
+#[derive(Clone, Copy, Debug, PartialEq, Eq)]
 pub struct Move {
     pub source: State,
     pub action: Action,
     pub target: State,
 }
 
-// An equation: its operator, what it names, its block or component, and whether that is greatest (1) or least (0).
-#[derive(Clone, Copy)]
+// An equation: its operator, what it names, its block or component, and whether that is greatest (1) or least (0). The numbers are kept
+// as they were read: a lent word may hold any, and `unword`, `operands_ok` and `sign_ok` say what is answered of an operator above 7 and a
+// kind above 1.
+#[derive(Clone, Copy, Debug, PartialEq, Eq)]
 pub struct Equation {
     pub operator: u8,
     pub first: u8,
@@ -30,7 +34,7 @@ pub struct Equation {
 }
 
 // How many of each a model has.
-#[derive(Clone, Copy)]
+#[derive(Clone, Copy, Debug, PartialEq, Eq)]
 pub struct Sizes {
     pub states: u16,
     pub actions: u8,
@@ -40,8 +44,8 @@ pub struct Sizes {
 }
 
 // The small part of a session, kept by value: whether the model is live (1) or not (0), how many moves lie in the room lent for
-// them, and their stamp.
-#[derive(Clone, Copy)]
+// them, and their stamp. The flag is a number, since C lends a session as numbers, and `session_demands` says that one above 1 is refused.
+#[derive(Clone, Copy, Debug, PartialEq, Eq)]
 pub struct Session {
     pub sizes: Sizes,
     pub live: u8,
@@ -50,7 +54,7 @@ pub struct Session {
 }
 
 // Why the checker says no, in the order of the paper's numbers (specs/Answers.antt, `number_of`).
-#[derive(Clone, Copy)]
+#[derive(Clone, Copy, Debug, PartialEq, Eq)]
 pub enum Refusal {
     Broken,
     NotDue,
@@ -68,50 +72,39 @@ pub enum Refusal {
     Hangs,
 }
 
-// What a load answers: a refusal with its place, or the session.
-#[derive(Clone, Copy)]
-pub enum Loaded {
-    Refused(Refusal, usize),
-    Accepted(Session),
+// A refusal, and the place in the bytes for which it is given.
+#[derive(Clone, Copy, Debug, PartialEq, Eq)]
+pub struct Refused {
+    pub why: Refusal,
+    pub place: usize,
+}
+
+// What is asked of no place in the bytes is refused at place 0.
+impl From<Refusal> for Refused {
+    ghost from_gives = { λ w r. r ≡ record { why = w; place = 0 } };
+
+    fn from(why: Refusal) -> Refused {
+        Refused { why, place: 0 }
+    }
 }
 
 // Leanings, inside one block, on shifted pairs and on settled pairs.
-#[derive(Clone, Copy)]
+#[derive(Clone, Copy, Debug, PartialEq, Eq)]
 pub struct Visits {
     pub shift: u32,
     pub settle: u32,
 }
 
 // What an accepted batch reports: the session after it, the visits, and the change in the number of true pairs.
-#[derive(Clone, Copy)]
+#[derive(Clone, Copy, Debug, PartialEq, Eq)]
 pub struct Report {
     pub session: Session,
     pub visits: Visits,
     pub net: i32,
 }
 
-#[derive(Clone, Copy)]
-pub enum Updated {
-    Refused(Refusal, usize),
-    Accepted(Report),
-}
-
-// What a writing answers: a refusal, or the number of bytes written.
-#[derive(Clone, Copy)]
-pub enum Written {
-    Refused(Refusal, usize),
-    Accepted(usize),
-}
-
-// What a question about one pair answers: a refusal, or its value.
-#[derive(Clone, Copy)]
-pub enum Asked {
-    Refused(Refusal, usize),
-    Accepted(bool),
-}
-
 // One record of the wire.
-#[derive(Clone, Copy)]
+#[derive(Clone, Copy, Debug, PartialEq, Eq)]
 pub enum Record {
     Sizes(Sizes),
     Label(State, u32),

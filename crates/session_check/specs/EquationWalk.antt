@@ -1,12 +1,11 @@
--- The equations one by one: where a block ends, and what is asked of each equation. Assumes nothing.
-use Rattle.std.specs.Prelude.{◌≡◌, Bool, true, false, ◌&&◌, List, length, drop, eqb}
+-- The equations one by one: what is asked of each. Assumes nothing.
+use Rattle.std.specs.Prelude.{◌≡◌, Bool, ◌&&◌, List, length, drop, eqb}
 use Rattle.std.proofs.Math.Path.{refl}
-use Rattle.std.proofs.Common.{sym, ap, ◌∙◌, add-zero, drop_of_length-le}
+use Rattle.std.proofs.Common.{sym, ap, ◌∙◌, drop_of_length-le}
 use Rattle.std.proofs.Math.Bool.{and_assoc}
 use Prim.Native.Nat.{ℕ, suc, ◌+◌, ◌≤◌, ◌<◌}
 use Rattle.std.proofs.Math.Numerals.{add-one}
 use native.Mathlib.Omega.{arith}
-use Rattle.lists.specs.Tests.{eqb-in, eqb_no}
 use Rattle.rules.specs.Model.{nothing, equation_in, run_of, equations_ok}
 use Rattle.rules.specs.declared.Equation.{Equation}
 use Rattle.rules.specs.declared.Sizes.{Sizes}
@@ -14,22 +13,6 @@ use Rattle.session_check.specs.Tested.{goes_on, equation_ok}
 use Rattle.session_check.specs.FrontWalk.{left-more}
 
 module _ (es : List Equation) (i : ℕ) where
-  -- Where the equation at i stands in the block with number b - 1, the block goes on.
-  pub block_on : (b : ℕ) (e : Equation) → i < length es → e ≡ equation_in es i → e.block + 1 ≡ b → i + run_of b (drop i es) ≡ i + 1 + run_of b (drop (i + 1) es)
-  block_on b e h d f =
-      let t : eqb (suc (equation_in es i).block) b ≡ true = eqb-in _ b (ap (λ (x : Equation). suc x.block) (sym d) ∙ sym (add-one e.block) ∙ f) in
-      rw (left-more es i nothing h, t) (omega arith)
-
-  -- At an equation of another block, or at the end, it is over.
-  pub block-over : (b : ℕ) (e : Equation) → i < length es → e ≡ equation_in es i → (e.block + 1 ≡ b → ⊥) → i + run_of b (drop i es) ≡ i
-  block-over b e h d f =
-      let t : eqb (suc (equation_in es i).block) b ≡ false =
-      (eqb_no _ b).1 (λ g. f (add-one e.block ∙ ap (λ (x : Equation). suc x.block) d ∙ g)) in
-      rw (left-more es i nothing h, t) (add-zero i)
-
-  pub block_last : (b : ℕ) → length es ≤ i → i + run_of b (drop i es) ≡ i
-  block_last b h = rw (drop_of_length-le es h) (add-zero i)
-
   -- What is asked of the equations from i on is what is asked of the one at i, and of the others.
   pub equations-more : (z : Sizes) (b k : ℕ) → i < length es → let e = equation_in es i in
       equations_ok z i b k (drop i es)

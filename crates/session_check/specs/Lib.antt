@@ -6,3 +6,4 @@ pub mod MoveWalk
 pub mod CheckedMoves
 pub mod SignedWords
 pub mod LiveWalk
+pub mod Lodged

@@ -1,6 +1,7 @@
 -- The states that have a move, counted in one walk over the moves, and what is asked of a live session. Assumes nothing.
-use Rattle.std.specs.Prelude.{◌≡◌, refl, Bool, true, cond, ◌&&◌, List, map, ℕ, ◌+◌, ◌≤◌, ◌<◌, length, get_or, drop, eqb}
-use Rattle.std.proofs.Common.{ap, ◌∙◌, sym, inl, inr, drop_of_length-le}
+use Rattle.std.specs.Prelude.{◌≡◌, refl, Bool, true, cond, ◌&&◌, List, [], ◌∷◌, map, ℕ, length, eqb}
+use Rattle.std.specs.List.{fold}
+use Rattle.std.proofs.Common.{ap, inl, inr}
 use Rattle.lists.specs.Lists.{all}
 use Rattle.lists.specs.Tests.{tell, and_no, eqb-in, leb-is}
 use Rattle.rules.specs.Limits.{most_moves}
@@ -12,15 +13,11 @@ use Rattle.laws.specs.moves.Hanging.{moving_over, all-moving}
 use Rattle.rules.specs.Session.{unword}
 use Rattle.session_check.specs.Tested.{model_in}
 use Rattle.session_check.specs.Fitting.{Sized}
-use Rattle.session_check.specs.FrontWalk.{left-more}
 
--- With one move more, and at the end.
-pub moving-turn : (l : List ℕ) (i r s whole : ℕ) → i < length l → s ≡ source (get_or l i 0) → moving_over r (drop i l) ≡ whole
-    → moving_over (moving_with r s) (drop (i + 1) l) ≡ whole
-moving-turn l i r s whole h e w = ap (λ (k : ℕ). moving_over (moving_with r k) (drop (i + 1) l)) e ∙ sym (ap (moving_over r) (left-more l i 0 h)) ∙ w
-
-pub moving-end : (l : List ℕ) (i r : ℕ) → length l ≤ i → moving_over r (drop i l) ≡ r
-moving-end l i r h = ap (moving_over r) (drop_of_length-le l h)
+-- To count the states over the moves is to count them over one move after the other.
+pub moving_fold : (r : ℕ) (l : List ℕ) → fold (λ n q. moving_with n (source q)) r l ≡ moving_over r l
+moving_fold r [] = refl
+moving_fold r (q ∷ l) = moving_fold (moving_with r (source q)) l
 
 -- In a live session all states are counted.
 unfoldable pub live_by : Session → List ℕ → Bool

@@ -1,6 +1,6 @@
 -- Equations with signs, tested one by one, and the style of the equations. Assumes nothing.
-use Rattle.std.specs.Prelude.{◌≡◌, refl, Bool, true, not, ◌&&◌, List, ℕ, ◌+◌, length, eqb}
-use Rattle.std.proofs.Common.{sym, ap, ap₂, ◌∙◌, add-one}
+use Rattle.std.specs.Prelude.{◌≡◌, refl, Bool, true, not, ◌&&◌, List, ℕ, length, eqb}
+use Rattle.std.proofs.Common.{sym, ap, ap₂, ◌∙◌}
 use Rattle.std.proofs.Math.Bool.{and_assoc}
 use Rattle.lists.specs.Lists.{some_below, each_below}
 use Rattle.lists.specs.Tests.{eqb-in, eqb_no, cond_yes, cond_no}
@@ -12,12 +12,6 @@ use Rattle.model_chains.specs.Stored.{chains_ok}
 -- The first k equations have their signs and their numbers in range.
 unfoldable pub each_sign : Sizes → List Equation → ℕ → Bool
 each_sign z es k = each_below k (λ x. sign_ok z (equation_in es x))
-
--- One more, from what code has in hand.
-pub each_next : (z : Sizes) (es : List Equation) (x : ℕ) (e : Equation) (ok s : Bool) → ok ≡ each_sign z es x → e ≡ equation_in es x → s ≡ sign_ok z e → (ok && s) ≡ each_sign z es (x + 1)
-unfolding each_sign
-each_next z es x e ok s h f g =
-    ap₂ (λ (a b : Bool). a && b) h (g ∙ ap (λ (d : Equation). sign_ok z d) f) ∙ ap (λ (k : ℕ). each_below k (λ y. sign_ok z (equation_in es y))) (sym (add-one x))
 
 -- Where there is an equation for each variable, that and the test of the chains are what is asked of equations with signs.
 pub signs-by : (z : Sizes) (es : List Equation) (n : ℕ) (a b : Bool) → length es ≡ n → n ≡ z.variables → a ≡ each_sign z es n → b ≡ chains_ok es → (a && b) ≡ signs_ok z es

@@ -2,14 +2,14 @@
 // once, where the rest is asked; below that each function takes a whole room.
 #![tactic(auto)]
 
-ghost use Rattle.std.specs.Prelude.{◌≡◌, map, ◌+◌, ◌≤◌, ◌<◌, length, drop, leb};
+ghost use Rattle.std.specs.Prelude.{◌≡◌, map, ◌≤◌, ◌<◌, length, leb};
 ghost use Rattle.lists.specs.Lists.{all};
 ghost use Rattle.rules.specs.Limits.{most_variables};
-ghost use Rattle.rules.specs.Model.{label_ok, run_of, equations_ok, moves_ok, well_formed, sign_ok, signs_ok, style_ok};
-ghost use Rattle.rules.specs.Rooms.{rooms_of};
+ghost use Rattle.rules.specs.Model.{label_ok, equations_ok, moves_ok, well_formed, sign_ok, signs_ok, style_ok};
 ghost use Rattle.rules.specs.Session.{unword, rest_ok};
 ghost use Rattle.session_check.specs.Tested.{counts_by, model_in, goes_on, equation_ok};
 ghost use Rattle.session_check.specs.Fitting.{Fits, Sized};
+ghost use Rattle.session_check.specs.Lodged.{rooms_in};
 ghost use Rattle.session_check.specs.LiveWalk.{live_by};
 ghost use Rattle.session_check.specs.MoveWalk.{inside, in_range};
 ghost use Rattle.session_check.specs.SignedWords.{each_sign};
@@ -18,24 +18,33 @@ ghost use Rattle.laws.specs.moves.Hanging.{moving_over};
 
 use rules::{Equation, Session, Sizes};
 
+// The five rooms that a session lies in, whole, as a caller lends them.
+#[derive(Clone, Copy)]
+pub struct SessionRooms<'a> {
+    pub labels: &'a [u32],
+    pub equations: &'a [u32],
+    pub values: &'a [u8],
+    pub marks: &'a [u8],
+    pub moves: &'a [u32],
+}
+
 // 12 for the sizes: they, the flag and the move count are inside the limits, and the move room holds the moves.
+#[tactic(auto, unfolding(crate::specs::Tested::counts_by))]
 pub fn counts_ok(session: Session, room: usize) -> bool
     ensures { result ≡ counts_by session room }
 {
     let sizes = session.sizes;
     limits::sizes_ok(sizes)
-        & ((session.live <= 1) & (session.moves as usize <= moves::least(limits::MOST_MOVES, room)))
+        & ((session.live <= 1) & (session.moves as usize <= limits::MOST_MOVES.min(room)))
 }
 
 // Whether the highest proposition of each set lies below the count: that of all of them together does.
 fn labels_ok(sizes: Sizes, labels: &[u32]) -> bool
     ensures { result ≡ all (label_ok sizes) labels.now }
 {
-    let mut i: usize = 0;
     let mut together: u32 = 0;
-    while i < labels.len() {
-        together = together | labels[i];
-        i = i + 1;
+    for set in labels {
+        together |= *set;
     }
     limits::label_ok(sizes, together)
 }
@@ -44,16 +53,15 @@ fn labels_ok(sizes: Sizes, labels: &[u32]) -> bool
 fn bytes_ok(room: &[u8], most: u8) -> bool
     ensures { result ≡ all (λ v. leb v most) room.now }
 {
-    let mut i: usize = 0;
     let mut ok = true;
-    while i < room.len() {
-        ok = ok & (room[i] <= most);
-        i = i + 1;
+    for v in room {
+        ok &= *v <= most;
     }
     ok
 }
 
-// Whether source, action and target of a packed move lie below these counts of states and actions.
+// Whether source, action and target of a packed move lie below these counts of states and actions. `limits::move_ok` asks it of a move taken
+// apart; the counts are widened once here for all moves, so that the loop over them has no more in it than three comparisons.
 fn in_range(states: u32, actions: u32, q: u32) -> bool
     ensures { result ≡ inside states actions q }
 {
@@ -69,11 +77,9 @@ fn moves_in_range(sizes: Sizes, moves: &[u32]) -> bool
 {
     let states = sizes.states as u32;
     let actions = sizes.actions as u32;
-    let mut i: usize = 0;
     let mut ok = true;
-    while i < moves.len() {
-        ok = ok & in_range(states, actions, moves[i]);
-        i = i + 1;
+    for q in moves {
+        ok &= in_range(states, actions, *q);
     }
     ok
 }
@@ -82,11 +88,9 @@ fn moves_in_range(sizes: Sizes, moves: &[u32]) -> bool
 fn moves_ascend(moves: &[u32]) -> bool
     ensures { result ≡ ascends 0 moves.now }
 {
-    let mut i: usize = 1;
     let mut ok = true;
-    while i < moves.len() {
-        ok = ok & (moves[i - 1] < moves[i]);
-        i = i + 1;
+    for i in 1..moves.len() {
+        ok &= moves[i - 1] < moves[i];
     }
     ok
 }
@@ -102,17 +106,11 @@ fn moves_ok(sizes: Sizes, moves: &[u32]) -> bool
 fn moving(moves: &[u32]) -> u32
     ensures { result ≡ moving_over 0 moves.now }
 {
-    let mut i: usize = 0;
-    let mut r: u32 = 0;
-    while i < moves.len() {
-        let m = words::unpacked(moves[i]);
-        r = limits::moving_with(r, m.source);
-        i = i + 1;
-    }
-    r
+    moves.iter().fold(0, |r, q| limits::moving_with(r, words::unpacked(*q).source))
 }
 
 // Whether all states of a live session are counted among those that have a move.
+#[tactic(auto, unfolding(crate::specs::LiveWalk::live_by))]
 fn live_ok(session: Session, moves: &[u32]) -> bool
     ensures { result ≡ live_by session moves.now }
 {
@@ -122,60 +120,53 @@ fn live_ok(session: Session, moves: &[u32]) -> bool
     true
 }
 
-// Whether an equation goes on with the last of b blocks, which has kind k, or begins the next.
-fn goes_on(sizes: Sizes, b: u32, k: u8, e: Equation) -> bool
-    ensures { result ≡ goes_on sizes b k e }
+// The blocks that have begun: how many, and the kind of the last, a number as in its equation.
+#[derive(Clone, Copy, Debug, PartialEq, Eq)]
+struct Begun {
+    blocks: u32,
+    kind: u8,
+}
+
+// Whether an equation goes on with the last of the blocks that have begun, or begins the next.
+#[tactic(auto, unfolding(crate::specs::Tested::goes_on))]
+fn goes_on(sizes: Sizes, begun: Begun, e: Equation) -> bool
+    ensures { result ≡ goes_on sizes begun.blocks begun.kind e }
 {
     let block = e.block as u32;
     let blocks = sizes.blocks as u32;
-    if block + 1 == b {
-        return e.kind == k;
+    if block + 1 == begun.blocks {
+        return e.kind == begun.kind;
     }
-    (block == b) & (b < blocks) & (e.kind <= 1)
+    (block == begun.blocks) & (begun.blocks < blocks) & (e.kind <= 1)
 }
 
-// All that is asked of one equation, after b blocks of which the last has kind k.
-fn equation_ok(sizes: Sizes, b: u32, k: u8, end: usize, e: Equation) -> bool
-    ensures { result ≡ equation_ok sizes b k end e }
+// All that is asked of one equation, after the blocks that have begun; `end` is the first variable after its own.
+#[tactic(auto, unfolding(crate::specs::Tested::equation_ok))]
+fn equation_ok(sizes: Sizes, begun: Begun, end: usize, e: Equation) -> bool
+    ensures { result ≡ equation_ok sizes begun.blocks begun.kind end e }
 {
-    goes_on(sizes, b, k, e)
+    goes_on(sizes, begun, e)
         & limits::operands_ok(sizes, e.operator, e.first, e.second)
         & limits::names_ok(end, e.operator, e.first, e.second)
-}
-
-// The first equation, from `from` on, that does not stand in the block with number b - 1.
-fn block_end(equations: &[u32], from: usize, b: u32) -> usize
-    ensures { result ≡ from + run_of b (drop from (map unword equations.now)) }
-{
-    let mut at = from;
-    while at < equations.len() {
-        let e = model_chains::equation_at(equations, at);
-        if e.block as u32 + 1 != b {
-            return at;
-        }
-        at = at + 1;
-    }
-    at
 }
 
 // Whether the equations are those of a model with blocks.
 fn equations_ok(sizes: Sizes, equations: &[u32]) -> bool
     ensures { result ≡ equations_ok sizes 0 0 0 (map unword equations.now) }
 {
-    let mut i: usize = 0;
-    let mut b: u32 = 0;
-    let mut k: u8 = 0;
+    let mut begun = Begun { blocks: 0, kind: 0 };
     let mut ok = true;
-    while i < equations.len() {
+    for i in 0..equations.len() {
         let e = model_chains::equation_at(equations, i);
-        let next = e.block as u32 + 1;
-        let end = block_end(equations, i + 1, next);
-        ok = ok & equation_ok(sizes, b, k, end, e);
-        b = next;
-        k = e.kind;
-        i = i + 1;
+        let next = Begun {
+            blocks: e.block as u32 + 1,
+            kind: e.kind,
+        };
+        let end = i + 1 + model_chains::run_of(&equations[i + 1..], next.blocks);
+        ok &= equation_ok(sizes, begun, end, e);
+        begun = next;
     }
-    ok & ((i == sizes.variables as usize) & (b == sizes.blocks as u32))
+    ok & ((equations.len() == sizes.variables as usize) & (begun.blocks == sizes.blocks as u32))
 }
 
 // Whether an equation with a sign has its sign and its numbers in range.
@@ -189,13 +180,9 @@ fn sign_ok(sizes: Sizes, e: Equation) -> bool
 fn each_sign_ok(sizes: Sizes, equations: &[u32]) -> bool
     ensures { result ≡ each_sign sizes (map unword equations.now) (length equations.now) }
 {
-    let mut x: usize = 0;
-    let mut ok = true;
-    while x < equations.len() {
-        ok = ok & sign_ok(sizes, model_chains::equation_at(equations, x));
-        x = x + 1;
-    }
-    ok
+    equations
+        .iter()
+        .all(|w| sign_ok(sizes, words::equation_in(*w)))
 }
 
 // Whether the equations, one for each variable, are those of a model with signs.
@@ -207,6 +194,7 @@ fn signs_ok(sizes: Sizes, equations: &[u32]) -> bool
 }
 
 // Whether they are those of a model, in the style that the sizes tell.
+#[tactic(auto, unfolding(rules::specs::Model::style_ok))]
 fn style_ok(sizes: Sizes, equations: &[u32]) -> bool
     requires { (length equations.now ≡ sizes.variables) × (sizes.variables ≤ most_variables) }
     ensures { result ≡ style_ok sizes (map unword equations.now) }
@@ -231,16 +219,10 @@ fn model_ok(session: Session, labels: &[u32], equations: &[u32], moves: &[u32]) 
 
 // 12 for the rest, where the counts are good and the rooms long enough: the rooms hold a model inside the limits, no value is over 1,
 // no mark over 3, and the stamp is that of the moves.
-pub fn rest_ok(
-    session: Session,
-    labels: &[u32],
-    equations: &[u32],
-    values: &[u8],
-    marks: &[u8],
-    moves: &[u32],
-) -> bool
-    requires { Fits session (rooms_of labels.now equations.now values.now marks.now moves.now) }
-    ensures { result ≡ rest_ok session (rooms_of labels.now equations.now values.now marks.now moves.now) }
+#[tactic(auto, unfolding(rules::specs::Session::rest_ok))]
+pub fn rest_ok(session: Session, rooms: &SessionRooms) -> bool
+    requires { Fits session (rooms_in rooms.now) }
+    ensures { result ≡ rest_ok session (rooms_in rooms.now) }
 {
     let sizes = session.sizes;
     let pairs = limits::pairs_of(sizes);
@@ -249,10 +231,10 @@ pub fn rest_ok(
     let count = session.moves as usize;
     model_ok(
         session,
-        &labels[..states],
-        &equations[..variables],
-        &moves[..count],
-    ) & bytes_ok(&values[..pairs], 1)
-        & bytes_ok(&marks[..pairs], 3)
-        & (session.stamp == moves::stamp_of(&moves[..count]))
+        &rooms.labels[..states],
+        &rooms.equations[..variables],
+        &rooms.moves[..count],
+    ) & bytes_ok(&rooms.values[..pairs], 1)
+        & bytes_ok(&rooms.marks[..pairs], 3)
+        & (session.stamp == moves::stamp_of(&rooms.moves[..count]))
 }

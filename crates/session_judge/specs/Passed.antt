@@ -1,5 +1,5 @@
 -- What is known of a session in which the check finds nothing wrong. Assumes nothing.
-use Rattle.std.specs.Prelude.{◌≡◌, Bool, true}
+use Rattle.std.specs.Prelude.{◌≡◌, Bool, true, Result, Ok}
 use Rattle.std.proofs.Common.{sym, ap, ◌∙◌}
 use Rattle.laws.specs.bytes.RecordLaws.{Met}
 use Rattle.lists.specs.Tests.{and_in, and_is}
@@ -12,10 +12,9 @@ use Rattle.laws.specs.session.Accepted.{asked-out}
 use Rattle.session_check.specs.CheckedMoves as Moves
 use Rattle.session_check.specs.Fitting.{Fits, fits}
 use Rattle.session_judge.specs.Checks.{all_well, demands_with, check_of, checked_says}
-use Rattle.session_judge.specs.declared.Checked.{Checked}
-use Rattle.session_judge.specs.declared.Checked.TheVariants as Found
+use Rattle.rules.specs.declared.Refusal.{Refusal}
 
-module _ (work : Bool) (s : Session) (l : Rooms) (k : Checked) (h : checked_says k ≡ check_of work s l) (g : k ≡ Found.Good) where
+module _ (work : Bool) (s : Session) (l : Rooms) (k : Result (Unit {0}) Refusal) (h : checked_says k ≡ check_of work s l) (g : k ≡ Ok tt) where
   -- All three questions are answered yes.
   passed-yes : Met (demands_with work s l)
   passed-yes = (asked-out (demands_with work s l) all_well tt (sym h ∙ ap checked_says g)).0

@@ -2,50 +2,45 @@
 #![tactic(auto)]
 
 ghost use Rattle.std.specs.Prelude.{◌≡◌};
-ghost use Rattle.rules.specs.Rooms.{rooms_of};
+ghost use Rattle.rules.specs.Rooms.{lengths_of};
+ghost use Rattle.limits.specs.Lent.{lengths_by};
+ghost use Rattle.session_check.specs.Lodged.{rooms_in};
 ghost use Rattle.session_judge.specs.Checks.{check_of, checked_says};
 
 use limits::Lent;
 use rules::{Refusal, Session};
+use session_check::SessionRooms;
 
-// What is found of a session: a refusal, at place 0, or nothing wrong.
-#[derive(Clone, Copy)]
-pub enum Checked {
-    Refused(Refusal),
-    Good,
+// How long the rooms are that a session lies in. No rooms to work in are among them.
+pub fn lengths_of(rooms: &SessionRooms) -> Lent
+    ensures { lengths_by result ≡ lengths_of (rooms_in rooms.now) }
+{
+    Lent {
+        labels: rooms.labels.len(),
+        equations: rooms.equations.len(),
+        values: rooms.values.len(),
+        marks: rooms.marks.len(),
+        moves: rooms.moves.len(),
+        index: 0,
+        queue: 0,
+    }
 }
 
 // What a batch and a writing ask of a session, in order: 12 for the sizes, 13 for the rooms, 12 for the rest. `work` says whether
 // the rooms to work in are long enough; a writing has none and says yes.
-pub fn session_refusal(
-    session: Session,
-    labels: &[u32],
-    equations: &[u32],
-    values: &[u8],
-    marks: &[u8],
-    moves: &[u32],
-    work: bool,
-) -> Checked
-    ensures { checked_says result ≡ check_of work session (rooms_of labels.now equations.now values.now marks.now moves.now) }
+#[tactic(auto, unfolding(rules::specs::Session::counts_ok, session_check::specs::Tested::counts_by))]
+pub fn session_refusal(session: Session, rooms: &SessionRooms, work: bool) -> Result<(), Refusal>
+    ensures { checked_says result ≡ check_of work session (rooms_in rooms.now) }
 {
     let sizes = session.sizes;
-    if !session_check::counts_ok(session, moves.len()) {
-        return Checked::Refused(Refusal::NotAModel);
+    if !session_check::counts_ok(session, rooms.moves.len()) {
+        return Err(Refusal::NotAModel);
     }
-    let lent = Lent {
-        labels: labels.len(),
-        equations: equations.len(),
-        values: values.len(),
-        marks: marks.len(),
-        moves: moves.len(),
-        index: 0,
-        queue: 0,
-    };
-    if !(limits::rooms_ok(lent, sizes) & work) {
-        return Checked::Refused(Refusal::ShortRoom);
+    if !(limits::rooms_ok(lengths_of(rooms), sizes) & work) {
+        return Err(Refusal::ShortRoom);
     }
-    if !session_check::rest_ok(session, labels, equations, values, marks, moves) {
-        return Checked::Refused(Refusal::NotAModel);
+    if !session_check::rest_ok(session, rooms) {
+        return Err(Refusal::NotAModel);
     }
-    Checked::Good
+    Ok(())
 }

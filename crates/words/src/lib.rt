@@ -10,31 +10,6 @@ ghost use Rattle.words.specs.Words.{pack_of, own_of, change_of, code_of, waiting
 
 use rules::{Action, Equation, Move, Sizes, State, Variable};
 
-// The bytes of a number, the lowest first.
-pub fn byte_1(n: u32) -> u8
-    ensures { result ≡ n % 256 }
-{
-    (n % 256) as u8
-}
-
-pub fn byte_2(n: u32) -> u8
-    ensures { result ≡ n / 256 % 256 }
-{
-    (n / 256 % 256) as u8
-}
-
-pub fn byte_3(n: u32) -> u8
-    ensures { result ≡ n / 256 / 256 % 256 }
-{
-    (n / 256 / 256 % 256) as u8
-}
-
-pub fn byte_4(n: u32) -> u8
-    ensures { result ≡ n / 256 / 256 / 256 % 256 }
-{
-    (n / 256 / 256 / 256 % 256) as u8
-}
-
 // The equation that a word holds, and the word of an equation.
 pub fn equation_in(w: u32) -> Equation
     ensures { result ≡ unword w }

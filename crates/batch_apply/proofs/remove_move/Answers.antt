@@ -8,6 +8,7 @@ use lib.Seq.{length-take-le}
 use Rattle.moves.specs.Ascending.{leading}
 use Rattle.batch_apply.specs.Kept.{kept, pulled_in, removed_from}
 use Rattle.batch_apply.specs.Orders.{place-leads}
+use Rattle.batch_apply.specs.Shifts.{pulled-copy}
 use native.Mathlib.Omega.{arith}
 use Rattle.batch_apply.proofs.remove_move.Goals.{After-place_of-at}
 use Rattle.batch_apply.proofs.remove_move.Goals as goal
@@ -16,7 +17,7 @@ use Rattle.batch_apply.proofs.remove_move.Goals as goal
 abbrev its-place : (c : After-place_of-at) → let a = c.args in c.place_of-at.result ≡ leading a.p (take a.n a.moves.now)
 its-place c =
     let a = c.args in
-    c.place_of-at.ensures ∙ place-leads a.p (kept a.moves.now a.n) c.requires
+    c.place_of-at.ensures.place ∙ place-leads a.p (kept a.moves.now a.n) c.requires
 
 pub slice_bounds-place_of-end-2 : goal.slice_bounds-place_of-end-2
 slice_bounds-place_of-end-2 c = sym (length-take-le c.args.n c.args.moves.now c.requires.fits)
@@ -34,5 +35,5 @@ returns c = let a = c.args in
     let at = leading a.p (take a.n a.moves.now) in
     let place = its-place (goal.at.returns c).After-place_of-at in
     let h : at < a.n = omega (arith, c.if-n-at.false) in
-    let e = ap (λ (x : List ℕ). set x (a.n - 1) 0) (c.pull.ensures ∙ ap (λ (j : ℕ). pulled_in j (a.n - 1) a.moves.now) place) in
+    let e = ap (λ (x : List ℕ). set x (a.n - 1) 0) (c.copy_within.ensures.after ∙ pulled-copy a.moves.now c.place_of-at.result a.n (omega arith) (omega (arith, c.requires.fits)) ∙ ap (λ (j : ℕ). pulled_in j (a.n - 1) a.moves.now) place) in
     rw (lt-ltb at a.n h) (λ i. record { moves = e i; count = a.n - 1 })

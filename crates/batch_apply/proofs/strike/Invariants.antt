@@ -1,12 +1,7 @@
--- A walk from the last place to the first: the moves at the places passed are struck, and the places before get fewer. Assumes nothing.
-use mathlib.Core.Path.{◌≡◌}
-use Prim.Native.Nat.{◌≤◌}
-use lib.ListN.{length, drop}
+-- The strikes still to be made in what is there come to all of them. Assumes nothing.
+use Rattle.std.proofs.Common.{◌≡◌, length, drop}
 use Rattle.batch_apply.specs.Striking.{struck_at}
 use Rattle.batch_apply.proofs.strike.Given as goal
 
-abbrev pub invariant-loop-i : goal.invariant-loop-i
-invariant-loop-i l = ((l.from ≤ l.i) × (l.i ≤ length l.places)) × (length l.moves ≡ length l.initial.moves) × (l.moves ≡ struck_at (drop l.i l.places) l.initial.moves)
-
-abbrev pub decreases-loop-i : goal.decreases-loop-i
-decreases-loop-i l = l.i
+abbrev pub invariant-loop-at : goal.invariant-loop-at
+invariant-loop-at l = (length l.moves ≡ length l.initial.moves) × (struck_at (drop l.at-index l.places) l.moves ≡ struck_at l.places l.initial.moves)

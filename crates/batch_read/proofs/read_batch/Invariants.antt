@@ -4,8 +4,8 @@ use Rattle.std.proofs.Common.{◌≡◌}
 use Rattle.batch_read.specs.Going.{Going, left}
 use Rattle.batch_read.proofs.read_batch.Given as goal
 
-abbrev pub invariant-loop-r : goal.invariant-loop-r
-invariant-loop-r l = (l.r.bytes.now ≡ l.bytes) × Going l.z l.bytes l.fn.changes l.t l.changes
+abbrev pub invariant-loop-t : goal.invariant-loop-t
+invariant-loop-t l = (l.r.bytes.now ≡ l.bytes) × Going l.z l.bytes l.fn.changes l.t l.changes
 
-abbrev pub decreases-loop-r : goal.decreases-loop-r
-decreases-loop-r l = left l.bytes l.t
+abbrev pub decreases-loop-t : goal.decreases-loop-t
+decreases-loop-t l = left l.bytes l.t

@@ -7,7 +7,6 @@ use Rattle.call_batch.specs.Reports.{net-small, update-reports}
 use Rattle.call_batch.specs.Moving.{able-ready, made-drawn, made-started, made-few}
 use native.Mathlib.Omega.{arith}
 use lib.ListN.{length-map}
-use lib.Seq.{take-length}
 use Rattle.words.specs.Words.{change_of, changes_of}
 use Rattle.rules.specs.Rooms.{Rooms, rooms_with}
 use Rattle.call_batch.proofs.move_on.Goals.{Start}
@@ -29,12 +28,11 @@ update-done-requires c = let a = c.args in
     let e = c.apply-n.ensures in
     let long = c.apply-n.auto.moves in
     let n = length-map a.changes.now change_of in
-    let started = made-started a.session (lent (goal.at.update-done-requires c).Start) cs p _ _ e in
     record {
       drawn = made-drawn a.session (lent (goal.at.update-done-requires c).Start) cs p _ _ e;
-      changes_value = rw (take-length a.changes.now) p.in_range;
-      started = rw (take-length a.changes.now) started;
-      sizes_in_bounds = ((p.is_sane.fits.values_room, p.is_sane.fits.marks_room), (omega (arith, p.short), omega arith));
+      changes_value = p.in_range;
+      started = made-started a.session (lent (goal.at.update-done-requires c).Start) cs p _ _ e;
+      sizes_in_bounds = ((p.is_sane.fits.values_room, p.is_sane.fits.marks_room), omega (arith, p.short));
       moves_in_bounds = (omega (arith, long, p.is_sane.index_room), p.is_sane.queue_room);
     }
 
@@ -48,7 +46,7 @@ returns c = let a = c.args in
     let l = lent (goal.at.returns c).Start in
     let cs = changes_of a.changes.now in
     let f = c.update-done.ensures in
-    let left = rw (take-length a.changes.now) at f.0 in
+    let left = f.0 in
     let few = pairs-few a.session.sizes a.labels.now a.equations.now _ _ (made-drawn a.session l cs c.requires _ _ c.apply-n.ensures) in
     let net = to_z-of_z w32 _ (record { sfits = net-small _ _ _ _ _ _ _ _ _ few left }) ∙ left.net_is in
     update-reports a.session l cs c.requires _ _ c.apply-n.ensures c.apply-n.auto.moves _ _ _ _ _ _ _ _ (record { values_are = left.values_are; marks_are = left.marks_are; shift_is = left.shift_is; settle_is = left.settle_is; net_is = net }) f.1.0 f.1.1 c.carried.ensures

@@ -8,9 +8,10 @@ use lib.ListN.{length, length-replicate}
 use Rattle.rules.specs.Limits.{most_changes}
 use native.Mathlib.Omega.{arith}
 use mathlib.Core.Path.{sym, ◌∙◌}
+use Rattle.std.proofs.lemmas.Result.{err_from_is_err_and}
 use lib.Seq.{length-take-le}
 use Rattle.rules.specs.Rooms.{Rooms, rooms_with}
-use Rattle.call_batch.proofs.read_on.Goals.{After-read_batch-read, In-Good, Start}
+use Rattle.call_batch.proofs.read_on.Goals.{After-read_batch, In_ok-read, Start}
 use Rattle.call_batch.proofs.read_on.Goals as goal
 
 -- The rooms as they are lent.
@@ -20,42 +21,44 @@ lent s =
     rooms_with a.labels.now a.equations.now a.values.now a.marks.now a.moves.now a.index.now a.queue.now
 
 -- The room that the changes were put into has a place for each that a batch may have.
-long : (c : After-read_batch-read) → most_changes ≤ length c.read_batch-read.new.changes
-long c = let k = simp length-replicate at c.read_batch-read.auto.changes in omega (arith, k)
+long : (c : After-read_batch) → most_changes ≤ length c.read_batch.new.changes
+long c = let k = simp length-replicate at c.read_batch.auto.changes in omega (arith, k)
 
 -- The batch that was read.
-was_read : (c : In-Good) → let a = c.args in
-    WasRead a.session.sizes a.bytes.now c.in-Good.stamp c.in-Good.count c.read_batch-read.new.changes
+was_read : (c : In_ok-read) → let a = c.args in
+    WasRead a.session.sizes a.bytes.now c.in_ok-read.read.stamp c.in_ok-read.read.changes c.read_batch.new.changes
 was_read c =
     let a = c.args in
     good-read a.session.sizes a.bytes.now (sane-sizes a.session (rooms_with a.labels.now a.equations.now a.values.now a.marks.now a.moves.now a.index.now a.queue.now) c.requires)
     (are-bytes a.bytes.now (λ i. omega (arith, c.type_inv.bytes i)))
-    _ _ _ _ _ c.read_batch-read.ensures (long (goal.at.slice_bounds-changes-end c).After-read_batch-read) c.in-Good.is
+    _ _ _ _ c.read_batch.ensures (long (goal.at.slice_bounds-changes-end c).After-read_batch) c.in_ok-read.was
 
 pub slice_bounds-changes-end : goal.slice_bounds-changes-end
-slice_bounds-changes-end c = let w = was_read (goal.at.slice_bounds-changes-end c).In-Good in
-    let k = long (goal.at.slice_bounds-changes-end c).After-read_batch-read in
+slice_bounds-changes-end c = let w = was_read (goal.at.slice_bounds-changes-end c).In_ok-read in
+    let k = long (goal.at.slice_bounds-changes-end c).After-read_batch in
     omega (arith, w.few, k)
 
 pub slice_bounds-judge_on-end : goal.slice_bounds-judge_on-end
-slice_bounds-judge_on-end c = let w = was_read (goal.at.slice_bounds-judge_on-end c).In-Good in
-    let k = long (goal.at.slice_bounds-judge_on-end c).After-read_batch-read in
-    sym (length-take-le c.in-Good.count c.read_batch-read.new.changes (omega (arith, w.few, k)))
+slice_bounds-judge_on-end c = let w = was_read (goal.at.slice_bounds-judge_on-end c).In_ok-read in
+    let k = long (goal.at.slice_bounds-judge_on-end c).After-read_batch in
+    sym (length-take-le c.in_ok-read.read.changes c.read_batch.new.changes (omega (arith, w.few, k)))
 
 pub judge_on-requires : goal.judge_on-requires
-judge_on-requires c = let w = was_read (goal.at.judge_on-requires c).In-Good in
-    let k = long (goal.at.judge_on-requires c).After-read_batch-read in
-    let n = length-take-le c.in-Good.count c.read_batch-read.new.changes (omega (arith, w.few, k)) in
+judge_on-requires c = let w = was_read (goal.at.judge_on-requires c).In_ok-read in
+    let k = long (goal.at.judge_on-requires c).After-read_batch in
+    let n = length-take-le c.in_ok-read.read.changes c.read_batch.new.changes (omega (arith, w.few, k)) in
     record {
       sane = c.requires;
       changes_len_bound = (omega (arith, w.few, n), w.in_range);
     }
 
-pub returns-in-Refused : goal.returns-in-Refused
-returns-in-Refused c = let a = c.args in
-    bytes-bad a.session (lent (goal.at.returns-in-Refused c).Start) a.bytes.now _ _ (bad-read a.session.sizes a.bytes.now _ _ _ _ _ c.read_batch-read.ensures c.in-Refused.is)
+pub returns-in_err-read : goal.returns-in_err-read
+returns-in_err-read c = let a = c.args in
+    let l = lent (goal.at.returns-in_err-read c).Start in
+    let p = err_from_is_err_and c.from_residual.result c.from_residual.ensures.1 in
+    rw (p.1, p.2) (bytes-bad a.session l a.bytes.now _ _ (bad-read a.session.sizes a.bytes.now _ _ _ _ c.read_batch.ensures c.in_err-read.was))
 
-pub returns-in-Good : goal.returns-in-Good
-returns-in-Good c = let a = c.args in
-    let w = was_read (goal.at.returns-in-Good c).In-Good in
-    c.judge_on.ensures ∙ bytes_good a.session (lent (goal.at.returns-in-Good c).Start) a.bytes.now _ w.read
+pub returns : goal.returns
+returns c = let a = c.args in
+    let w = was_read (goal.at.returns c).In_ok-read in
+    c.judge_on.ensures ∙ bytes_good a.session (lent (goal.at.returns c).Start) a.bytes.now _ w.read

@@ -7,6 +7,6 @@ use Rattle.engine.proofs.clear_work.Goals as goal
 
 pub returns : goal.returns
 returns c = let a = c.args in (
-  c.clear_halves.ensures ∙ ap (λ (n : ℕ). fill (replicate n 0) a.index.now) c.index_needs-links.ensures.0,
-  c.clear_halves-2.ensures ∙ ap (λ (n : ℕ). fill (replicate n 0) a.queue.now) c.queue_needs-waiting.ensures.0,
+  c.set_first.ensures ∙ ap (λ (n : ℕ). fill (replicate n 0) a.index.now) c.index_needs-links.ensures.0,
+  c.set_first-2.ensures ∙ ap (λ (n : ℕ). fill (replicate n 0) a.queue.now) c.queue_needs-waiting.ensures.0,
 )

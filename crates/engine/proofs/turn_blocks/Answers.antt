@@ -6,7 +6,8 @@ use native.Mathlib.Omega.{arith}
 use lib.ListN.{length-map}
 use Rattle.rules.specs.Rooms.{pairs_of}
 use Rattle.words.specs.Words.{changes_of}
-use Rattle.engine_table.specs.Table.{table_in, waiter}
+use Rattle.engine_index.specs.At.{at_labels}
+use Rattle.engine_table.specs.Table.{waiter}
 use Rattle.engine_phase.specs.Course.{On, on-begins, on-ends, on-few}
 use Rattle.engine_phase.specs.Phase.{job_in}
 use Rattle.engine_phase.specs.Levels.{level-of, levelled-on}
@@ -14,12 +15,12 @@ use Rattle.engine.proofs.turn_blocks.Goals as goal
 
 pub loop-i-init : goal.loop-i-init
 loop-i-init c = let a = c.args in
-    let t = table_in a.sizes a.labels.now a.equations.now a.moves.now in
+    let t = at_labels a.known.now a.labels.now in
     let room = c.requires.bad_len.1 in (
       (omega arith, (refl, (refl, (refl, refl)))),
       (
-        subst (λ (ms : List ℕ). On t (changes_of a.changes.now) a.values.now (job_in a.sizes 0 false 0 a.values.now ms a.queue.now 0 0 0 0)) (sym c.requires.started.1)
-            (on-begins c.requires.started.0 (map (waiter a.sizes) a.queue.now) (let e = length-map a.queue.now (waiter a.sizes) in omega arith)),
+        subst (λ (ms : List ℕ). On t (changes_of a.changes.now) a.values.now (job_in a.known.now.sizes 0 false 0 a.values.now ms a.queue.now 0 0 0 0)) (sym c.requires.started.1)
+            (on-begins c.requires.started.0 (map (waiter a.known.now.sizes) a.queue.now) (let e = length-map a.queue.now (waiter a.known.now.sizes) in omega arith)),
         let l = c.requires.started.0.long in omega arith,
       ),
     )
@@ -31,10 +32,10 @@ phase-shifted-requires c = let l = c.loop-i in
     let count = c.count_blocks-blocks.ensures in
     record {
       drawn = c.requires.drawn;
-      indexed = c.requires.indexed;
+      named = c.requires.named;
       block_bound = (omega arith, (inv.0.1.1.1.1 ∙ c.requires.bad_len.0, omega (arith, inv.0.1.1.1.0, c.requires.bad_len.1)));
       somewhere = record { start = c.args.values.now; index = l.settles; on = inv.1.0 };
-      level = level-of c.args.sizes l.level c.args.values.now l.values inv.1.1;
+      level = level-of c.args.known.now.sizes l.level c.args.values.now l.values inv.1.1;
     }
 
 pub phase-settled-requires : goal.phase-settled-requires
@@ -44,22 +45,12 @@ phase-settled-requires c = let l = c.loop-i in
     let count = c.count_blocks-blocks.ensures in
     record {
       drawn = c.requires.drawn;
-      indexed = c.requires.indexed;
+      named = c.requires.named;
       block_bound = (omega arith, (c.phase-shifted.auto.bad ∙ inv.0.1.1.1.1 ∙ c.requires.bad_len.0, omega (arith, c.phase-shifted.auto.queue, inv.0.1.1.1.0, c.requires.bad_len.1)));
       somewhere = record { start = c.args.values.now; index = c.phase-shifted.result.visits; on = c.phase-shifted.ensures.0 c.args.values.now l.settles inv.1.0 };
-      level = level-of c.args.sizes c.phase-shifted.result.level c.args.values.now c.phase-shifted.new.values
-          (levelled-on c.args.sizes (pairs_of c.args.sizes) l.level c.phase-shifted.result.level c.args.values.now l.values c.phase-shifted.new.values inv.1.1 c.phase-shifted.ensures.1);
+      level = level-of c.args.known.now.sizes c.phase-shifted.result.level c.args.values.now c.phase-shifted.new.values
+          (levelled-on c.args.known.now.sizes (pairs_of c.args.known.now.sizes) l.level c.phase-shifted.result.level c.args.values.now l.values c.phase-shifted.new.values inv.1.1 c.phase-shifted.ensures.1);
     }
-
-pub overflow_add-i : goal.overflow_add-i
-overflow_add-i c = omega (arith, c.loop-i-test.true, c.count_blocks-blocks)
-
-pub loop-i-smaller : goal.loop-i-smaller
-loop-i-smaller c = let l = c.loop-i in
-    let inv = l.invariant in
-    let taken = c.loop-i-test.true in
-    let count = c.count_blocks-blocks.ensures in
-    omega arith
 
 pub loop-i-preserved : goal.loop-i-preserved
 loop-i-preserved c = let l = c.loop-i in
@@ -70,21 +61,21 @@ loop-i-preserved c = let l = c.loop-i in
       (omega arith, (c.phase-settled.auto.values ∙ c.phase-shifted.auto.values ∙ inv.0.1.0, (c.phase-settled.auto.marks ∙ c.phase-shifted.auto.marks ∙ inv.0.1.1.0, (c.phase-settled.auto.queue ∙ c.phase-shifted.auto.queue ∙ inv.0.1.1.1.0, c.phase-settled.auto.bad ∙ c.phase-shifted.auto.bad ∙ inv.0.1.1.1.1)))),
       (
         c.phase-settled.ensures.0 a.values.now c.phase-shifted.result.visits (c.phase-shifted.ensures.0 a.values.now l.settles inv.1.0),
-        levelled-on a.sizes (pairs_of a.sizes) c.phase-shifted.result.level c.phase-settled.result.level a.values.now c.phase-shifted.new.values c.phase-settled.new.values
-            (levelled-on a.sizes (pairs_of a.sizes) l.level c.phase-shifted.result.level a.values.now l.values c.phase-shifted.new.values inv.1.1 c.phase-shifted.ensures.1) c.phase-settled.ensures.1,
+        levelled-on a.known.now.sizes (pairs_of a.known.now.sizes) c.phase-shifted.result.level c.phase-settled.result.level a.values.now c.phase-shifted.new.values c.phase-settled.new.values
+            (levelled-on a.known.now.sizes (pairs_of a.known.now.sizes) l.level c.phase-shifted.result.level a.values.now l.values c.phase-shifted.new.values inv.1.1 c.phase-shifted.ensures.1) c.phase-settled.ensures.1,
       ),
     )
 
 pub overflow_cast-shift : goal.overflow_cast-shift
 overflow_cast-shift c = let l = c.loop-i in
     let inv = l.invariant in
-    let few = on-few c.requires.drawn (job_in c.args.sizes l.i false 0 l.values l.marks l.queue 0 0 l.shifts l.settles) inv.1.0 in
+    let few = on-few c.requires.drawn (job_in c.args.known.now.sizes l.i false 0 l.values l.marks l.queue 0 0 l.shifts l.settles) inv.1.0 in
     record { fits = omega (arith, few.0) }
 
 pub overflow_cast-settle : goal.overflow_cast-settle
 overflow_cast-settle c = let l = c.loop-i in
     let inv = l.invariant in
-    let few = on-few c.requires.drawn (job_in c.args.sizes l.i false 0 l.values l.marks l.queue 0 0 l.shifts l.settles) inv.1.0 in
+    let few = on-few c.requires.drawn (job_in c.args.known.now.sizes l.i false 0 l.values l.marks l.queue 0 0 l.shifts l.settles) inv.1.0 in
     record { fits = omega (arith, few.1) }
 
 pub returns : goal.returns
@@ -92,5 +83,5 @@ returns c = let l = c.loop-i in
     let inv = l.invariant in
     let count = c.count_blocks-blocks.ensures in
     let over = c.loop-i-test.false in
-    let ended = on-ends (job_in c.args.sizes l.i false 0 l.values l.marks l.queue 0 0 l.shifts l.settles) inv.1.0 (omega arith) refl refl in
+    let ended = on-ends (job_in c.args.known.now.sizes l.i false 0 l.values l.marks l.queue 0 0 l.shifts l.settles) inv.1.0 (omega arith) refl refl in
     (record { values_are = ended.values; marks_are = ended.marks; shift_is = ended.shift; settle_is = ended.settle }, inv.1.1)

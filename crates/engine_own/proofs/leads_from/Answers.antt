@@ -1,89 +1,62 @@
-use mathlib.Core.Path.{◌≡◌, sym, ap, ◌∙◌}
+use mathlib.Core.Path.{◌≡◌, sym, ap, ◌∙◌, subst}
 use Prim.Native.Nat.{ℕ}
 use native.Mathlib.Omega.{arith}
 use lib.ListN.{get_or}
+use mir.Val.{bool_byte}
+use Rattle.std.specs.Option.{is_some}
 use Rattle.words.specs.Words.{own_of}
 use Rattle.engine_own.specs.Looks.{reaches, says_at, says_before}
-use Rattle.engine_own.specs.Outwards.{Further, passed_none, found-above, found_below, answers-low, none_found, goes_on_lem}
-use Rattle.engine_own.proofs.leads_from.Goals.{After-look_down-below, After-look_up-above, Else-told-eq0}
+use Rattle.engine_own.specs.Outwards.{is-yes, is-not, both-over, Further, found-above, found_below, none_found, goes_on_lem}
+use Rattle.engine_own.proofs.leads_from.Goals.{After-look_down-below, After-look_up-above, After-from-low}
 use Rattle.engine_own.proofs.leads_from.Goals as goal
 
 -- What is looked at is the part of the move at j.
 told-up : (c : After-look_up-above) →
     let a = c.args in
-    c.look_up-above.result ≡ says_at (reaches a.sizes a.values.now a.from a.x.0) a.moves.now (own_of (get_or a.moves.now a.j 0)) c.loop-sizes.high
+    c.look_up-above.result ≡ says_at (reaches a.sizes a.values.now a.from a.x.0) a.moves.now (own_of (get_or a.moves.now a.j 0)) c.loop-look.high
 told-up c =
     let a = c.args in
-    c.look_up-above.ensures ∙ ap (λ (p : ℕ). says_at (reaches a.sizes a.values.now a.from a.x.0) a.moves.now p c.loop-sizes.high) c.own_of-part.ensures
+    c.look_up-above.ensures ∙ ap (λ (p : ℕ). says_at (reaches a.sizes a.values.now a.from a.x.0) a.moves.now p c.loop-look.high) c.own_of.ensures
 
 told-down : (c : After-look_down-below) →
     let a = c.args in
-    c.look_down-below.result ≡ says_before (reaches a.sizes a.values.now a.from a.x.0) a.moves.now (own_of (get_or a.moves.now a.j 0)) c.loop-sizes.low
+    c.look_down-below.result ≡ says_before (reaches a.sizes a.values.now a.from a.x.0) a.moves.now (own_of (get_or a.moves.now a.j 0)) c.loop-look.low
 told-down c =
     let a = c.args in
-    c.look_down-below.ensures ∙ ap (λ (p : ℕ). says_before (reaches a.sizes a.values.now a.from a.x.0) a.moves.now p c.loop-sizes.low) c.own_of-part.ensures
+    c.look_down-below.ensures ∙ ap (λ (p : ℕ). says_before (reaches a.sizes a.values.now a.from a.x.0) a.moves.now p c.loop-look.low) c.own_of.ensures
 
 -- What two answers tell where the look goes on.
-abbrev Goes : Else-told-eq0 → Type 0
-Goes c =
+abbrev Goes : After-from-low → ℕ → ℕ → Type 0
+Goes c above below =
     let a = c.args in
-    Further (reaches a.sizes a.values.now a.from a.x.0) a.moves.now a.j c.loop-sizes.low c.loop-sizes.high
-    c.look_up-above.result c.look_down-below.result
+    Further (reaches a.sizes a.values.now a.from a.x.0) a.moves.now a.j c.loop-look.low c.loop-look.high above below
 
--- Where it goes on, more moves have been passed.
-further : (c : Else-told-eq0) → Goes c
+-- Where it goes on, more moves have been passed, as many as there are answers.
+further : (c : After-from-low) → Goes c c.from-high.result c.from-low.result
 further c =
-    goes_on_lem c.requires.moves_value c.loop-sizes.invariant (told-up (goal.at.overflow_add-high c).After-look_up-above) (told-down (goal.at.overflow_add-high c).After-look_down-below)
-    c.if-above-eq2.false c.if-below-eq2.false c.if-told-eq0.false
+    let up = c.from-high.ensures ∙ ap bool_byte c.is_some.ensures in
+    let down = c.from-low.ensures ∙ ap bool_byte c.is_some-in-loop-look.ensures in
+    let two = goes_on_lem c.requires.moves_value c.loop-look.invariant (told-up (goal.at.overflow_sub-low c).After-look_up-above) (told-down (goal.at.overflow_sub-low c).After-look_down-below)
+    (is-not _ (sym c.eq.ensures ∙ c.if-eq.false)) (is-not _ (sym c.eq-in-loop-look.ensures ∙ c.if-eq-2.false))
+    ((both-over _ _ _ _ c.is_none.ensures c.is_none-in-loop-look.ensures).1 c.if-is_none.false) in
+    subst (Goes c c.from-high.result) (sym down) (subst (λ (n : ℕ). Goes c n (bool_byte (is_some c.look_down-below.result))) (sym up) two)
 
-pub offset_bounds-moves-j : goal.offset_bounds-moves-j
-offset_bounds-moves-j c = omega (arith, c.requires.x_lt_variables.1.0)
+pub returns-then-eq : goal.returns-then-eq
+returns-then-eq c = sym (found-above c.requires.moves_value c.loop-look.invariant (told-up (goal.at.returns-then-eq c).After-look_up-above) (is-yes _ (sym c.eq.ensures ∙ c.if-eq.true)))
 
-pub bounds-moves-j : goal.bounds-moves-j
-bounds-moves-j c = omega (arith, c.requires.x_lt_variables.1.0)
+pub returns-then-eq-2 : goal.returns-then-eq-2
+returns-then-eq-2 c = sym (found_below c.requires.moves_value c.loop-look.invariant (told-down (goal.at.returns-then-eq-2 c).After-look_down-below) (is-yes _ (sym c.eq-in-loop-look.ensures ∙ c.if-eq-2.true)))
 
-pub loop-sizes-init : goal.loop-sizes-init
-loop-sizes-init c = let a = c.args in
-    passed_none (reaches a.sizes a.values.now a.from a.x.0) a.moves.now a.j c.requires.x_lt_variables.1.0
-
-pub look_up-above-requires : goal.look_up-above-requires
-look_up-above-requires c =
-    record {
-      x_lt_variables = (c.requires.x_lt_variables.0, c.requires.x_lt_variables.1.1);
-      targets = c.requires.targets;
-    }
-
-pub returns-then-above-eq2 : goal.returns-then-above-eq2
-returns-then-above-eq2 c = sym (found-above c.requires.moves_value c.loop-sizes.invariant (told-up (goal.at.returns-then-above-eq2 c).After-look_up-above) c.if-above-eq2.true)
-
-pub look_down-below-requires : goal.look_down-below-requires
-look_down-below-requires c = let i = c.loop-sizes.invariant in
-    record {
-      x_lt_variables = (c.requires.x_lt_variables.0, (omega arith, c.requires.x_lt_variables.1.1));
-      targets = c.requires.targets;
-    }
-
-pub returns-then-below-eq2 : goal.returns-then-below-eq2
-returns-then-below-eq2 c = sym (found_below c.requires.moves_value c.loop-sizes.invariant (told-down (goal.at.returns-then-below-eq2 c).After-look_down-below) c.if-below-eq2.true)
-
-pub overflow_add-told : goal.overflow_add-told
-overflow_add-told c = let u = told-up (goal.at.overflow_add-told c).After-look_up-above in
-    let d = told-down (goal.at.overflow_add-told c).After-look_down-below in
-    let l = answers-low c.requires.moves_value c.loop-sizes.invariant u d c.if-above-eq2.false c.if-below-eq2.false in
-    omega arith
-
-pub returns-then-told-eq0 : goal.returns-then-told-eq0
-returns-then-told-eq0 c = sym (none_found c.requires.moves_value c.loop-sizes.invariant (told-up (goal.at.returns-then-told-eq0 c).After-look_up-above) (told-down (goal.at.returns-then-told-eq0 c).After-look_down-below)
-    c.if-above-eq2.false c.if-below-eq2.false c.if-told-eq0.true)
-
-pub overflow_add-high : goal.overflow_add-high
-overflow_add-high c = let i = (further c).passed.inside in omega arith
+pub returns-then-is_none : goal.returns-then-is_none
+returns-then-is_none c = sym (none_found c.requires.moves_value c.loop-look.invariant (told-up (goal.at.returns-then-is_none c).After-look_up-above) (told-down (goal.at.returns-then-is_none c).After-look_down-below)
+    (is-not _ (sym c.eq.ensures ∙ c.if-eq.false)) (is-not _ (sym c.eq-in-loop-look.ensures ∙ c.if-eq-2.false))
+    ((both-over _ _ _ _ c.is_none.ensures c.is_none-in-loop-look.ensures).0 c.if-is_none.true))
 
 pub overflow_sub-low : goal.overflow_sub-low
 overflow_sub-low c = (further c).room
 
-pub loop-sizes-smaller : goal.loop-sizes-smaller
-loop-sizes-smaller c = let f = further c in omega arith
+pub loop-look-smaller : goal.loop-look-smaller
+loop-look-smaller c = let f = further c in omega arith
 
-pub loop-sizes-preserved : goal.loop-sizes-preserved
-loop-sizes-preserved c = (further c).passed
+pub loop-look-preserved : goal.loop-look-preserved
+loop-look-preserved c = (further c).passed

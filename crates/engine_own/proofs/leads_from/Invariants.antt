@@ -6,8 +6,8 @@ use Rattle.engine_own.specs.Looks.{reaches}
 use Rattle.engine_own.specs.Outwards.{Passed}
 use Rattle.engine_own.proofs.leads_from.Given as goal
 
-abbrev pub invariant-loop-sizes : goal.invariant-loop-sizes
-invariant-loop-sizes l = Passed (reaches l.sizes l.values l.from l.x.0) l.moves l.j l.low l.high
+abbrev pub invariant-loop-look : goal.invariant-loop-look
+invariant-loop-look l = Passed (reaches l.fn.sizes l.fn.values l.fn.from l.fn.x.0) l.fn.moves l.fn.j l.low l.high
 
-abbrev pub decreases-loop-sizes : goal.decreases-loop-sizes
-decreases-loop-sizes l = length l.moves - l.high + l.low
+abbrev pub decreases-loop-look : goal.decreases-loop-look
+decreases-loop-look l = length l.fn.moves - l.high + l.low

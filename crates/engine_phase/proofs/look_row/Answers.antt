@@ -9,7 +9,8 @@ use Rattle.lists.specs.Lists.{bit}
 use Rattle.lists.specs.Tests.{not-out}
 use Rattle.rules.specs.Session.{unword}
 use Rattle.words.specs.Words.{changes_of}
-use Rattle.engine_table.specs.Table.{table_in, own_in}
+use Rattle.engine_index.specs.At.{at_labels}
+use Rattle.engine_table.specs.Table.{own_in}
 use Rattle.engine_table.specs.Limits.{limits}
 use Rattle.engine_phase.specs.PutRow.{turns_from}
 use Rattle.engine_phase.specs.LookRow.{look-vals, look-marks, look-bits, look-small, look-told, look_none, look-room, look-left}
@@ -22,11 +23,11 @@ tells c = c.if-not-tell_row.false
 
 is-from : (c : After-turns_from-from) →
     let a = c.args in
-    c.turns_from-from.result ≡ bit (turns_from a.settling (own_in (table_in a.sizes a.labels.now a.equations.now a.moves.now) a.y.0))
+    c.turns_from-from.result ≡ bit (turns_from a.settling (own_in (at_labels a.known.now a.labels.now) a.y.0))
 is-from c =
     let settling = c.args.settling in
     c.turns_from-from.ensures
-    ∙ ap (λ (k : ℕ). bit (turns_from settling (eqb k 1))) (ap (λ (e : Equation). e.kind) c.equation_in-e.ensures ∙ ap (λ (w : ℕ). (unword w).kind) c.word_at.ensures)
+    ∙ ap (λ (k : ℕ). bit (turns_from settling (eqb k 1))) (ap (λ (e : Equation). e.kind) c.equation_in-e.ensures ∙ ap (λ (w : ℕ). (unword w).kind) c.at_or.ensures)
 
 pub tell_row-requires : goal.tell_row-requires
 tell_row-requires c = let a = c.args in
@@ -38,8 +39,7 @@ tell_row-requires c = let a = c.args in
     let look = a.values.now in
     record {
       drawn = c.requires.drawn;
-      indexed = c.requires.indexed.0;
-      changes_value = c.requires.indexed.1;
+      changes_value = c.requires.changes_value;
       y_lt_variables = (
         lt,
         (

@@ -13,8 +13,8 @@ use Rattle.engine_phase.proofs.phase.Goals as goal
 -- What waits where the first round begins.
 first-waits : (c : After-first_value-from) →
     let a = c.args in
-    Waiting a.sizes a.equations.now a.moves.now a.settling c.first_value-from.result 0
-    (round_of a.values.now c.look_rows-tail.new.marks c.look_rows-tail.new.queue c.look_rows-tail.result a.visits)
+    Waiting a.known.now.sizes a.known.now.equations.now a.known.now.moves.now a.settling c.first_value-from.result 0
+    (round_of a.values.now c.look_rows-tail.new.marks c.look_rows-tail.new.queue c.look_rows-tail.result a.so_far.visits)
 first-waits c =
     let a = c.args in
     let some = c.requires.somewhere in
@@ -25,7 +25,7 @@ first-waits c =
       block = a.block;
       drawn = c.requires.drawn;
       low = c.requires.block_bound.0;
-      on = record { start = some.start; index = some.index; on = made.1 some.start (a.visits, some.index) some.on };
+      on = record { start = some.start; index = some.index; on = made.1 some.start (a.so_far.visits, some.index) some.on };
       before = omega arith;
       packed = made.0;
       value = λ waits. c.first_value-from.ensures;
@@ -35,27 +35,27 @@ first-waits c =
 waits-here : (c : At-loop-front) →
     let a = c.args in
     let l = c.loop-front in
-    Waiting a.sizes a.equations.now a.moves.now a.settling c.first_value-from.result l.front (round_of l.values l.marks l.queue l.at.tail l.at.visits)
+    Waiting a.known.now.sizes a.known.now.equations.now a.known.now.moves.now a.settling c.first_value-from.result l.front (round_of l.values l.marks l.queue l.at.tail l.at.visits)
 waits-here c =
     let l = c.loop-front in
-    waiting-on (let a = c.args in let some = c.requires.somewhere in let made = c.look_rows-tail.ensures in record { labels = a.labels.now; changes = changes_of a.changes.now; block = a.block; drawn = c.requires.drawn; low = c.requires.block_bound.0; on = record { start = some.start; index = some.index; on = made.1 some.start (a.visits, some.index) some.on }; before = omega arith; packed = made.0; value = λ waits. c.first_value-from.ensures }) l.front (round_of l.values l.marks l.queue l.at.tail l.at.visits) l.invariant.1
+    waiting-on (let a = c.args in let some = c.requires.somewhere in let made = c.look_rows-tail.ensures in record { labels = a.labels.now; changes = changes_of a.changes.now; block = a.block; drawn = c.requires.drawn; low = c.requires.block_bound.0; on = record { start = some.start; index = some.index; on = made.1 some.start (a.so_far.visits, some.index) some.on }; before = omega arith; packed = made.0; value = λ waits. c.first_value-from.ensures }) l.front (round_of l.values l.marks l.queue l.at.tail l.at.visits) l.invariant.1
 
 pub look_rows-tail-requires : goal.look_rows-tail-requires
 look_rows-tail-requires c = let sw = c.requires.somewhere in
     record {
       drawn = c.requires.drawn;
-      indexed = (c.requires.indexed.0.0, c.requires.indexed.1);
+      changes_value = c.requires.named.1;
       block_bound = c.requires.block_bound;
-      somewhere = record { start = sw.start; index = (c.args.visits, sw.index); on = sw.on };
+      somewhere = record { start = sw.start; index = (c.args.so_far.visits, sw.index); on = sw.on };
     }
 
 pub loop-front-init : goal.loop-front-init
 loop-front-init c = ((refl, (refl, refl)), round-none (first-waits c))
 
 pub turn_round-at-requires : goal.turn_round-at-requires
-turn_round-at-requires c = let index = c.requires.indexed.0.0 in
+turn_round-at-requires c =
     record {
-      indexed = (record { long = index.long; chained = index.chained }, c.requires.indexed.0.1);
+      named = c.requires.named.0;
       waiting = waits-here (goal.at.turn_round-at-requires c).At-loop-front;
     }
 
@@ -69,7 +69,7 @@ loop-front-preserved c = let l = c.loop-front in
 pub levelled-reached-requires : goal.levelled-reached-requires
 levelled-reached-requires c = let a = c.args in
     let l = c.loop-front in
-    let room = level-room a.sizes c.first_value-from.result l.front a.level a.values.now l.values c.requires.level (round-counted l.invariant.1) in
+    let room = level-room a.known.now.sizes c.first_value-from.result l.front a.so_far.level a.values.now l.values c.requires.level (round-counted l.invariant.1) in
     (room.0, λ t. let h = room.1 t in omega (arith, pairs-few c.requires.drawn))
 
 pub returns : goal.returns
@@ -78,7 +78,7 @@ returns c = let a = c.args in
     let dr = c.requires.drawn in
     let low = c.requires.block_bound.0 in
     let l = c.loop-front in (
-      λ vs other o. leads-over dr cs a.block a.settling low (pairs_of a.sizes) (omega arith) l.values l.marks l.queue l.front l.at.tail l.at.visits c.loop-front-test.false vs other
-          (l.invariant.1.leads a.labels.now cs a.block dr low vs other (c.look_rows-tail.ensures.1 vs (a.visits, other) o)),
-      levelled-by a.sizes c.first_value-from.result l.front a.level c.levelled-reached.result a.values.now l.values (round-counted l.invariant.1) c.levelled-reached.ensures,
+      λ vs other o. leads-over dr cs a.block a.settling low (pairs_of a.known.now.sizes) (omega arith) l.values l.marks l.queue l.front l.at.tail l.at.visits c.loop-front-test.false vs other
+          (l.invariant.1.leads a.labels.now cs a.block dr low vs other (c.look_rows-tail.ensures.1 vs (a.so_far.visits, other) o)),
+      levelled-by a.known.now.sizes c.first_value-from.result l.front a.so_far.level c.levelled-reached.result a.values.now l.values (round-counted l.invariant.1) c.levelled-reached.ensures,
     )

@@ -11,7 +11,7 @@ use Rattle.engine_phase.proofs.phase.Given as goal
 
 abbrev pub invariant-loop-front : goal.invariant-loop-front
 invariant-loop-front l = ((length l.values ≡ length l.initial.values) × ((length l.marks ≡ length l.initial.marks) × (length l.queue ≡ length l.initial.queue)))
-    × Rounded l.sizes l.equations l.moves l.settling l.from 0 l.front (round_of l.initial.values l.initial.marks l.initial.queue l.tail l.visits) (round_of l.values l.marks l.queue l.at.tail l.at.visits)
+    × Rounded l.known.sizes l.known.equations.now l.known.moves.now l.settling l.from 0 l.front (round_of l.initial.values l.initial.marks l.initial.queue l.tail l.so_far.visits) (round_of l.values l.marks l.queue l.at.tail l.at.visits)
 
 abbrev pub decreases-loop-front : goal.decreases-loop-front
-decreases-loop-front l = pairs_of l.sizes - l.front
+decreases-loop-front l = pairs_of l.known.sizes - l.front

@@ -1,9 +1,8 @@
 use mathlib.Core.Path.{◌≡◌, refl, ◌∙◌, subst}
 use Prim.Native.Nat.{ℕ, ◌<◌}
 use native.Mathlib.Omega.{arith}
-use Rattle.engine_table.specs.Limits.{pairs-few}
 use Rattle.engine_turn.specs.Turns.{round_of}
-use Rattle.engine_phase.specs.Rounds.{Waiting, Rounded, round-none, waiting-on, waiting-sketched, waiting-values, waiting-marks, waiting-bits, waiting-from, waiting-bounded, waiting-room, waiting_few, round-one, rounds-on}
+use Rattle.engine_phase.specs.Rounds.{Waiting, Rounded, round-none, waiting-on, waiting-values, waiting-marks, waiting-bits, waiting-from, waiting-bounded, waiting-room, round-one, rounds-on}
 use Rattle.engine_phase.proofs.turn_round.Goals.{At-loop-f, In-loop-f}
 use Rattle.engine_phase.proofs.turn_round.Goals as goal
 
@@ -11,7 +10,7 @@ use Rattle.engine_phase.proofs.turn_round.Goals as goal
 waits-here : (c : At-loop-f) →
     let a = c.args in
     let l = c.loop-f in
-    Waiting a.sizes a.equations.now a.moves.now a.settling a.from l.f (round_of l.values l.marks l.queue l.r.tail l.r.visits)
+    Waiting a.known.now.sizes a.known.now.equations.now a.known.now.moves.now a.settling a.from l.f (round_of l.values l.marks l.queue l.r.tail l.r.visits)
 waits-here c =
     let l = c.loop-f in
     waiting-on c.requires.waiting l.f (round_of l.values l.marks l.queue l.r.tail l.r.visits) l.invariant.1.1
@@ -26,9 +25,7 @@ pub turn-r-requires : goal.turn-r-requires
 turn-r-requires c = let w = waits-here (goal.at.turn-r-requires c).At-loop-f in
     let waits = one-waits (goal.at.turn-r-requires c).In-loop-f in
     record {
-      sketched = waiting-sketched w;
-      indexed = c.requires.indexed.0;
-      named = c.requires.indexed.1;
+      named = c.requires.named;
       values_len = (waiting-values w, waiting-marks w);
       bits = (waiting-bits w, (w.packed, waits));
       from_value = waiting-from w waits;
@@ -36,13 +33,6 @@ turn-r-requires c = let w = waits-here (goal.at.turn-r-requires c).At-loop-f in
       from_value_2 = w.value waits;
       room_for = waiting-room w waits;
     }
-
-pub overflow_add-f : goal.overflow_add-f
-overflow_add-f c = let w = waits-here (goal.at.overflow_add-f c).At-loop-f in
-    record { fits = omega (arith, one-waits (goal.at.overflow_add-f c).In-loop-f, waiting_few w (one-waits (goal.at.overflow_add-f c).In-loop-f), pairs-few w.drawn) }
-
-pub loop-f-smaller : goal.loop-f-smaller
-loop-f-smaller c = omega (arith, c.loop-f-test.true)
 
 pub loop-f-preserved : goal.loop-f-preserved
 loop-f-preserved c = let l = c.loop-f in
@@ -55,5 +45,5 @@ loop-f-preserved c = let l = c.loop-f in
 pub returns : goal.returns
 returns c = let a = c.args in
     let l = c.loop-f in
-    subst (λ (n : ℕ). Rounded a.sizes a.equations.now a.moves.now a.settling a.from a.front n (round_of a.values.now a.marks.now a.queue.now a.at.tail a.at.visits)
+    subst (λ (n : ℕ). Rounded a.known.now.sizes a.known.now.equations.now a.known.now.moves.now a.settling a.from a.front n (round_of a.values.now a.marks.now a.queue.now a.at.tail a.at.visits)
     (round_of l.values l.marks l.queue l.r.tail l.r.visits)) (let e : l.f ≡ a.at.tail = omega (arith, l.invariant.1.0, c.loop-f-test.false) in e) l.invariant.1.1

@@ -1,12 +1,8 @@
--- The loop keeps whether a place from `from` up to s is bad; the places left, end - s, get fewer. Assumes nothing.
-use mathlib.Core.Path.{◌≡◌}
-use Prim.Native.Nat.{◌+◌, ◌-◌, ◌≤◌}
+-- The loop keeps whether a place so far is bad. Assumes nothing.
+use Rattle.std.specs.Prelude.{◌≡◌}
 use Rattle.lists.specs.Lists.{some_below}
 use Rattle.engine_rows.specs.RowLoops.{bad_at}
 use Rattle.engine_rows.proofs.any_bad.Given as goal
 
-abbrev pub invariant-loop-s : goal.invariant-loop-s
-invariant-loop-s l = (l.from ≤ l.s) × ((l.s ≤ l.end) × (l.any ≡ some_below (l.s - l.from) (λ i. bad_at l.bad (l.from + i))))
-
-abbrev pub decreases-loop-s : goal.decreases-loop-s
-decreases-loop-s l = l.end - l.s
+abbrev pub invariant-loop-place : goal.invariant-loop-place
+invariant-loop-place l = l.any ≡ some_below l.place-index (bad_at l.part)

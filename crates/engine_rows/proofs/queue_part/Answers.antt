@@ -1,41 +1,33 @@
--- Where none of the places is bad, none of their pairs must turn, and the queue ends where it ended. Assumes nothing.
-use mathlib.Core.Path.{◌≡◌, sym, ◌∙◌, subst}
-use Prim.Native.Nat.{ℕ, ◌+◌, ◌-◌, ◌≤◌, ◌<◌}
-use native.Mathlib.Omega.{arith}
-use lib.ListN.{length}
-use Rattle.systems.specs.lists.Rows.{hits}
-use Rattle.engine_rows.specs.RowLoops.{bad_at, Queued}
-use Rattle.engine_rows.specs.Queued.{queued-over}
+-- Where none of the places is bad, none of their pairs must turn, and the queue ends where it ended. A whole stretch is the part itself. Assumes
+-- nothing.
+use Rattle.std.specs.Prelude.{◌≡◌, List, ℕ, length, take}
+use Rattle.std.proofs.Common.{sym, ◌∙◌, subst, arith, take_all, length-take-le}
+use Rattle.engine_rows.specs.Rooms.{Bits}
+use Rattle.engine_rows.specs.RowLoops.{bad_from, Queued}
+use Rattle.engine_rows.specs.Queued.{part-over}
 use Rattle.engine_rows.proofs.queue_part.Goals as goal
+
+-- As many places as are tested at once are the whole part.
+whole : (part : List ℕ) → length part ≡ 32 → take 32 part ≡ part
+whole part e = take_all 32 part (omega arith)
 
 pub returns-then-not-any_bad : goal.returns-then-not-any_bad
 returns-then-not-any_bad c = let a = c.args in
-    queued-over a.y.0 (bad_at a.bad.now) a.queue.now a.tail a.from (a.end - a.from) (sym c.any_bad.ensures ∙ c.if-not-any_bad.true)
+    part-over a.y.0 a.part.now a.queue.now a.tail a.first.0 (sym c.any_bad.ensures ∙ c.if-not-any_bad.true)
 
-pub queue_some-requires : goal.queue_some-requires
-queue_some-requires c = let a = c.args in
-    let e : a.end ≡ a.from + 32 = omega (arith, c.if-end-from-eq-TESTED_AT_ONCE.true, c.requires.from_le_end.0) in
-    let room = subst (λ (m : ℕ). ((a.from ≤ m) × (m ≤ length a.bad.now)) × (a.tail + length (hits (bad_at a.bad.now) a.from (m - a.from)) < length a.queue.now)) e (c.requires.from_le_end, c.requires.from_in_bounds) in
-    record {
-      bits = c.requires.bits;
-      y_lt_most_variables = c.requires.y_lt_most_variables;
-      from_le_end = room.0;
-      from_in_bounds = room.1;
-    }
+pub slice_bounds-queue_some-end : goal.slice_bounds-queue_some-end
+slice_bounds-queue_some-end c = let long = c.if-part-eq-TESTED_AT_ONCE.true in sym (length-take-le 32 c.args.part.now (omega arith))
 
-pub returns-then-end-from-eq-TESTED_AT_ONCE : goal.returns-then-end-from-eq-TESTED_AT_ONCE
-returns-then-end-from-eq-TESTED_AT_ONCE c = let a = c.args in
-    let e : a.end ≡ a.from + 32 = omega (arith, c.if-end-from-eq-TESTED_AT_ONCE.true, c.requires.from_le_end.0) in
-    subst (λ (m : ℕ). Queued a.y.0 (bad_at a.bad.now) a.queue.now a.tail a.from (m - a.from) c.queue_some.result c.queue_some.new.queue) (sym e) c.queue_some.ensures
+pub queue_some-requires-clause-bits : goal.queue_some-requires-clause-bits
+queue_some-requires-clause-bits c = subst Bits (sym (whole c.args.part.now c.if-part-eq-TESTED_AT_ONCE.true)) c.requires.bits
 
-pub queue_some-requires-2 : goal.queue_some-requires-2
-queue_some-requires-2 c =
-    record {
-      bits = c.requires.bits;
-      y_lt_most_variables = c.requires.y_lt_most_variables;
-      from_le_end = c.requires.from_le_end;
-      from_in_bounds = c.requires.from_in_bounds;
-    }
+pub queue_some-requires-clause-y_lt_most_variables : goal.queue_some-requires-clause-y_lt_most_variables
+queue_some-requires-clause-y_lt_most_variables c = rw (whole c.args.part.now c.if-part-eq-TESTED_AT_ONCE.true) c.requires.y_lt_most_variables
 
-pub returns : goal.returns
-returns c = c.queue_some-2.ensures
+pub queue_some-requires-clause-first_in_bounds : goal.queue_some-requires-clause-first_in_bounds
+queue_some-requires-clause-first_in_bounds c = rw (whole c.args.part.now c.if-part-eq-TESTED_AT_ONCE.true) c.requires.first_in_bounds
+
+pub returns-then-part-eq-TESTED_AT_ONCE : goal.returns-then-part-eq-TESTED_AT_ONCE
+returns-then-part-eq-TESTED_AT_ONCE c = let a = c.args in
+    subst (λ (l : List ℕ). Queued a.y.0 (bad_from a.first.0 l) a.queue.now a.tail a.first.0 (length l) c.queue_some.result c.queue_some.new.queue)
+    (whole a.part.now c.if-part-eq-TESTED_AT_ONCE.true) c.queue_some.ensures

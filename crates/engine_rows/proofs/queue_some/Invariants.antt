@@ -1,14 +1,7 @@
--- The loop keeps that the queue holds what it held, and then the pairs of the bad places from `from` up to s; the places
--- left, end - s, get fewer. Assumes nothing.
-use mathlib.Core.Path.{◌≡◌}
-use Prim.Native.Nat.{◌-◌, ◌≤◌, ◌<◌}
-use lib.ListN.{length}
-use Rattle.engine_rows.specs.RowLoops.{bad_at, Queued}
+-- The loop keeps that the queue holds what it held, and then the pairs of the bad places before i. Assumes nothing.
+use Rattle.std.specs.Prelude.{◌<◌, length}
+use Rattle.engine_rows.specs.RowLoops.{bad_from, Queued}
 use Rattle.engine_rows.proofs.queue_some.Given as goal
 
-abbrev pub invariant-loop-s : goal.invariant-loop-s
-invariant-loop-s l = (l.from ≤ l.s) × ((l.s ≤ l.end) × ((length l.queue ≡ length l.initial.queue) × ((l.top < length l.initial.queue)
-    × Queued l.y.0 (bad_at l.bad) l.initial.queue l.tail l.from (l.s - l.from) l.top l.queue)))
-
-abbrev pub decreases-loop-s : goal.decreases-loop-s
-decreases-loop-s l = l.end - l.s
+abbrev pub invariant-loop-i : goal.invariant-loop-i
+invariant-loop-i l = (l.top < length l.initial.queue) × Queued l.y.0 (bad_from l.first.0 l.part) l.initial.queue l.tail l.first.0 l.i l.top l.queue

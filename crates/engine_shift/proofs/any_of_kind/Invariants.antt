@@ -1,13 +1,8 @@
--- The loop keeps whether some change before i is of the kind; those left, n - i, get fewer. Assumes nothing.
-use mathlib.Core.Path.{◌≡◌}
-use Prim.Native.Nat.{◌-◌, ◌≤◌}
-use lib.ListN.{length, take}
+-- The loop keeps whether some change of those gone through is of the kind. Assumes nothing.
+use Rattle.std.proofs.Common.{◌≡◌, take}
 use Rattle.lists.specs.Lists.{any}
 use Rattle.engine_shift.specs.Seeds.{of_kind}
 use Rattle.engine_shift.proofs.any_of_kind.Given as goal
 
-abbrev pub invariant-loop-i : goal.invariant-loop-i
-invariant-loop-i l = (l.i ≤ length l.changes) × (l.found ≡ any (of_kind l.gaining l.a.0) (take l.i l.changes))
-
-abbrev pub decreases-loop-i : goal.decreases-loop-i
-decreases-loop-i l = length l.changes - l.i
+abbrev pub invariant-loop-w : goal.invariant-loop-w
+invariant-loop-w l = l.found ≡ any (of_kind l.kind.gaining l.kind.action.0) (take l.w-index l.changes)

@@ -1,4 +1,6 @@
 -- By the byte of the phase. Assumes nothing.
+use mathlib.Core.Path.{ap, ◌∙◌}
+use Prim.Native.Nat.{ℕ, ◌+◌, ◌*◌, ◌-◌}
 use native.Mathlib.Omega.{arith}
 use Rattle.words.specs.WordLaws.{byte_small}
 use Rattle.engine_turn.specs.MarkBytes.{free-small, next-byte}
@@ -14,4 +16,4 @@ pub overflow_sub-result : goal.overflow_sub-result
 overflow_sub-result c = let k = free-small c.args.settling c.args.mark c.requires in omega arith
 
 pub returns : goal.returns
-returns c = next-byte c.args.settling c.args.mark c.requires
+returns c = ap (λ (b : ℕ). 1 + 2 * b - c.args.mark) c.from-settles.ensures ∙ next-byte c.args.settling c.args.mark c.requires

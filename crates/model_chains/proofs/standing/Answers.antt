@@ -1,24 +1,23 @@
-use mathlib.Core.Path.{◌≡◌, refl, ap, ◌∙◌}
-use Prim.Native.Nat.{ℕ}
-use native.Mathlib.Omega.{arith}
-use lib.ListN.{length}
-use Rattle.lists.specs.Lists.{mask}
+use Rattle.std.proofs.Common.{ℕ, true, false, ap, sym, ◌∙◌, add-zero, arith, ◌+◌, ◌≤◌, ◌^◌}
 use Rattle.lists.specs.Masks.{mask_lt}
+use lib.Pow.{pow_mono}
 use Rattle.model_chains.specs.Numbering.{stands_by, standing-more}
 use Rattle.model_chains.proofs.standing.Goals as goal
+use Rattle.model_chains.proofs.standing.Goals.{then-stands, else-stands}
 
-pub loop-x-init : goal.loop-x-init
-loop-x-init c = (omega arith, refl)
-
-pub joined-set-requires : goal.joined-set-requires
-joined-set-requires c = let m = mask_lt c.loop-x.x (stands_by c.args.reach.now) in
-    let e = c.loop-x.invariant.1 in
-    (omega arith, omega arith)
+pub overflow_add-set : goal.overflow_add-set
+overflow_add-set c =
+    let m = mask_lt c.loop-x.x (stands_by c.args.reach.now) in
+    let h : 2 ^ c.loop-x.x ≤ 2 ^ 31 = pow_mono {i = c.loop-x.x} {j = 31} (omega arith) in
+    let e = c.loop-x.invariant in
+    omega arith
 
 pub loop-x-preserved : goal.loop-x-preserved
-loop-x-preserved c = (omega arith, c.joined-set.ensures ∙ standing-more c.args.reach.now c.loop-x.x _ _ c.loop-x.invariant.1 c.stands.ensures)
-
-pub returns : goal.returns
-returns c = let l = c.args.reach.now in
-    let e : c.loop-x.x ≡ length l = omega arith in
-    c.loop-x.invariant.1 ∙ ap (λ (k : ℕ). mask k (stands_by l)) e
+loop-x-preserved c =
+    let l = c.args.reach.now in
+    let x = c.loop-x.x in
+    let set = c.loop-x.set in
+    elim c.if-stands.branch [
+      | then-stands w ↦ w.set-is ∙ ap (λ (k : ℕ). set + k) w.only-set.ensures ∙ standing-more l x set true c.loop-x.invariant (sym w.if-stands.true ∙ c.stands.ensures)
+      | else-stands w ↦ w.set-is ∙ sym (add-zero set) ∙ standing-more l x set false c.loop-x.invariant (sym w.if-stands.false ∙ c.stands.ensures)
+    ]

@@ -1,17 +1,16 @@
-use mathlib.Core.Path.{◌≡◌, refl}
-use native.Mathlib.Omega.{arith}
-use Rattle.model_chains.specs.Numbering.{tied_by, stands_by, some_more}
+-- `model_chains::stands` meets its contract: none of the reaches before x is x's. Assumes nothing.
+use Rattle.std.proofs.Common.{ap, sym, ◌∙◌, arith, eqb, get_or}
+use Rattle.std.specs.Prelude.{not}
+use Rattle.lists.specs.Ranges.{same_truth}
+use Rattle.lists.specs.Tests.{eqb-in, eqb-out}
+use Rattle.model_chains.specs.Ranged.{any_front}
+use Rattle.model_chains.specs.Numbering.{tied_by, stands_by}
 use Rattle.model_chains.proofs.stands.Goals as goal
 
-pub loop-y-init : goal.loop-y-init
-loop-y-init c = (omega arith, refl)
-
-pub loop-y-preserved : goal.loop-y-preserved
-unfolding tied_by
-loop-y-preserved c = let a = c.args in
-    (omega arith, some_more (tied_by a.reach.now a.x) c.loop-y.y _ _ c.loop-y.invariant.1 refl)
-
 pub returns : goal.returns
-unfolding stands_by
-returns c = let e : c.loop-y.y ≡ c.args.x = omega arith in
-    rw (c.loop-y.invariant.1, e) refl
+unfolding stands_by tied_by
+returns c = let a = c.args in
+    let l = a.reach.now in
+    let own = get_or l a.x 0 in
+    ap not (c.contains.ensures.value ∙ any_front (λ y. eqb y own) (tied_by l a.x) 0 l a.x (omega arith)
+    (λ k h. same_truth (λ t. eqb-in own _ (sym (eqb-out _ own t))) (λ t. eqb-in _ own (sym (eqb-out own _ t)))))

@@ -6,7 +6,7 @@ use Rattle.model_judge.proofs.at_end.Goals as goal
 
 pub returns-then-next-len : goal.returns-then-next-len
 unfolding end_turn
-returns-then-next-len c = rw (lt-ltb _ _ c.if-next-len.true) refl
+returns-then-next-len c = rw (c.refused.ensures, lt-ltb _ _ c.if-next-len.true) refl
 
 pub returns : goal.returns
 unfolding end_turn

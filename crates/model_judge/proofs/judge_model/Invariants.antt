@@ -4,8 +4,8 @@ use Rattle.limits.specs.Lent.{lengths_by}
 use Rattle.model_judge.specs.Going.{Going, left}
 use Rattle.model_judge.proofs.judge_model.Given as goal
 
-abbrev pub invariant-loop-r : goal.invariant-loop-r
-invariant-loop-r l = (l.r.bytes.now ≡ l.bytes) × Going (lengths_by l.l) l.bytes l.t
+abbrev pub invariant-loop-t : goal.invariant-loop-t
+invariant-loop-t l = (l.r.bytes.now ≡ l.bytes) × Going (lengths_by l.l) l.bytes l.t
 
-abbrev pub decreases-loop-r : goal.decreases-loop-r
-decreases-loop-r l = left l.bytes l.t
+abbrev pub decreases-loop-t : goal.decreases-loop-t
+decreases-loop-t l = left l.bytes l.t

@@ -50,7 +50,7 @@ pub returns : goal.returns
 returns c = let a = c.args in
     let fine = move_ok a.x.sizes a.m.source.0 a.m.action.0 a.m.target.0 in
     let ok : not fine ≡ false = rw c.move_ok.ensures at (ap not c.if-not-move_ok.false) in
-    let from : source (number (goal.at.returns c).Start) ≡ a.m.source.0 = source-back (sofar_of a.x) _ _ _ c.requires.kept_in (not-false fine ok) in
+    let from : source (number (goal.at.returns c).Start) ≡ a.m.source.0 = source-back (sofar_of a.x) _ _ _ c.args.x.kept (not-false fine ok) in
     let x = sofar_of a.x in
     let says : ℕ → Turn State = λ k. next (inside (record {
       sizes = x.sizes;

@@ -1,5 +1,6 @@
 -- `model_judge::turn` meets its contract. Assumes nothing.
-use mathlib.Core.Path.{refl, sym, ap, ◌∙◌}
+use mathlib.Core.Path.{sym, ap, ◌∙◌}
+use Rattle.std.specs.Prelude.{Ok}
 use Rattle.rules.specs.Load.{inside}
 use Rattle.limits.specs.Lent.{lengths_by}
 use Rattle.model_judge.specs.RecordTurns.{step_kept, turned-broken, turned-no, turned-next, turned-over}
@@ -7,30 +8,27 @@ use Rattle.model_judge.specs.Progress.{sofar_of, judged_says}
 use Rattle.model_judge.proofs.turn.Goals as goal
 
 pub returns-in_default : goal.returns-in_default
-returns-in_default c = rw c.in_default.is refl
+returns-in_default c =
+    let h = c.in_ok-h.h in
+    rw (c.in_ok-h.was, c.refused.ensures) (λ s e n. turned-broken (lengths_by c.args.l) s (inside (sofar_of h.so_far)) h.at (sym e ∙ c.in_default.is))
 
-pub returns-in_default-read : goal.returns-in_default-read
-returns-in_default-read c = let a = c.args in
-    rw c.in-Go.is (λ s e n. turned-broken (lengths_by a.l) s (inside (sofar_of c.in-Go.x)) c.in-Go.at (sym e ∙ c.in_default-read.is))
+pub returns-in-Err : goal.returns-in-Err
+returns-in-Err c =
+    let h = c.in_ok-h.h in
+    let j = sym c.judge_record.ensures ∙ ap judged_says c.in-Err.is in
+    rw (c.in_ok-h.was, c.refused-in-Err.ensures) (λ s e n. turned-no (lengths_by c.args.l) s (inside (sofar_of h.so_far)) h.at c.in-Some.next c.in-Some.last (sym e ∙ c.in-Some.is) c.in-Err.why j)
 
-pub judge_record-judged-requires : goal.judge_record-judged-requires
-judge_record-judged-requires c = rw c.in-Go.is at c.requires
+pub returns-in-Ok-Some : goal.returns-in-Ok-Some
+returns-in-Ok-Some c =
+    let l = lengths_by c.args.l in
+    let h = c.in_ok-h.h in
+    let y = c.in-Ok-Some.so_far in
+    let j = sym c.judge_record.ensures ∙ ap judged_says (c.in-Ok-Some.is ∙ ap Ok c.in-Ok-Some.field-0-is) in
+    let k = step_kept l (sofar_of h.so_far) (sofar_of y) c.in-Some.last h.so_far.kept j in
+    rw c.in_ok-h.was (λ s e n. turned-next l s (inside (sofar_of h.so_far)) h.at c.in-Some.next c.in-Some.last (sym e ∙ c.in-Some.is) y j k)
 
-pub returns-in-Refused : goal.returns-in-Refused
-returns-in-Refused c = let a = c.args in
-    let h = sym c.judge_record-judged.ensures ∙ ap judged_says c.in-Refused.is in
-    rw c.in-Go.is (λ s e n. turned-no (lengths_by a.l) s (inside (sofar_of c.in-Go.x)) c.in-Go.at c.in-Got.next c.in-Got.rec (sym e ∙ c.in-Got.is) c.in-Refused.e h)
-
-pub returns-in-Next : goal.returns-in-Next
-returns-in-Next c = let a = c.args in
-    let l = lengths_by a.l in
-    let x = c.in-Go.x in
-    let y = c.in-Next.y in
-    let h = sym c.judge_record-judged.ensures ∙ ap judged_says c.in-Next.is in
-    let k = step_kept l (sofar_of x) (sofar_of y) c.in-Got.rec (rw c.in-Go.is at c.requires) h in
-    rw c.in-Go.is (λ s e n. turned-next l s (inside (sofar_of x)) c.in-Go.at c.in-Got.next c.in-Got.rec (sym e ∙ c.in-Got.is) y h k)
-
-pub returns-in-Over : goal.returns-in-Over
-returns-in-Over c = let a = c.args in
-    let h = sym c.judge_record-judged.ensures ∙ ap judged_says c.in-Over.is in
-    rw (c.in-Go.is, c.at_end.ensures) (λ s e n. rw n (turned-over (lengths_by a.l) s c.in-Go.x c.in-Go.at c.in-Got.next c.in-Got.rec (sym e ∙ c.in-Got.is) h))
+pub returns-in-Ok-None : goal.returns-in-Ok-None
+returns-in-Ok-None c =
+    let h = c.in_ok-h.h in
+    let j = sym c.judge_record.ensures ∙ ap judged_says (c.in-Ok-None.is ∙ ap Ok c.in-Ok-None.field-0-is) in
+    rw (c.in_ok-h.was, c.at_end.ensures) (λ s e n. rw n (turned-over (lengths_by c.args.l) s h.so_far h.at c.in-Some.next c.in-Some.last (sym e ∙ c.in-Some.is) j))

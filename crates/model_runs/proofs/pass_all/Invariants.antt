@@ -1,14 +1,9 @@
--- `model_runs::pass_all` meets its contract. The loop's invariant: k moves lie behind, whatever they are, and where all of them are good,
--- good moves lead from the start to here; the measure: the moves left. Assumes nothing.
-use mathlib.Core.Path.{◌≡◌}
-use mathlib.Core.Bool.{true}
-use Prim.Native.Nat.{ℕ, ◌+◌, ◌-◌, ◌*◌, ◌≤◌}
+-- `model_runs::pass_all` meets its contract. The loop's invariant: so many moves lie behind, whatever they are, and where all of them are
+-- good, good moves lead from the start to here. Assumes nothing.
+use Rattle.std.proofs.Common.{◌≡◌, true, ℕ, ◌+◌, ◌*◌, ◌≤◌}
 use Rattle.model_runs.specs.Runs.{Moved}
 use Rattle.model_runs.proofs.pass_all.Given as goal
 
-abbrev pub invariant-loop-k : goal.invariant-loop-k
-invariant-loop-k l = (l.k ≤ l.n) × (l.y.at ≡ l.initial.y.at + 6 * l.k) × (l.y.count ≡ l.initial.y.count + l.k)
-    × ((room : ℕ) → l.initial.y.count + l.n ≤ room → l.good ≡ true → Moved l.bytes l.z room l.initial.y l.y)
-
-abbrev pub decreases-loop-k : goal.decreases-loop-k
-decreases-loop-k l = l.n - l.k
+abbrev pub invariant-loop : goal.invariant-loop
+invariant-loop l = (l.y.at ≡ l.initial.y.at + 6 * l.counter) × (l.y.moves.count ≡ l.initial.y.moves.count + l.counter)
+    × ((room : ℕ) → l.initial.y.moves.count + l.n ≤ room → l.good ≡ true → Moved l.bytes l.z room l.initial.y l.y)

@@ -7,18 +7,8 @@ use Rattle.model_store.proofs.put_equations.Goals as goal
 pub loop-x-init : goal.loop-x-init
 loop-x-init c = (omega arith, omega arith, refl, none)
 
-pub good_equation-requires : goal.good_equation-requires
-good_equation-requires c = c.loop-x.invariant.0
-
-pub put_equation_at-y-requires : goal.put_equation_at-y-requires
-put_equation_at-y-requires c = let g = c.good_equation.ensures c.loop-x-test.true in
-    (c.requires.kept, g.due, c.loop-x.invariant.1, g.inside_bytes)
-
 pub loop-x-smaller : goal.loop-x-smaller
 loop-x-smaller c = (equations-more _ _ _ _ _ _ _ _ c.loop-x.invariant (c.good_equation.ensures c.loop-x-test.true) c.put_equation_at-y.ensures).1
 
 pub loop-x-preserved : goal.loop-x-preserved
 loop-x-preserved c = (equations-more _ _ _ _ _ _ _ _ c.loop-x.invariant (c.good_equation.ensures c.loop-x-test.true) c.put_equation_at-y.ensures).0
-
-pub returns : goal.returns
-returns c = c.loop-x.invariant.3

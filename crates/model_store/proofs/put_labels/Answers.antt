@@ -7,17 +7,8 @@ use Rattle.model_store.proofs.put_labels.Goals as goal
 pub loop-z-init : goal.loop-z-init
 loop-z-init c = (omega arith, refl, none)
 
-pub good_label-requires : goal.good_label-requires
-good_label-requires c = c.loop-z.invariant.0
-
-pub put_label_at-y-requires : goal.put_label_at-y-requires
-put_label_at-y-requires c = (c.good_label.ensures c.loop-z-test.true).inside_bytes
-
 pub loop-z-smaller : goal.loop-z-smaller
 loop-z-smaller c = (labels-more _ _ _ _ _ _ _ _ c.loop-z.invariant (c.good_label.ensures c.loop-z-test.true) c.put_label_at-y.ensures).1
 
 pub loop-z-preserved : goal.loop-z-preserved
 loop-z-preserved c = (labels-more _ _ _ _ _ _ _ _ c.loop-z.invariant (c.good_label.ensures c.loop-z-test.true) c.put_label_at-y.ensures).0
-
-pub returns : goal.returns
-returns c = c.loop-z.invariant.2

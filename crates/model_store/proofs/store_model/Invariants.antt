@@ -6,8 +6,8 @@ use Rattle.model_judge.specs.Going.{left}
 use Rattle.model_store.specs.Stored.{Storing, three}
 use Rattle.model_store.proofs.store_model.Given as goal
 
-abbrev pub invariant-loop-r : goal.invariant-loop-r
-invariant-loop-r l = (l.r.bytes.now ≡ l.bytes) × Storing (lengths_by l.l) l.bytes (three l.fn.labels l.fn.equations l.fn.moves) l.t (three l.labels l.equations l.moves)
+abbrev pub invariant-loop-t : goal.invariant-loop-t
+invariant-loop-t l = (l.r.bytes.now ≡ l.bytes) × Storing (lengths_by l.l) l.bytes (three l.fn.labels l.fn.equations l.fn.moves) l.t (three l.labels l.equations l.moves)
 
-abbrev pub decreases-loop-r : goal.decreases-loop-r
-decreases-loop-r l = left l.bytes l.t
+abbrev pub decreases-loop-t : goal.decreases-loop-t
+decreases-loop-t l = left l.bytes l.t

@@ -2,10 +2,6 @@
 use Rattle.model_store.specs.RunLaws.{moves-stored}
 use Rattle.model_store.proofs.store_moves.Goals as goal
 
-pub put_moves-requires : goal.put_moves-requires
-put_moves-requires c = let p = c.requires.0 in
-    (p.inside_bytes, p.kept.moves)
-
 pub returns : goal.returns
-returns c = let a = c.args in
-    λ r ls es. rw c.put_moves.ensures (moves-stored _ r a.x a.at ls es _ _ c.requires.0 c.requires.1, tt)
+returns c = let h = c.args.h in
+    λ ls es. rw c.put_moves.ensures (moves-stored _ h.last h.so_far h.at ls es _ _ c.requires.0 c.requires.1, tt)

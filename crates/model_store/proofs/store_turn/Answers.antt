@@ -1,13 +1,9 @@
 -- `model_store::store_turn` meets its contract. Assumes nothing.
 use Rattle.model_store.specs.RunLaws.{follows-inside, follows-storable, stores-turn}
-use Rattle.model_judge.specs.GoingLaws.{inside-kept}
 use Rattle.model_store.proofs.store_turn.Goals as goal
 
-pub turn-u-requires : goal.turn-u-requires
-turn-u-requires c = inside-kept _ c.args.t c.requires.0.0
-
 pub put_turn-requires : goal.put_turn-requires
-put_turn-requires c = (inside-kept _ c.args.t c.requires.0.0, follows-storable _ _ _ c.args.t _ c.requires c.turn-u.ensures)
+put_turn-requires c = follows-storable _ _ _ c.args.t _ c.requires c.turn-u.ensures
 
 pub store_run-requires : goal.store_run-requires
 store_run-requires c = follows-inside _ _ _ c.args.t _ c.requires c.turn-u.ensures

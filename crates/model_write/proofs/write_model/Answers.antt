@@ -1,5 +1,5 @@
 -- The five parts of the spelling, one after the other, each in the room that the ones before it leave. Assumes nothing.
-use Rattle.std.proofs.Common.{refl, sym, subst, Bool, List, map, ◌++◌, ℕ}
+use Rattle.std.proofs.Common.{refl, List, map, ◌++◌, ℕ}
 use Rattle.rules.specs.Model.{signed}
 use Rattle.rules.specs.Records.{bytes, widths}
 use Rattle.rules.specs.Session.{unword}
@@ -60,8 +60,7 @@ before-moves : (c : After-write_equations-b) →
 unfolding widths
 before-moves c =
     let a = c.args in
-    let wrote = subst (λ (b : Bool). Wrote c.write_labels-a.new.out c.write_labels-a.result (equation_bytes b 0 (map unword a.equations.now) 0) c.write_equations-b.new.out c.write_equations-b.result) c.signed.ensures c.write_equations-b.ensures in
-    after-equations a.session a.labels.now a.equations.now a.moves.now a.out.now c.requires.has_room _ (c.write_sizes.ensures, refl) _ _ c.put_live-start.ensures _ _ c.write_labels-a.ensures _ _ wrote
+    after-equations a.session a.labels.now a.equations.now a.moves.now a.out.now c.requires.has_room _ (c.write_sizes.ensures, refl) _ _ c.put_live-start.ensures _ _ c.write_labels-a.ensures _ _ c.write_equations-b.ensures
 
 pub write_sizes-requires : goal.write_sizes-requires
 unfolding widths
@@ -83,8 +82,7 @@ pub write_equations-b-requires : goal.write_equations-b-requires
 unfolding widths
 write_equations-b-requires c =
     let a = c.args in
-    let fits = writing-fits (after-labels a.session a.labels.now a.equations.now a.moves.now a.out.now c.requires.has_room _ (c.write_sizes.ensures, refl) _ _ c.put_live-start.ensures _ _ c.write_labels-a.ensures) (equation_bytes (signed a.session.sizes) 0 (map unword a.equations.now) 0) (move_bytes a.moves.now 0) refl in
-    (subst (λ (b : Bool). HasRoom c.write_labels-a.new.out c.write_labels-a.result (equation_bytes b 0 (map unword a.equations.now) 0)) (sym c.signed.ensures) fits, c.requires.labels_len_bound.1)
+    (writing-fits (after-labels a.session a.labels.now a.equations.now a.moves.now a.out.now c.requires.has_room _ (c.write_sizes.ensures, refl) _ _ c.put_live-start.ensures _ _ c.write_labels-a.ensures) (equation_bytes (signed a.session.sizes) 0 (map unword a.equations.now) 0) (move_bytes a.moves.now 0) refl, c.requires.labels_len_bound.1)
 
 pub write_moves-requires : goal.write_moves-requires
 write_moves-requires c = (before-moves (goal.at.write_moves-requires c).After-write_equations-b).room

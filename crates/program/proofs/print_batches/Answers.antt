@@ -1,44 +1,33 @@
--- The loop over the batches: what each turn asks and keeps. Assumes nothing.
-use mathlib.Core.Path.{refl}
-use Prim.Native.Nat.{◌+◌, ◌≤◌, ◌<◌}
-use native.Mathlib.Omega.{arith}
-use lib.ListN.{length}
-use Rattle.std.proofs.Common.{rules}
-use Rattle.program.specs.Running.{tail-part, begins, takes, goes_on_lem, all-printed}
-use Rattle.program.proofs.print_batches.Goals.{After-step-went}
+-- The loop over the batches: what each turn takes and keeps. Assumes nothing.
+use Rattle.std.proofs.Common.{sym, arith, ◌<◌, length}
+use Rattle.lists.specs.Tests.{eqb_is, eqb_no}
+use Rattle.program_cut.specs.CutLaws.{cut_most}
+use Rattle.program.specs.Running.{Running, begins, goes_on_lem, all-printed}
+use Rattle.program.specs.Steps.{rooms_in}
+use Rattle.program.proofs.print_batches.Goals.{After-step-session}
 use Rattle.program.proofs.print_batches.Goals as goal
 
--- The part that a turn takes has a byte, and it is within the input.
-turn-takes : (c : After-step-went) → (0 < c.step-went.result.taken) × (c.loop-from.from + c.step-went.result.taken ≤ length c.args.input.now)
-turn-takes c =
-    takes _ _ _ _ _ _ _ _ _ _ _ c.loop-from.invariant.6 c.loop-from-test.true c.step-went.result _ _ (rw (tail-part c.loop-from.from c.args.input.now) at c.step-went.ensures)
+-- A turn leaves fewer bytes, and what the loop keeps holds after it.
+turn : (c : After-step-session) → (length c.split_at.result.1.now < length c.loop-rest.rest.now)
+    × Running c.args.bytes.now c.args.first (rooms_in c.args.rooms.now) c.args.pen.now c.step-session.result (rooms_in c.step-session.new.rooms) c.split_at.result.1.now c.step-session.new.pen
+turn c = let more = (eqb_no (length c.loop-rest.rest.now) 0).0 (sym c.loop-rest-test.ensures) in
+    goes_on_lem _ _ _ _ _ _ c.loop-rest.rest.now _ c.loop-rest.invariant c.first_part.result c.split_at.result.0.now _ _ _ _ (omega arith) c.first_part.ensures c.split_at.ensures.front c.split_at.ensures.back c.step-session.ensures
 
-pub loop-from-init : goal.loop-from-init
-loop-from-init c = (refl, refl, refl, refl, refl, refl, begins _ _ _ _ _ _ c.requires.1 c.requires.2)
+pub loop-rest-init : goal.loop-rest-init
+loop-rest-init c = begins _ _ _ _
 
-pub slice_bounds-step-count : goal.slice_bounds-step-count
-slice_bounds-step-count c = omega arith
+pub split_at-requires : goal.split_at-requires
+split_at-requires c = rw c.first_part.ensures (cut_most c.loop-rest.rest.now)
 
-pub step-went-requires : goal.step-went-requires
-step-went-requires c = let b = c.loop-from.invariant.6.bound in
-    omega arith
+pub step-session-requires : goal.step-session-requires
+step-session-requires c = omega (arith, c.loop-rest.invariant.bound, c.requires)
 
-pub overflow_add-from : goal.overflow_add-from
-overflow_add-from c = record { fits = omega (arith, (turn-takes (goal.at.overflow_add-from c).After-step-went).1, c.requires.0) }
+pub loop-rest-smaller : goal.loop-rest-smaller
+loop-rest-smaller c = (turn (goal.at.loop-rest-smaller c).After-step-session).0
 
-pub loop-from-smaller : goal.loop-from-smaller
-loop-from-smaller c = omega (arith, turn-takes (goal.at.loop-from-smaller c).After-step-went, c.loop-from-test.true)
-
-pub loop-from-preserved : goal.loop-from-preserved
-loop-from-preserved c = let inv = c.loop-from.invariant in (
-  search rules,
-  search rules,
-  search rules,
-  search rules,
-  search rules,
-  search rules,
-  goes_on_lem _ _ _ _ _ _ _ _ _ _ _ inv.6 c.loop-from-test.true c.step-went.result _ _ (rw (tail-part c.loop-from.from c.args.input.now) at c.step-went.ensures),
-)
+pub loop-rest-preserved : goal.loop-rest-preserved
+loop-rest-preserved c = (turn (goal.at.loop-rest-preserved c).After-step-session).1
 
 pub returns : goal.returns
-returns c = all-printed _ _ _ _ _ _ _ _ _ _ _ c.loop-from.invariant.6 (omega arith)
+returns c = let none = (eqb_is (length c.loop-rest.rest.now) 0).0 (sym c.loop-rest-test.ensures) in
+    all-printed _ _ _ _ _ _ c.loop-rest.rest.now _ c.loop-rest.invariant (omega arith)

@@ -4,8 +4,11 @@ use Rattle.std.proofs.Common.{◌≡◌, ◌-◌, length}
 use Rattle.program_cut.specs.CutLaws.{Along}
 use Rattle.program_cut.proofs.first_part.Given as goal
 
-abbrev pub invariant-loop-at : goal.invariant-loop-at
-invariant-loop-at l = (l.r.bytes.now ≡ l.bytes) × Along l.bytes l.r.at
+abbrev pub invariant-loop-rec : goal.invariant-loop-rec
+invariant-loop-rec l = record {
+  same : l.r.bytes.now ≡ l.bytes;
+  along : Along l.bytes l.r.at;
+}
 
-abbrev pub decreases-loop-at : goal.decreases-loop-at
-decreases-loop-at l = length l.bytes - l.r.at
+abbrev pub decreases-loop-rec : goal.decreases-loop-rec
+decreases-loop-rec l = length l.bytes - l.r.at

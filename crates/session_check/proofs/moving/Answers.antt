@@ -1,19 +1,14 @@
-use mathlib.Core.Path.{refl, sym, ap, ◌∙◌}
-use Prim.Native.Nat.{ℕ, ◌+◌}
-use native.Mathlib.Omega.{arith}
-use lib.ListN.{drop}
-use Rattle.laws.specs.moves.Hanging.{moving_over}
-use Rattle.session_check.specs.LiveWalk.{moving-turn, moving-end}
+-- The states are counted over the moves in turn. Assumes nothing.
+use Rattle.std.proofs.Common.{rules, ℕ, ◌∙◌}
+use borrow.Author.Tests.{tests}
+use Rattle.std.proofs.lemmas.Iterator.{YieldsList-from_slice}
+use Rattle.std.proofs.lemmas.Iterator.Consumers.{fold_from_yields_List}
+use Rattle.rules.specs.Load.{moving_with}
+use Rattle.rules.specs.Moves.{source}
+use Rattle.session_check.specs.LiveWalk.{moving_fold}
 use Rattle.session_check.proofs.moving.Goals as goal
 
-pub loop-i-init : goal.loop-i-init
-loop-i-init c = refl
-
-pub loop-i-preserved : goal.loop-i-preserved
-loop-i-preserved c = let l = c.args.moves.now in
-    let s = c.loop-i in
-    ap (λ (k : ℕ). moving_over k (drop (s.i + 1) l)) c.moving_with-r.ensures
-    ∙ moving-turn l s.i s.r _ _ (omega arith) c.unpacked-m.ensures.0 s.invariant
-
 pub returns : goal.returns
-returns c = sym (moving-end c.args.moves.now c.loop-i.i c.loop-i.r (omega arith)) ∙ c.loop-i.invariant
+returns c = let l = c.args.moves.now in
+    let h : ℕ → ℕ → ℕ = λ r q. moving_with r (source q) in
+    fold_from_yields_List _ h 0 c.fold.result c.fold.ensures.ran (YieldsList-from_slice l cc) (λ a x b q k. search (rules, tests)) ∙ moving_fold 0 l

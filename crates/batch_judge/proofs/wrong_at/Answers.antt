@@ -1,9 +1,0 @@
--- By whether the change is an insert. Assumes nothing.
-
-use Rattle.batch_judge.proofs.wrong_at.Goals as goal
-
-pub returns-then-inserts : goal.returns-then-inserts
-returns-then-inserts c = rw (← c.inserts.ensures, c.if-inserts.true)
-
-pub returns : goal.returns
-returns c = rw (← c.inserts.ensures, c.if-inserts.false)

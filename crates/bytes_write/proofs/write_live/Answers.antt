@@ -1,7 +1,0 @@
--- `bytes_write::write_live` meets its contract. Assumes nothing.
-use Rattle.rules.specs.Records.{widths}
-use Rattle.bytes_write.proofs.write_live.Goals as goal
-
-pub returns : goal.returns
-unfolding widths
-returns c = cc
