@@ -1,6 +1,6 @@
 -- Components, their numbers and guilty equations, read from sets of bits. Where these are what each variable leads to, it is
 -- what the rules say. Assumes nothing.
-use Rattle.std.specs.Prelude.{◌≡◌, Bool, cond, ◌&&◌, List, ℕ, ◌+◌, ◌/◌, ◌%◌, ◌^◌, ◌<◌, length, get_or}
+use Rattle.std.specs.Prelude.{◌≡◌, Bool, cond, ◌&&◌, ◌||◌, List, ℕ, ◌+◌, ◌/◌, ◌%◌, ◌^◌, ◌<◌, length, get_or}
 use Rattle.std.proofs.Common.{sym, ◌∙◌, add-one, arith}
 use Rattle.std.proofs.Math.Path.{ap, ap₂}
 use Rattle.std.proofs.Math.Bool.{not}
@@ -62,6 +62,21 @@ pub before_is : (l : List ℕ) (x y own set : ℕ) → y < length l → set ≡ 
 before_is l x y own set h e f =
     let a : eqb (set / 2 ^ y % 2) 1 ≡ stands_by l y = ap (λ (m : ℕ). eqb (m / 2 ^ y % 2) 1) e ∙ mask-bit (length l) (stands_by l) y h in
     ap₂ (λ (p : Bool) (j : ℕ). p && ltb (get_or l y 0) j) a f
+
+-- One more of those before x counted, and one more looked at for the other sign.
+pub before_more : (l : List ℕ) (x y count own set : ℕ) → y < length l → set ≡ mask (length l) (stands_by l) → own ≡ get_or l x 0 → count ≡ sum y (before_by l x)
+    → (k : ℕ) → k ≡ bit (eqb (set / 2 ^ y % 2) 1 && ltb (get_or l y 0) own) → count + k ≡ sum (y + 1) (before_by l x)
+unfolding before_by
+before_more l x y count own set h e f g k q =
+    let b : k ≡ before_by l x y = q ∙ ap bit (before_is l x y own set h e f) in
+    ap₂ (λ (i j : ℕ). i + j) g b ∙ ap (λ (j : ℕ). sum j (before_by l x)) (sym (add-one y))
+
+pub against-more : (es : List Equation) (l : List ℕ) (x y : ℕ) (d e : Equation) (found : Bool) → d ≡ equation_in es x → e ≡ equation_in es y → found ≡ some_below y (against_by es l x)
+    → (found || (tied_by l x y && not (eqb d.kind e.kind))) ≡ some_below (y + 1) (against_by es l x)
+unfolding against_by
+against-more es l x y d e found p q h =
+    ap₂ (λ (i j : Bool). i || j) h (ap₂ (λ (a b : Equation). tied_by l x y && not (eqb a.kind b.kind)) p q)
+    ∙ ap (λ (k : ℕ). some_below k (against_by es l x)) (sym (add-one y))
 
 -- Where the sets are what each variable leads to, one for each equation, all this is what the rules say: variables with the same set
 -- lead to one another, since each leads to itself.

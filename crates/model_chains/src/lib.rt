@@ -129,12 +129,15 @@ fn component_of(reach: &[u32], set: u32, x: usize) -> u8
     ensures { (result ≡ component_by reach.now x) × (result ≤ most_variables) }
 {
     let own = rooms::at_or(reach, x, 0);
-    (0..reach.len())
-        .filter(|y| before(reach, set, own, *y))
-        .count() as u8
+    let mut count: u8 = 0;
+    for y in 0..reach.len() {
+        count += before(reach, set, own, y) as u8;
+    }
+    count
 }
 
-// Whether x is on a closed chain that holds both signs.
+// Whether x is on a closed chain that holds both signs. All variables are looked at, without a branch, here and above: a chain of iterators
+// took a writing of the largest model with signs past its bar.
 fn is_guilty(chains: &Reached, x: usize) -> bool
     requires { x < length chains.now.equations.now }
     ensures { result ≡ guilty_by (map unword chains.now.equations.now) chains.now.reach.now x }
@@ -143,7 +146,12 @@ fn is_guilty(chains: &Reached, x: usize) -> bool
     let reach = chains.reach;
     let kind = equation_at(equations, x).kind;
     let own = reach[x];
-    (0..reach.len()).any(|y| (own == reach[y]) & (kind != equation_at(equations, y).kind))
+    let mut found = false;
+    for y in 0..reach.len() {
+        let other = equation_at(equations, y).kind;
+        found |= (own == reach[y]) & (kind != other);
+    }
+    found
 }
 
 // The lowest equation on a closed chain that holds both signs; one past the last where there is none.
