@@ -145,6 +145,9 @@ fn close_up(moves: &mut [u32], n: usize) -> usize
 
 // All deletes in one pass: the places of their moves are noted while the table is whole, these moves are struck, the others
 // close up, and the places that are free then become 0.
+//
+// It stays a function of its own in what is built, so that its places lie on the stack while it runs and no longer.
+#[inline(never)]
 fn delete_at_once(changes: &[u32], moves: &mut [u32], n: usize) -> usize
     requires { Ready (changes_of changes.now) (kept moves.old n) }
     ensures { kept moves.new result ≡ changed_all false (changes_of changes.now) (kept moves.old n) }

@@ -188,6 +188,9 @@ fn begin(bytes: &[u8], z: Sizes, changes: &mut [u32], read: Option<(Record, usiz
 
 // The whole batch, read through one reader: the stamp and the good changes after it, put down in order, then what follows them
 // from record to record.
+//
+// It stays a function of its own in what is built, so that what it holds lies on the stack while it reads and no longer.
+#[inline(never)]
 pub fn read_batch(bytes: &[u8], z: Sizes, changes: &mut [u32]) -> Result<Summary, Refused>
     ensures { ReadInto z bytes.now changes.old result changes.new }
 {

@@ -3,7 +3,7 @@
 // their number at the doors, so that their length tells it.
 #![tactic(auto)]
 
-ghost use Rattle.std.specs.Prelude.{◌≡◌, ◌&&◌, map, ◌+◌, ◌/◌, ◌%◌, ◌^◌, ◌≤◌, ◌<◌, eqb, ltb, get_or, length};
+ghost use Rattle.std.specs.Prelude.{◌≡◌, ◌&&◌, map, replicate, ◌+◌, ◌/◌, ◌%◌, ◌^◌, ◌≤◌, ◌<◌, eqb, ltb, get_or, length};
 ghost use Rattle.lists.specs.Lists.{fill, mask, lowest};
 ghost use Rattle.rules.specs.Limits.{most_variables};
 ghost use Rattle.rules.specs.Model.{equation_in, run_of, guilty, placed};
@@ -76,21 +76,20 @@ fn round(equations: &[u32], old: &[u32], new: &mut [u32])
     }
 }
 
-// What each variable leads to: one round more than there are variables suffices, and the first that changes nothing is the last.
-fn reaches(equations: &[u32]) -> [u32; 32]
-    requires { length equations.now ≤ most_variables }
-    ensures { Reaches (map unword equations.now) result }
+// What each variable leads to, put into a room of empty sets: one round more than there are variables suffices, and the first that
+// changes nothing is the last. The room is the caller's: sets handed over by value would lie twice on the stack of a call.
+fn reaches(equations: &[u32], reach: &mut [u32; 32])
+    requires { (length equations.now ≤ most_variables) × (reach.old ≡ replicate 32 0) }
+    ensures { Reaches (map unword equations.now) reach.new }
 {
-    let mut old = [0u32; 32];
     for _k in 0..equations.len() + 1 {
         let mut new = [0u32; 32];
-        round(equations, &old, &mut new);
-        if new == old {
-            return old;
+        round(equations, &*reach, &mut new);
+        if new == *reach {
+            return;
         }
-        old = new;
+        *reach = new;
     }
-    old
 }
 
 // Whether x stands for its component: no variable before x has the same reach.
@@ -168,7 +167,8 @@ fn guilty_of(equations: &[u32]) -> usize
     ensures { result ≡ lowest (length equations.now) (guilty (map unword equations.now)) }
 {
     let n = equations.len();
-    let reach = reaches(equations);
+    let mut reach = [0u32; 32];
+    reaches(equations, &mut reach);
     lowest_guilty(&Reached {
         equations,
         reach: &reach[..n],
@@ -192,7 +192,12 @@ fn numbers_ok(chains: &Reached) -> bool
     let equations = chains.equations;
     let reach = chains.reach;
     let set = standing(reach);
-    (0..reach.len()).all(|x| equation_at(equations, x).block == component_of(reach, set, x))
+    let mut ok = true;
+    for x in 0..reach.len() {
+        let e = equation_at(equations, x);
+        ok &= e.block == component_of(reach, set, x);
+    }
+    ok
 }
 
 // What the session check asks of equations with signs, besides their numbers in range: no closed chain holds both signs,
@@ -202,7 +207,8 @@ pub fn chains_ok(equations: &[u32]) -> bool
     ensures { result ≡ chains_ok (map unword equations.now) }
 {
     let n = equations.len();
-    let reach = reaches(equations);
+    let mut reach = [0u32; 32];
+    reaches(equations, &mut reach);
     let chains = Reached {
         equations,
         reach: &reach[..n],
@@ -225,7 +231,8 @@ fn number_each(equations: &mut [u32])
     ensures { equations.new ≡ map word (placed (map unword equations.old)) }
 {
     let n = equations.len();
-    let reach = reaches(equations);
+    let mut reach = [0u32; 32];
+    reaches(equations, &mut reach);
     let set = standing(&reach[..n]);
     for x in 0..n {
         let c = component_of(&reach[..n], set, x);

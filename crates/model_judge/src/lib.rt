@@ -21,7 +21,8 @@ mod progress;
 
 use bytes_read::{Reader, refused};
 use limits::Lent;
-use model_runs::{EquationRun, LabelRun, MoveRun, MovesRead};
+pub use model_runs::MovesRead;
+use model_runs::{EquationRun, LabelRun, MoveRun};
 pub use progress::{BlocksRead, Progress};
 use rules::{Equation, Move, Record, Refusal, Refused, Sizes, State};
 use std::ops::ControlFlow;

@@ -180,6 +180,9 @@ fn one_by_one(bytes: &[u8], z: Sizes, room: usize, x: MoveRun) -> MoveRun
 
 // Past good moves that stand next and have room, not always all of them: at once where all that stand there are good, one
 // after another where one of them is not.
+//
+// It stays a function of its own in what is built, so that who calls it is small and hands no model half read from place to place.
+#[inline(never)]
 pub fn moves_run(bytes: &[u8], z: Sizes, room: usize, x: MoveRun) -> MoveRun
     requires { (x.at ≤ length bytes.now) × (room ≤ most_moves) }
     ensures { Moved bytes.now z room x result }

@@ -1,21 +1,19 @@
 -- Writing place by place writes the spelling. Assumes nothing.
-use Rattle.std.specs.Prelude.{◌≡◌, refl, Bool, true, false, not, List, [], ◌∷◌, ◌++◌, map, ℕ, zero, suc, ◌+◌, ◌≤◌, ◌<◌, eqb, get_or, drop}
+use Rattle.std.specs.Prelude.{◌≡◌, refl, Bool, true, false, List, [], ◌∷◌, ◌++◌, map, ℕ, zero, suc, ◌+◌, ◌≤◌, ◌<◌, eqb, get_or, drop}
 use Rattle.std.proofs.Common.{sym, ◌∙◌, inl, inr, append_assoc, append-nil, add-zero, zero-add, add-one, arith, drop_of_length-le, length-append, drop-cons}
 use Rattle.std.proofs.Math.Path.{ap}
 use Rattle.std.proofs.Math.ListN.{length, length-map, get_or-map}
 use Rattle.std.proofs.lemmas.List.{drop-map}
-use Rattle.std.specs.List.{filter}
 use Rattle.std.proofs.lemmas.List.Edits.{sets-eq}
 use Rattle.std.proofs.Math.Seq.{length-sets}
 use Rattle.lists.specs.Lists.{fill}
-use Rattle.lists.specs.Tests.{tell, eqb_is, eqb_no}
+use Rattle.lists.specs.Tests.{tell, eqb_is}
 use Rattle.rules.specs.Model.{nothing, equation_in, run_of, signed}
 use Rattle.rules.specs.declared.Equation.{Equation}
 use Rattle.rules.specs.Records.{Rec, bytes, bytes_of, widths}
 use Rattle.rules.specs.Session.{unword}
 use Rattle.rules.specs.Spelling.{live_recs, label_recs, block_rec, equation_rec, equation_recs, signed_rec, style_recs, move_rec, move_recs, end_rec, sizes_rec, records, encode}
 use Rattle.rules.specs.declared.Session.{Session}
-use Rattle.laws.specs.bytes.SpellingLength.{labelled}
 use Rattle.bytes_write.specs.Written.{label_rec, sets-append}
 use Rattle.model_write.specs.Spelled.{HasRoom, Wrote, Writing, live_bytes, one_label, label_bytes, in_block, equation_bytes, move_bytes, held_in}
 
@@ -140,15 +138,6 @@ move-end l i h = rw (drop_of_length-le l h) refl
 pub end-length : (l : List ℕ) (i : ℕ) → length l ≤ i → length (move_bytes l i) ≡ 1
 unfolding widths
 end-length l i h = ap length (move-end l i h)
-
--- The states with a label are those whose set is not empty.
-pub labelled_by : (l : List ℕ) → length (filter (λ v. not (eqb v 0)) l) ≡ labelled l
-labelled_by [] = refl
-labelled_by (zero ∷ l) = labelled_by l
-labelled_by (suc v ∷ l) =
-    let e : not (eqb (suc v) 0) ≡ true = rw ((eqb_no (suc v) 0).1 (λ h. omega arith)) refl in
-    let k = labelled_by l in
-    rw e (omega arith)
 
 -- The spelling is the sizes, whether the model is live, the labels, the equations, and the moves with the end.
 pub spelled : (s : Session) (labels equations moves : List ℕ)

@@ -119,11 +119,16 @@ fn write_moves(out: &mut [u8], start: usize, moves: &[u32]) -> usize
     at + 1
 }
 
-// How many states have a label.
-fn count_labels(labels: &[u32]) -> usize
+// How many states have a label. There may be 256, so they are counted without a branch, in numbers as long as the labels.
+fn count_labels(labels: &[u32]) -> u32
+    requires { length labels.now ≤ most_states }
     ensures { (result ≡ labelled labels.now) × (result ≤ length labels.now) }
 {
-    labels.iter().filter(|v| **v != 0).count()
+    let mut k: u32 = 0;
+    for v in labels {
+        k += u32::from(*v != 0);
+    }
+    k
 }
 
 // The length of all equations: one with a sign of its own takes a byte more.
@@ -140,7 +145,7 @@ pub fn spelled_length(session: Session, labels: &[u32]) -> usize
     ensures { result ≡ length_by session labels.now }
 {
     let z = session.sizes;
-    let k = count_labels(labels);
+    let k = count_labels(labels) as usize;
     let blocks = usize::from(z.blocks);
     let live = usize::from(session.live);
     8 + live + 7 * k + 3 * blocks + equations_length(z) + 6 * (session.moves as usize)

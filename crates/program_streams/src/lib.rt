@@ -9,7 +9,7 @@ ghost use Rattle.program_streams.specs.Streams.{answer_of, reading_of, Within, T
 
 use std::error::Error;
 use std::fmt;
-use std::io::{Read, Stderr, Stdin, Stdout, Write};
+use std::io::{Cursor, Read, Stderr, Stdin, Stdout, Write};
 
 // Standard input could not be read.
 #[derive(Clone, Copy, Debug, PartialEq, Eq)]
@@ -139,17 +139,21 @@ fn answer(
     say(stdout, &input[..n], out)
 }
 
-// What went wrong, told on standard error in a line.
+// What went wrong, told on standard error in a line. The line is made first and written at one go, so that what others write there
+// cannot stand within it.
 fn complain(stderr: &mut Stderr, why: Unfinished) {
-    let _ = writeln!(stderr, "huepaxochi: {why}");
+    let mut line = Cursor::new([0u8; 64]);
+    let _ = writeln!(line, "huepaxochi: {why}");
+    let n = line.position().min(64) as usize;
+    let _ = stderr.write_all(&line.get_ref()[..n]);
 }
 
 // Reads the first 65,536 bytes of standard input, writes what they print to standard output, and tells on standard error where
 // either fails.
 pub fn check_input(rt: &HostRuntime) {
     let mut input = io::large_buffer();
-    let got = read_input(&mut rt.stdin(), &mut input);
     let mut out = output();
+    let got = read_input(&mut rt.stdin(), &mut input);
     if let Err(why) = answer(&mut rt.stdout(), got, &input, &mut out) {
         complain(&mut rt.stderr(), why);
     }

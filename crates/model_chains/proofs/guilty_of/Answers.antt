@@ -11,7 +11,7 @@ use Rattle.model_chains.proofs.guilty_of.Goals as goal
 
 pub returns : goal.returns
 returns c = let ws = c.args.equations.now in
-    let l = c.reaches-reach.result in
+    let l = c.reaches.new.reach in
     let cut = length-take-le (length ws) l (omega arith) in
     let named = sym (length-map ws unword) in
-    lowest_by_lem (map unword ws) _ (length ws) _ (reaches-cut (map unword ws) (length ws) l named (omega arith) c.reaches-reach.ensures) (cut ∙ named) named c.lowest_guilty.ensures
+    lowest_by_lem (map unword ws) _ (length ws) _ (reaches-cut (map unword ws) (length ws) l named (omega arith) c.reaches.ensures) (cut ∙ named) named c.lowest_guilty.ensures

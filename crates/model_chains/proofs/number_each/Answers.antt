@@ -12,7 +12,7 @@ use Rattle.model_chains.proofs.number_each.Goals as goal
 pub loop-x-preserved : goal.loop-x-preserved
 loop-x-preserved c = let i = c.loop-x.invariant in
     let ws = c.args.equations.now in
-    let l = c.reaches-reach.result in
+    let l = c.reaches.new.reach in
     let cut = length-take-le (length ws) l (omega arith) in
     let reach = reaches-cut (map unword ws) (length ws) l (sym (length-map ws unword)) (omega arith) i.0 in
     (i.0, i.1, numbered_next ws (take (length ws) l) _ _ _ _ _ reach cut i.2 (omega arith) c.component_of-c.ensures.0 c.with_number.ensures refl)

@@ -7,7 +7,7 @@ use Rattle.model_chains.specs.Reaching.{rounded-none, rounded-more, rounded-reac
 use Rattle.model_chains.proofs.reaches.Goals as goal
 
 pub loop-k-init : goal.loop-k-init
-loop-k-init c = rounded-none _
+loop-k-init c = rw c.requires.1 (rounded-none _)
 
 pub returns-then-eq : goal.returns-then-eq
 returns-then-eq c = rounded-same _ _ _ _ _ (sym (length-map c.args.equations.now unword)) (omega arith) c.loop-k.invariant c.round.ensures (same_text _ _ (sym c.if-eq.true ∙ c.eq.ensures))

@@ -5,4 +5,4 @@ use Rattle.model_chains.specs.Reaching.{Rounded}
 use Rattle.model_chains.proofs.reaches.Given as goal
 
 abbrev pub invariant-loop-k : goal.invariant-loop-k
-invariant-loop-k l = Rounded (map unword l.equations) l._k l.old
+invariant-loop-k l = Rounded (map unword l.equations) l._k l.reach
