@@ -78,13 +78,6 @@ against-more es l x y d e found p q h =
     ap₂ (λ (i j : Bool). i || j) h (ap₂ (λ (a b : Equation). tied_by l x y && not (eqb a.kind b.kind)) p q)
     ∙ ap (λ (k : ℕ). some_below k (against_by es l x)) (sym (add-one y))
 
--- One equation more that is asked for its number.
-pub numbers-next : (es : List Equation) (l : List ℕ) (k : ℕ) (ok : Bool) (e : Equation) (c : ℕ) → ok ≡ numbers_by es l k → e ≡ equation_in es k → c ≡ component_by l k
-    → (ok && eqb e.block c) ≡ numbers_by es l (k + 1)
-unfolding numbers_by number_by
-numbers-next es l k ok e c h f g =
-    ap₂ (λ (x y : Bool). x && y) h (ap₂ (λ (d : Equation) (n : ℕ). eqb d.block n) f g) ∙ ap (λ (j : ℕ). each_below j (number_by es l)) (sym (add-one k))
-
 -- Where the sets are what each variable leads to, one for each equation, all this is what the rules say: variables with the same set
 -- lead to one another, since each leads to itself.
 module _ (es : List Equation) (l : List ℕ) (r : Reaches es l) (long : length l ≡ length es) where

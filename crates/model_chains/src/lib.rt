@@ -192,12 +192,7 @@ fn numbers_ok(chains: &Reached) -> bool
     let equations = chains.equations;
     let reach = chains.reach;
     let set = standing(reach);
-    let mut ok = true;
-    for x in 0..reach.len() {
-        let e = equation_at(equations, x);
-        ok &= e.block == component_of(reach, set, x);
-    }
-    ok
+    (0..reach.len()).all(|x| equation_at(equations, x).block == component_of(reach, set, x))
 }
 
 // What the session check asks of equations with signs, besides their numbers in range: no closed chain holds both signs,
